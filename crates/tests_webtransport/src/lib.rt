@@ -6,3 +6,5 @@
 mod messages;
 #[cfg(test)]
 mod playing;
+#[cfg(test)]
+mod sessions;

@@ -6,10 +6,10 @@ use std::process::Abort;
 use wtp_messages::response::Asked;
 
 /// A stream, and the text of its events.
-struct Row {
-    case: Case,
-    bytes: &'static [u8],
-    events: &'static str,
+pub(crate) struct Row {
+    pub(crate) case: Case,
+    pub(crate) bytes: &'static [u8],
+    pub(crate) events: &'static str,
 }
 
 /// Requests.
@@ -204,7 +204,7 @@ static RESPONSES: [Row; 8] = [
 ];
 
 /// Compares the events of a row with those wanted, however its bytes are cut.
-fn check<R: Abort>(rt: &R, alloc: Global, row: &Row) {
+pub(crate) fn check<R: Abort>(rt: &R, alloc: Global, row: &Row) {
     for size in 1..row.bytes.len().saturating_add(2) {
         let Ok(events) = play(alloc, row.case, row.bytes, size) else {
             continue;

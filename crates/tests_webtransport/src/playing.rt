@@ -8,9 +8,6 @@ use wtp_webtransport::event::{Event, HeadersKind, Received, Waits};
 use wtp_webtransport::fields::Fields;
 use wtp_webtransport::stream::Stream;
 
-/// The largest decoded field section.
-const LIMIT: u64 = 300;
-
 /// What comes on a stream.
 #[derive(Clone, Copy)]
 pub(crate) enum Case {
@@ -20,6 +17,36 @@ pub(crate) enum Case {
     Response(Asked),
     /// A request, at a server that answers it with this status.
     Answered(u32),
+    /// The same with WebTransport, after SETTINGS of the client.
+    Session(u32),
+    /// The same before its SETTINGS.
+    Early(u32),
+}
+
+/// The control stream of a client with WebTransport, as Chromium 156 sent it.
+pub(crate) const CONTROL: [u8; 63] = [
+    0x00, 0x04, 0x32, 0x01, 0x80, 0x01, 0x00, 0x00, 0x06, 0x80, 0x00, 0x40, 0x00, 0x07, 0x40, 0x64,
+    0x33, 0x01, 0x80, 0xff, 0xd2, 0x77, 0x01, 0xab, 0x60, 0x37, 0x42, 0x01, 0xc0, 0x00, 0x00, 0x00,
+    0xc6, 0x71, 0x70, 0x6a, 0x10, 0xc0, 0x00, 0x00, 0x18, 0x89, 0xc2, 0x49, 0xb7, 0xc0, 0x00, 0x00,
+    0x00, 0xb6, 0x10, 0xa4, 0xb3, 0xc0, 0x00, 0x00, 0x14, 0x8d, 0x8f, 0xcb, 0xdc, 0x01, 0xcd,
+];
+
+/// Reads the control stream of a client.
+pub(crate) fn configure(connection: &mut Connection, fields: &mut Fields) {
+    let mut control = connection.accept(2);
+    let mut start: usize = 0;
+    for _turn in 0..9u32 {
+        let rest = CONTROL.get(start..).unwrap_or(&[]);
+        let received = connection.receive(&mut control, rest, false, fields);
+        start = start.saturating_add(received.consumed);
+    }
+}
+
+/// Returns a connection of a server, with WebTransport or without.
+pub(crate) fn server(webtransport: bool) -> Connection {
+    let mut endpoint = Endpoint::new(Side::Server);
+    endpoint.webtransport = webtransport;
+    Connection::new(endpoint, true)
 }
 
 /// A stream that is read, and the text of its events.
@@ -40,8 +67,8 @@ impl Player {
             self.data = self.data.saturating_add(piece.len());
             return Ok(false);
         }
-        if let Event::More = &received.event {
-            return Ok(true);
+        if matches!(received.event, Event::More | Event::Skipped) {
+            return Ok(matches!(received.event, Event::More));
         }
         self.flush()?;
         self.add(&received.event)?;
@@ -74,6 +101,19 @@ impl Player {
                 write!(self.text, "response {status}; ")
             }
             Event::Headers(HeadersKind::Trailers, _) => write!(self.text, "trailers; "),
+            Event::SessionRequested(fields) => {
+                let len = fields.len();
+                write!(self.text, "session requested {len}; ")
+            }
+            Event::SessionReady(status, _) => write!(self.text, "session ready {status}; "),
+            Event::Rejected(status, _) => write!(self.text, "rejected {status}; "),
+            Event::SessionClosed(close) => {
+                let code = close.code();
+                let reason = str::from_utf8(close.reason()).unwrap_or("not UTF-8");
+                write!(self.text, "session closed {code} {reason}; ")
+            }
+            Event::SessionLost => write!(self.text, "session lost; "),
+            Event::Waits(Waits::Settings) => write!(self.text, "waits for settings; "),
             Event::TooLarge(_) => write!(self.text, "too large; "),
             Event::Malformed(rule) => write!(self.text, "malformed: {rule}; "),
             Event::StreamError(fault) => {
@@ -99,15 +139,22 @@ pub(crate) fn play(
     bytes: &[u8],
     size: usize,
 ) -> Result<String, AllocError> {
-    let side = match case {
-        Case::Response(_) => Side::Client,
-        Case::Request | Case::Answered(_) => Side::Server,
+    let limit = match case {
+        Case::Session(_) | Case::Early(_) => 4096,
+        _ => 300,
     };
-    let mut connection = Connection::new(Endpoint::new(side), true);
-    let mut fields = Fields::new(alloc, LIMIT);
+    let mut fields = Fields::new(alloc, limit);
+    let mut connection = match case {
+        Case::Response(_) => Connection::new(Endpoint::new(Side::Client), true),
+        Case::Request | Case::Answered(_) => server(false),
+        Case::Session(_) | Case::Early(_) => server(true),
+    };
+    if let Case::Session(_) = case {
+        configure(&mut connection, &mut fields);
+    }
     let mut stream = match case {
         Case::Response(asked) => connection.open(asked),
-        Case::Request | Case::Answered(_) => connection.accept(0),
+        _ => connection.accept(0),
     };
     let mut player = Player {
         text: String::new(alloc),
@@ -120,14 +167,19 @@ pub(crate) fn play(
         let is_last = end == bytes.len();
         let received = connection.receive(&mut stream, piece, is_last, &mut fields);
         if let Event::Waits(Waits::Answer) = received.event {
-            if let Case::Answered(status) = case {
-                stream.answer(status);
-            } else if is_last {
-                player.take(&received)?;
-                break;
-            } else {
-                end = bytes.len();
+            match case {
+                Case::Answered(status) | Case::Session(status) | Case::Early(status) => {
+                    stream.answer(status);
+                }
+                _ if is_last => {
+                    player.take(&received)?;
+                    break;
+                }
+                _ => end = bytes.len(),
             }
+        } else if let Event::Waits(Waits::Settings) = received.event {
+            player.take(&received)?;
+            configure(&mut connection, &mut fields);
         } else if player.take(&received)? {
             if is_last {
                 break;

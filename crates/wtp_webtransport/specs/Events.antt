@@ -11,7 +11,8 @@ use Rattle.wtp_webtransport.specs.declared.event.Waits.{Waits as Wait}
 use Rattle.wtp_webtransport.specs.declared.event.Event.{Event}
 use Rattle.wtp_webtransport.specs.declared.event.Event.TheVariants as event
 
--- what an event says; bytes are those that it refers to, a field section is its fields
+-- what an event says; bytes are those that it refers to, a field section is its fields, and a close of
+-- a session is its code and its reason
 pub data Told : Type 0 where
   Opened : Purpose → Told
   Joins : ℕ → Told
@@ -19,6 +20,12 @@ pub data Told : Type 0 where
   Settings : PeerSettings → List ℕ → Told
   Frame : FrameType → List ℕ → Told
   Headers : HeadersKind → List Field → Told
+  SessionRequested : List Field → Told
+  SessionReady : ℕ → List Field → Told
+  Rejected : ℕ → List Field → Told
+  SessionClosed : ℕ × List ℕ → Told
+  SessionLost : Told
+  Skipped : Told
   Data : List ℕ → Told
   StreamData : List ℕ → Told
   TooLarge : Option ℕ → Told
@@ -38,6 +45,12 @@ told_of (event.Joined id) = Joined id
 told_of (event.Settings v payload) = Settings v payload.now
 told_of (event.Frame k payload) = Frame k payload.now
 told_of (event.Headers k fields) = Headers k fields
+told_of (event.SessionRequested fields) = SessionRequested fields
+told_of (event.SessionReady status fields) = SessionReady status fields
+told_of (event.Rejected status fields) = Rejected status fields
+told_of (event.SessionClosed close) = SessionClosed close
+told_of event.SessionLost = SessionLost
+told_of event.Skipped = Skipped
 told_of (event.Data piece) = Data piece.now
 told_of (event.StreamData piece) = StreamData piece.now
 told_of (event.TooLarge size) = TooLarge size

@@ -1,7 +1,7 @@
 -- Error codes by number, and what they end (RFC 9114, section 8.1; RFC 9204, section 6).
 use Rattle.std.specs.Prelude.{ℕ}
 use Rattle.wtp_core.specs.declared.error.scope.ErrorScope.{ErrorScope}
-use Rattle.wtp_core.specs.declared.error.scope.ErrorScope.TheVariants.{Connection}
+use Rattle.wtp_core.specs.declared.error.scope.ErrorScope.TheVariants.{Connection, Stream}
 use Rattle.wtp_connection.specs.Fault.{code_of as streams_code, scope_of as streams_scope}
 use Rattle.wtp_webtransport.specs.declared.fault.Fault.{Fault}
 use Rattle.wtp_webtransport.specs.declared.fault.Fault.TheVariants as fault
@@ -10,8 +10,11 @@ abbrev pub code_of : Fault → ℕ
 code_of (fault.Streams f) = streams_code f
 code_of (fault.Section e) = 0x0200
 code_of fault.SectionInTunnel = 0x0105
+code_of fault.Capsule = 0x010e
 
--- a section that cannot be decoded, and a frame that may not come, end the connection
+-- a section that cannot be decoded, and a frame that may not come, end the connection; a capsule that
+-- is invalid makes the message malformed
 abbrev pub scope_of : Fault → ErrorScope
 scope_of (fault.Streams f) = streams_scope f
+scope_of fault.Capsule = Stream
 scope_of other = Connection

@@ -14,9 +14,9 @@ use Rattle.wtp_webtransport.specs.declared.fault.Fault.TheVariants as fault
 use Rattle.wtp_webtransport.specs.declared.event.Waits.TheVariants as wait
 use Rattle.wtp_webtransport.specs.declared.connection.Connection.{Connection}
 use Rattle.wtp_webtransport.specs.declared.stream.Stream.{Stream}
-use Rattle.wtp_webtransport.specs.Events.{Told, Joined, Reset, Waits, More}
+use Rattle.wtp_webtransport.specs.Events.{Told, Joined, Reset, SessionLost, Waits, More}
 use Rattle.wtp_webtransport.specs.Receiving.{closed_by}
-use Rattle.wtp_webtransport.specs.Streams.{with_streams, with_frames, ended}
+use Rattle.wtp_webtransport.specs.Streams.{with_streams, with_frames, ended, is_held}
 
 abbrev pub Outcome : Type 0
 Outcome = Told × Connection × Stream
@@ -57,16 +57,18 @@ abbrev pub reset_in : ErrorScope → Connection → Stream → StreamsFault → 
 reset_in scope.Stream c s f = (Reset (Some (fault.Streams f)), c, s)
 reset_in other c s f = with_error s (closed_by c (fault.Streams f))
 
-abbrev pub reset_by : Connection → Stream → After → Outcome
-reset_by c s (d, t, None) = (Reset None, with_streams c d, with_frames s t)
-reset_by c s (d, t, Some f) =
+-- whether the stream has an open session, which is lost
+abbrev pub reset_by : Bool → Connection → Stream → After → Outcome
+reset_by true c s (d, t, None) = (SessionLost, with_streams c d, with_frames s t)
+reset_by false c s (d, t, None) = (Reset None, with_streams c d, with_frames s t)
+reset_by lost c s (d, t, Some f) =
     reset_in (streams_scope f) (with_streams c d) (with_frames s t) f
 
 abbrev pub resets : Connection → Stream → Outcome
 resets c s =
     if c.over
     then (More, c, s)
-    else reset_by c (ended s) (resets_frames c.streams s.frames)
+    else reset_by (is_held s.part) c (ended s) (resets_frames c.streams s.frames)
 
 abbrev pub abandoned_by : Connection → Stream → Streams × Frames → Connection × Stream
 abandoned_by c s x = (with_streams c x.0, with_frames s x.1)

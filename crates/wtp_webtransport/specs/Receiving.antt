@@ -1,6 +1,6 @@
 -- What one call of a connection gives: how many bytes are consumed, the event, and the connection
 -- and the stream after it (RFC 9114, sections 4.1, 4.1.2, 4.2.2, 4.4 and 8).
-use Rattle.std.specs.Prelude.{◌≡◌, ℕ, ◌+◌, ◌-◌, ◌<◌, ◌==◌, nat_le, nat_lt, if◌then◌else◌, Bool, true, false, List, length, Option, Some, None, Result, Ok, Err}
+use Rattle.std.specs.Prelude.{◌≡◌, ℕ, ◌+◌, ◌-◌, ◌<◌, ◌==◌, nat_lt, if◌then◌else◌, Bool, true, false, List, [], length, take, Option, Some, None, Result, Ok, Err}
 use Rattle.wtp_core.specs.declared.error.scope.ErrorScope.{ErrorScope}
 use Rattle.wtp_core.specs.declared.error.scope.ErrorScope.TheVariants as scope
 use Rattle.wtp_qpack.specs.Field.{Field}
@@ -26,7 +26,11 @@ use Rattle.wtp_messages.specs.declared.message.Section.{Section}
 use Rattle.wtp_messages.specs.declared.message.Section.TheVariants as section
 use Rattle.wtp_messages.specs.Content.{fits, left_after}
 use Rattle.wtp_messages.specs.Message.{SectionComes, end_of}
-use Rattle.wtp_messages.specs.Request.{is_connect}
+use Rattle.wtp_messages.specs.Response.{is_success}
+use Rattle.wtp_messages.specs.declared.response.Asked.{Asked}
+use Rattle.wtp_messages.specs.declared.response.Asked.TheVariants as asked
+use Rattle.wtp_wire.specs.declared.capsule.CapsuleError.TheVariants as capsule_error
+use Rattle.wtp_wire.specs.CloseSession.{close_in}
 use Rattle.wtp_webtransport.specs.declared.fault.Fault.{Fault}
 use Rattle.wtp_webtransport.specs.declared.fault.Fault.TheVariants as fault
 use Rattle.wtp_webtransport.specs.declared.event.HeadersKind.{HeadersKind}
@@ -35,12 +39,20 @@ use Rattle.wtp_webtransport.specs.declared.event.Waits.TheVariants as wait
 use Rattle.wtp_webtransport.specs.declared.connection.Connection.{Connection}
 use Rattle.wtp_webtransport.specs.declared.connection.messages.Taken.{Taken}
 use Rattle.wtp_webtransport.specs.declared.connection.messages.Taken.TheVariants as taken
+use Rattle.wtp_webtransport.specs.declared.connection.messages.Asks.{Asks}
+use Rattle.wtp_webtransport.specs.declared.connection.messages.Asks.TheVariants as asks
+use Rattle.wtp_webtransport.specs.declared.connection.messages.Span.{Span}
 use Rattle.wtp_webtransport.specs.declared.stream.Stream.{Stream}
+use Rattle.wtp_webtransport.specs.declared.stream.Unread.{Unread}
+use Rattle.wtp_webtransport.specs.declared.stream.Unread.TheVariants as unread
+use Rattle.wtp_webtransport.specs.declared.stream.Due.{Due}
+use Rattle.wtp_webtransport.specs.declared.stream.Due.TheVariants as due
 use Rattle.wtp_webtransport.specs.declared.stream.Part.{Part}
 use Rattle.wtp_webtransport.specs.declared.stream.Part.TheVariants as part
 use Rattle.wtp_webtransport.specs.Fault.{scope_of}
-use Rattle.wtp_webtransport.specs.Events.{Told, Opened, Joins, Settings, Frame, Headers, Data, StreamData, TooLarge, Malformed as MalformedBy, StreamError, ConnectionError, End, NoMemory, Waits, More}
-use Rattle.wtp_webtransport.specs.Streams.{with_streams, with_frames, with_part, head_of, after_response, with_message}
+use Rattle.wtp_webtransport.specs.Events.{Told, Opened, Joins, Settings, Frame, Headers, SessionRequested, SessionReady, Rejected, SessionClosed, SessionLost, Skipped, Data, StreamData, TooLarge, Malformed as MalformedBy, StreamError, ConnectionError, End, NoMemory, Waits, More}
+use Rattle.wtp_webtransport.specs.Sessions.{asks_of}
+use Rattle.wtp_webtransport.specs.Streams.{Found as Capsules, with_streams, with_frames, with_part, with_head, with_message, with_session, ended, after_error, due_by, GivesCapsule, EndsBetween}
 
 abbrev pub Outcome : Type 0
 Outcome = ℕ × Told × Connection × Stream
@@ -56,29 +68,37 @@ abbrev pub closed_by : Connection → Fault → Connection × Told
 closed_by c f = closed_in c f (scope_of f)
 
 abbrev pub failed_by : Stream → ℕ → Connection × Told → Outcome
-failed_by s len x = (len, x.1, x.0, with_part s part.NoMessage)
+failed_by s len x = (len, x.1, x.0, with_part s (after_error s.part))
 
 -- an error with all bytes consumed
 abbrev pub fails : Connection → Stream → Fault → ℕ → Outcome
 fails c s f len = failed_by s len (closed_by c f)
 
+-- the last event of a message or of a session
+abbrev pub last_in : Stream → Told → ℕ → ℕ × Told × Stream
+last_in s told len = (len, told, ended s)
+
+abbrev pub last : Connection → Stream → Told → ℕ → Outcome
+last c s told len = (len, told, c, ended s)
+
 -- the stream is read no further
 abbrev pub left_by : Connection → Stream → Streams × Frames → Connection × Stream
-left_by c s x = (with_streams c x.0, with_part (with_frames s x.1) part.NoMessage)
+left_by c s x = (with_streams c x.0, with_frames s x.1)
 
 abbrev pub leaves : Connection → Stream → Connection × Stream
 leaves c s = left_by c s (abandons c.streams s.frames)
 
 -- the message of the stream breaks a rule: its stream is read no further
 abbrev pub malformed : Connection → Stream → Malformed → ℕ → Outcome
-malformed c s rule len = (len, MalformedBy rule, (leaves c s).0, (leaves c s).1)
+malformed c s rule len =
+    (len, MalformedBy rule, (leaves c s).0, with_part (leaves c s).1 part.NoMessage)
 
 -- ---- what a stream is for
 
 abbrev pub found_opened : Connection → Stream → Purpose → ℕ → Outcome
 found_opened c s («for».Session id) n = (n, Joins id, c, s)
 found_opened c s «for».Message n =
-    (n, Opened «for».Message, c, with_part s (head_of (role.Request c.extended)))
+    (n, Opened «for».Message, c, with_head s (role.Request c.extended))
 found_opened c s p n = (n, Opened p, c, s)
 
 -- ---- content
@@ -102,29 +122,82 @@ content_by None c s m start end bytes =
 abbrev pub content_found : Connection → Stream → Message → ℕ → ℕ → List ℕ → Outcome
 content_found c s m start end bytes = content_by m.content.left c s m start end bytes
 
--- a piece of the content of a message, of a tunnel or of a stream of a session
-abbrev pub data_by : Part → Connection → Stream → ℕ → ℕ → List ℕ → Outcome
-data_by (part.Head r m) c s start end bytes = content_found c s m start end bytes
-data_by (part.Body m) c s start end bytes = content_found c s m start end bytes
-data_by part.NoMessage c s start end bytes = (end, StreamData (slice start end bytes), c, s)
-data_by other c s start end bytes = (end, Data (slice start end bytes), c, s)
+-- ---- the content of a session
 
-abbrev pub data_found : Connection → Stream → ℕ → ℕ → List ℕ → Outcome
-data_found c s start end bytes = data_by s.part c s start end bytes
+-- a capsule is invalid, or something follows the one that closes the session
+abbrev pub spoiled : Connection → Stream → ℕ → Outcome
+spoiled c s len = fails (leaves c s).0 (leaves c s).1 fault.Capsule len
+
+abbrev pub closed_if : Option (ℕ × List ℕ) → Connection → Stream → Bool → ℕ → ℕ → Outcome
+closed_if None c s more end len = spoiled c s len
+closed_if (Some close) c s more end len =
+    (end, SessionClosed close, c, with_part s (part.Closed more))
+
+-- a capsule with this value, which closes the session; whether more content follows it
+abbrev pub closes : Connection → Stream → List ℕ → Bool → ℕ → ℕ → Outcome
+closes c s value more end len = closed_if (close_in value) c s more end len
+
+-- a capsule of the session, with the bytes b left of its content
+abbrev pub capsule_found : Capsules → Connection → Stream → List ℕ → ℕ → ℕ → Outcome
+capsule_found (Ok None) c s b end len = (end, Skipped, c, s)
+capsule_found (Ok (Some x)) c s b end len = closes c s x.1 (nat_lt 0 (length b)) end len
+capsule_found (Err capsule_error.TooLong) c s b end len = spoiled c s len
+capsule_found (Err capsule_error.Memory) c s b end len =
+    (end - length b, NoMemory, c, record s { unread = unread.Content (length b) })
+
+abbrev pub CapsulesGive : Connection → Stream → List ℕ → ℕ → ℕ → Outcome → Type 0
+CapsulesGive c s piece end len o =
+    (r : Capsules)
+    × (t : Stream)
+    × (b : List ℕ)
+    × GivesCapsule r s piece t b
+    × (o ≡ capsule_found r c t b end len)
+
+-- content of this size that could not be read before is next
+abbrev pub ContentBy : Bool → Connection → Stream → ℕ → List ℕ → Outcome → Type 0
+ContentBy true c s size bytes o = o ≡ (0, More, c, s)
+ContentBy false c s size bytes o =
+    CapsulesGive c (record s { unread = unread.Nothing }) (take size bytes) size (length bytes) o
+
+abbrev pub ContentGives : Connection → Stream → ℕ → List ℕ → Outcome → Type 0
+ContentGives c s size bytes o = ContentBy (nat_lt (length bytes) size) c s size bytes o
+
+-- ---- a piece of the content of a message, of a session or of a tunnel, or of a stream of a session
+
+abbrev pub DataBy : Part → Connection → Stream → ℕ → ℕ → List ℕ → Outcome → Type 0
+DataBy (part.Head m) c s start end bytes o = o ≡ content_found c s m start end bytes
+DataBy (part.Body m) c s start end bytes o = o ≡ content_found c s m start end bytes
+DataBy part.Session c s start end bytes o =
+    CapsulesGive c s (slice start end bytes) end (length bytes) o
+DataBy part.NoMessage c s start end bytes o =
+    o ≡ (end, StreamData (slice start end bytes), c, s)
+DataBy _ c s start end bytes o = o ≡ (end, Data (slice start end bytes), c, s)
+
+abbrev pub DataGives : Connection → Stream → ℕ → ℕ → List ℕ → Outcome → Type 0
+DataGives c s start end bytes o = DataBy s.part c s start end bytes o
 
 -- ---- the end
 
 abbrev pub ends_by : Connection → Stream → ℕ → Result (Unit {0}) Malformed → Outcome
-ends_by c s len (Ok u) = (len, End, c, with_part s part.NoMessage)
+ends_by c s len (Ok u) = last c s End len
 ends_by c s len (Err rule) = malformed c s rule len
 
-abbrev pub end_by : Part → Connection → Stream → ℕ → Outcome
-end_by (part.Head r m) c s len = ends_by c s len (end_of m.stage m.content.left)
-end_by (part.Body m) c s len = ends_by c s len (end_of m.stage m.content.left)
-end_by other c s len = (len, End, c, with_part s part.NoMessage)
+-- The end of a session's own stream closes the session, with the code 0 and no reason, unless it is
+-- within a capsule.
+pub data SessionEndGives (c : Connection) (s : Stream) (len : ℕ) (o : Outcome) : Type 0 where
+  Between : EndsBetween s.capsules
+      → o ≡ (len, SessionClosed (0, []), c, with_part s part.Ending)
+      → SessionEndGives c s len o
+  Within : (EndsBetween s.capsules → ⊥) → o ≡ spoiled c s len → SessionEndGives c s len o
 
-abbrev pub end_found : Connection → Stream → ℕ → Outcome
-end_found c s len = end_by s.part c s len
+abbrev pub EndBy : Part → Connection → Stream → ℕ → Outcome → Type 0
+EndBy (part.Head m) c s len o = o ≡ ends_by c s len (end_of m.stage m.content.left)
+EndBy (part.Body m) c s len o = o ≡ ends_by c s len (end_of m.stage m.content.left)
+EndBy part.Session c s len o = SessionEndGives c s len o
+EndBy _ c s len o = o ≡ last c s End len
+
+abbrev pub EndGives : Connection → Stream → ℕ → Outcome → Type 0
+EndGives c s len o = EndBy s.part c s len o
 
 -- ---- field sections
 
@@ -132,8 +205,10 @@ end_found c s len = end_by s.part c s len
 -- without its header section nothing more of a message is given.
 abbrev pub too_large_by : Part → Connection → Stream → Option ℕ → ℕ → ℕ → Outcome
 too_large_by part.Tunnel c s size n len = fails c s fault.SectionInTunnel len
+too_large_by part.Session c s size n len = fails c s fault.SectionInTunnel len
 too_large_by (part.Body m) c s size n len = (n, TooLarge size, c, s)
-too_large_by other c s size n len = (n, TooLarge size, (leaves c s).0, (leaves c s).1)
+too_large_by _ c s size n len =
+    (n, TooLarge size, (leaves c s).0, with_part (leaves c s).1 part.NoMessage)
 
 abbrev pub too_large : Connection → Stream → Option ℕ → ℕ → ℕ → Outcome
 too_large c s size n len = too_large_by s.part c s size n len
@@ -151,65 +226,96 @@ headers_given k fields end = (end, Headers k fields)
 
 -- the section of an interim response: the next one is that of another response, unless there were
 -- too many
-abbrev pub interim_by : Connection → Stream → ℕ → List Field → ℕ → ℕ → Joined → Outcome
-interim_by c s status fields end len (d, t, None) =
-    (end, Headers (headers.Interim status) fields, with_streams c d, with_frames s t)
-interim_by c s status fields end len (d, t, Some f) =
-    fails (with_streams c d) (with_frames s t) (fault.Streams f) len
+abbrev pub interim_by : Connection → Stream → ℕ → List Field → Span → Joined → Outcome
+interim_by c s status fields at (d, t, None) =
+    (at.end, Headers (headers.Interim status) fields, with_streams c d, with_frames s t)
+interim_by c s status fields at (d, t, Some f) =
+    fails (with_streams c d) (with_frames s t) (fault.Streams f) at.len
 
-abbrev pub interim_found : Connection → Stream → ℕ → List Field → ℕ → ℕ → Outcome
-interim_found c s status fields end len =
-    interim_by c s status fields end len (tells_interim c.streams s.frames)
+abbrev pub interim_found : Connection → Stream → ℕ → List Field → Span → Outcome
+interim_found c s status fields at =
+    interim_by c s status fields at (tells_interim c.streams s.frames)
 
--- the server reads nothing of a CONNECT until it is answered
-abbrev pub after_request : List Field → Message → Part
-after_request fields m = if is_connect fields then part.Unanswered m else part.Body m
+-- The header section of a request. The server reads nothing of a CONNECT until it is answered, and of
+-- one for a session not even this section before the settings of the peer.
+abbrev pub request_by : Asks → Connection → Stream → Message → List Field → Span → Outcome
+request_by asks.Plain c s m fields at =
+    (at.end, Headers headers.Request fields, c, with_part s (part.Body m))
+request_by asks.Tunnel c s m fields at =
+    (at.end, Headers headers.Request fields, c, with_part s (part.Unanswered false m))
+request_by asks.TooEarly c s m fields at =
+    (at.start, Waits wait.Settings, c, record s { unread = unread.Early (at.end - at.start) })
+request_by asks.Session c s m fields at =
+    (at.end, SessionRequested fields, c, with_session (with_part s (part.Unanswered true m)))
+
+abbrev pub request_found : Connection → Stream → Message → List Field → Span → Outcome
+request_found c s m fields at = request_by (asks_of c fields) c s m fields at
+
+-- the header section of a final response: one of success to a CONNECT opens a session or a tunnel
+abbrev pub response_in : Option Asked → Bool → Stream → Message → ℕ → List Field → Span → ℕ × Told × Stream
+response_in (Some asked.Session) true s m status fields at =
+    (at.end, SessionReady status fields, with_session (with_part s part.Session))
+response_in (Some asked.Session) false s m status fields at =
+    (at.end, Rejected status fields, with_part s (part.Body m))
+response_in (Some asked.Connect) true s m status fields at =
+    (at.end, Headers (headers.Response status) fields, with_part s part.Tunnel)
+response_in _ success s m status fields at =
+    (at.end, Headers (headers.Response status) fields, with_part s (part.Body m))
+
+abbrev pub response_found : Stream → Message → ℕ → List Field → Span → ℕ × Told × Stream
+response_found s m status fields at =
+    response_in s.asked (is_success (Some status)) s m status fields at
+
+abbrev pub in_connection : Connection → ℕ × Told × Stream → Outcome
+in_connection c x = (x.0, x.1, c, x.2)
 
 -- a section of a message, and the message after it
-abbrev pub takes : Connection → Stream → Message → List Field → ℕ → ℕ → Taken → Outcome
-takes c s m fields end len taken.Request =
-    (end, Headers headers.Request fields, c, with_part s (after_request fields m))
-takes c s m fields end len (taken.Interim status) = interim_found c s status fields end len
-takes c s m fields end len (taken.Response status) =
-    (end, Headers (headers.Response status) fields, c, with_part s (after_response s.part status m))
-takes c s m fields end len taken.Trailers =
-    (end, Headers headers.Trailers fields, c, with_part s (part.Body m))
-takes c s m fields end len (taken.Malformed rule) = malformed c s rule len
+abbrev pub takes : Connection → Stream → Message → List Field → Span → Taken → Outcome
+takes c s m fields at taken.Request = request_found c s m fields at
+takes c s m fields at (taken.Interim status) = interim_found c s status fields at
+takes c s m fields at (taken.Response status) =
+    in_connection c (response_found s m status fields at)
+takes c s m fields at taken.Trailers =
+    (at.end, Headers headers.Trailers fields, c, with_part s (part.Body m))
+takes c s m fields at (taken.Malformed rule) = malformed c s rule at.len
 
 -- the fields of a message's next section
-abbrev pub ReadGives : Connection → Stream → Message → List Field → ℕ → ℕ → Outcome → Type 0
-ReadGives c s m fields end len o =
+abbrev pub ReadGives : Connection → Stream → Message → List Field → Span → Outcome → Type 0
+ReadGives c s m fields at o =
     (x : Result Section Malformed)
     × (n : Message)
     × SectionComes m.stage m fields x n
-    × (o ≡ takes c s n fields end len (taken_of x))
+    × (o ≡ takes c s n fields at (taken_of x))
 
 -- the result of decoding it
 abbrev pub ResultGives :
-    Connection → Stream → Message → ℕ → ℕ → ℕ → Result (List Field) FieldSectionError → Outcome → Type 0
-ResultGives c s m start end len (Ok fields) o = ReadGives c s m fields end len o
-ResultGives c s m start end len (Err section_error.TooLarge) o =
-    o ≡ too_large c s None end len
-ResultGives c s m start end len (Err section_error.Memory) o =
-    o ≡ (start, NoMemory, c, record s { unread = Some (end - start) })
-ResultGives c s m start end len (Err (section_error.Decoding e)) o =
-    o ≡ fails c s (fault.Section e) len
+    Connection → Stream → Message → Span → Result (List Field) FieldSectionError → Outcome → Type 0
+ResultGives c s m at (Ok fields) o = ReadGives c s m fields at o
+ResultGives c s m at (Err section_error.TooLarge) o = o ≡ too_large c s None at.end at.len
+ResultGives c s m at (Err section_error.Memory) o =
+    o ≡ (at.start, NoMemory, c, record s { unread = unread.Section (at.end - at.start) })
+ResultGives c s m at (Err (section_error.Decoding e)) o = o ≡ fails c s (fault.Section e) at.len
 
-abbrev pub DecodedGives : ℕ → Connection → Stream → Message → ℕ → ℕ → List ℕ → Outcome → Type 0
-DecodedGives limit c s m start end bytes o =
+abbrev pub DecodedGives : ℕ → Connection → Stream → Message → Span → List ℕ → Outcome → Type 0
+DecodedGives limit c s m at bytes o =
     (r : Result (List Field) FieldSectionError)
-    × DecodesTo limit (slice start end bytes) r
-    × ResultGives c s m start end (length bytes) r o
+    × DecodesTo limit (slice at.start at.end bytes) r
+    × ResultGives c s m at r o
+
+abbrev pub span_in : ℕ → ℕ → List ℕ → Span
+span_in start end bytes = record { start = start; end = end; len = length bytes }
 
 -- HEADERS whose payload is from start to end
 abbrev pub SectionBy : Part → ℕ → Connection → Stream → ℕ → ℕ → List ℕ → Outcome → Type 0
-SectionBy (part.Head r m) limit c s start end bytes o =
-    DecodedGives limit c s m start end bytes o
+SectionBy (part.Head m) limit c s start end bytes o =
+    DecodedGives limit c s m (span_in start end bytes) bytes o
 SectionBy (part.Body m) limit c s start end bytes o =
-    DecodedGives limit c s m start end bytes o
+    DecodedGives limit c s m (span_in start end bytes) bytes o
 SectionBy part.Tunnel limit c s start end bytes o =
     o ≡ fails c s fault.SectionInTunnel (length bytes)
-SectionBy other limit c s start end bytes o =
+SectionBy part.Session limit c s start end bytes o =
+    o ≡ fails c s fault.SectionInTunnel (length bytes)
+SectionBy _ limit c s start end bytes o =
     o ≡ (end, Frame kind.Headers (slice start end bytes), c, s)
 
 abbrev pub SectionGives : ℕ → Connection → Stream → ℕ → ℕ → List ℕ → Outcome → Type 0
@@ -221,23 +327,23 @@ SectionGives limit c s start end bytes o = SectionBy s.part limit c s start end 
 abbrev pub FoundGives : ℕ → Found → Connection → Stream → List ℕ → Outcome → Type 0
 FoundGives limit (found.Opened p n) c s bytes o = o ≡ found_opened c s p n
 FoundGives limit (found.Settings v start end) c s bytes o =
-    o ≡ (end, Settings v (slice start end bytes), c, s)
+    o ≡ (end, Settings v (slice start end bytes), record c { configured = true }, s)
 FoundGives limit (found.Frame kind.Headers start end) c s bytes o =
     SectionGives limit c s start end bytes o
 FoundGives limit (found.Frame k start end) c s bytes o =
     o ≡ (end, Frame k (slice start end bytes), c, s)
-FoundGives limit (found.Data start end) c s bytes o = o ≡ data_found c s start end bytes
+FoundGives limit (found.Data start end) c s bytes o = DataGives c s start end bytes o
 FoundGives limit (found.TooLarge size n) c s bytes o =
     o ≡ too_large c s (Some size) n (length bytes)
 FoundGives limit (found.More n) c s bytes o = o ≡ (n, More, c, s)
 FoundGives limit (found.Fault f) c s bytes o = o ≡ fails c s (fault.Streams f) (length bytes)
-FoundGives limit found.End c s bytes o = o ≡ end_found c s (length bytes)
+FoundGives limit found.End c s bytes o = EndGives c s (length bytes) o
 
 -- a section of this size that could not be read before is next
 abbrev pub UnreadBy : Bool → ℕ → Connection → Stream → ℕ → List ℕ → Outcome → Type 0
 UnreadBy true limit c s size bytes o = o ≡ (0, More, c, s)
 UnreadBy false limit c s size bytes o =
-    SectionGives limit c (record s { unread = None }) 0 size bytes o
+    SectionGives limit c (record s { unread = unread.Nothing }) 0 size bytes o
 
 abbrev pub UnreadGives : ℕ → Connection → Stream → ℕ → List ℕ → Outcome → Type 0
 UnreadGives limit c s size bytes o =
@@ -252,15 +358,21 @@ pub record GoesOn (limit : ℕ) (c : Connection) (s : Stream) (bytes : List ℕ)
   pub found : FoundIs x c.streams s.frames bytes fin d t
   pub gives : FoundGives limit x (with_streams c d) (with_frames s t) bytes o
 
-abbrev pub PartGives : Part → ℕ → Connection → Stream → List ℕ → Bool → Outcome → Type 0
-PartGives (part.Unanswered m) limit c s bytes fin o = o ≡ (0, Waits wait.Answer, c, s)
-PartGives part.Exceeded limit c s bytes fin o =
-    o ≡ malformed c s ContentTooLong (length bytes)
-PartGives other limit c s bytes fin o = GoesOn limit c s bytes fin o
+-- what is due comes first
+abbrev pub DueGives : Due → ℕ → Connection → Stream → List ℕ → Bool → Outcome → Type 0
+DueGives due.Wait limit c s bytes fin o = o ≡ (0, Waits wait.Answer, c, s)
+DueGives due.Excess limit c s bytes fin o = o ≡ malformed c s ContentTooLong (length bytes)
+DueGives due.Spoiled limit c s bytes fin o = o ≡ spoiled c s (length bytes)
+DueGives due.End limit c s bytes fin o = o ≡ last c s End (length bytes)
+DueGives due.Lost limit c s bytes fin o = o ≡ last c s SessionLost (length bytes)
+DueGives due.Nothing limit c s bytes fin o = GoesOn limit c s bytes fin o
 
-abbrev pub StreamGives : Option ℕ → ℕ → Connection → Stream → List ℕ → Bool → Outcome → Type 0
-StreamGives (Some size) limit c s bytes fin o = UnreadGives limit c s size bytes o
-StreamGives None limit c s bytes fin o = PartGives s.part limit c s bytes fin o
+abbrev pub StreamGives : Unread → ℕ → Connection → Stream → List ℕ → Bool → Outcome → Type 0
+StreamGives (unread.Early size) limit c s bytes fin o = UnreadGives limit c s size bytes o
+StreamGives (unread.Section size) limit c s bytes fin o = UnreadGives limit c s size bytes o
+StreamGives (unread.Content size) limit c s bytes fin o = ContentGives c s size bytes o
+StreamGives unread.Nothing limit c s bytes fin o =
+    DueGives (due_by s.part (length bytes == 0)) limit c s bytes fin o
 
 -- after an error of the connection nothing is given
 abbrev pub ReceivesIf : Bool → ℕ → Connection → Stream → List ℕ → Bool → Outcome → Type 0

@@ -1,5 +1,6 @@
--- Connections, streams and their messages (RFC 9114, sections 4.1, 4.4 and 6).
-use Rattle.std.specs.Prelude.{ℕ, nat_le, nat_lt, ◌&&◌, if◌then◌else◌, Bool, true, false, Option, Some, None}
+-- Connections, streams and their messages (RFC 9114, sections 4.1, 4.4 and 6;
+-- draft-ietf-webtrans-http3-02, sections 4 and 5).
+use Rattle.std.specs.Prelude.{◌≡◌, ℕ, nat_le, ◌&&◌, ◌||◌, not, if◌then◌else◌, Bool, true, false, List, [], Option, Some, None, Result, Ok, Err}
 use Rattle.wtp_frames.specs.declared.endpoint.Endpoint.{Endpoint}
 use Rattle.wtp_frames.specs.Start.{message_reader}
 use Rattle.wtp_connection.specs.declared.connection.Connection.{Connection as Streams}
@@ -11,13 +12,22 @@ use Rattle.wtp_messages.specs.declared.message.Message.{Message}
 use Rattle.wtp_messages.specs.declared.message.Role.{Role}
 use Rattle.wtp_messages.specs.declared.message.Role.TheVariants as role
 use Rattle.wtp_messages.specs.declared.response.Asked.{Asked}
-use Rattle.wtp_messages.specs.declared.response.Asked.TheVariants as asked
 use Rattle.wtp_messages.specs.Message.{message_of}
 use Rattle.wtp_messages.specs.Response.{is_success}
+use Rattle.wtp_wire.specs.declared.capsule.CapsuleError.{CapsuleError}
+use Rattle.wtp_wire.specs.declared.capsule.CapsuleError.TheVariants as capsule_error
+use Rattle.wtp_wire.specs.declared.capsule.CapsuleKind.{CapsuleKind}
+use Rattle.wtp_wire.specs.CapsuleFront.{End}
+use Rattle.wtp_wire.specs.CapsuleStream.{NextGiven, next_held}
+use Rattle.wtp_wire.specs.Held.{Held, new_held}
 use Rattle.wtp_webtransport.specs.declared.connection.Connection.{Connection}
 use Rattle.wtp_webtransport.specs.declared.stream.Stream.{Stream}
 use Rattle.wtp_webtransport.specs.declared.stream.Part.{Part}
 use Rattle.wtp_webtransport.specs.declared.stream.Part.TheVariants as part
+use Rattle.wtp_webtransport.specs.declared.stream.Unread.{Unread}
+use Rattle.wtp_webtransport.specs.declared.stream.Unread.TheVariants as unread
+use Rattle.wtp_webtransport.specs.declared.stream.Due.{Due}
+use Rattle.wtp_webtransport.specs.declared.stream.Due.TheVariants as due
 use Rattle.wtp_webtransport.specs.declared.event.Waits.{Waits}
 use Rattle.wtp_webtransport.specs.declared.event.Waits.TheVariants as wait
 
@@ -29,6 +39,7 @@ connection_of e extended = record {
   streams = streams_of e;
   endpoint = e;
   extended = extended;
+  configured = false;
   over = false;
 }
 
@@ -41,67 +52,101 @@ with_frames s t = record s { frames = t }
 
 -- ---- streams
 
-abbrev pub stream_of : Frames → Part → Stream
-stream_of t p = record { frames = t; part = p; unread = None }
-
--- a message in this role, of which nothing has come
-abbrev pub head_of : Role → Part
-head_of r = part.Head r (message_of r)
+-- a stream without a message
+abbrev pub stream_of : Frames → Stream
+stream_of t = record {
+  frames = t;
+  part = part.NoMessage;
+  asked = None;
+  unread = unread.Nothing;
+  capsules = None;
+}
 
 abbrev pub with_part : Stream → Part → Stream
 with_part s p = record s { part = p }
 
--- the message of the stream is over
-abbrev pub ended : Stream → Stream
-ended s = record s { part = part.NoMessage; unread = None }
+-- a message in this role, of which nothing has come
+abbrev pub with_head : Stream → Role → Stream
+with_head s r = with_part s (part.Head (message_of r))
+
+-- the response to a request that asked for this
+abbrev pub asking_stream : Frames → Asked → Stream
+asking_stream t a = record {
+  frames = t;
+  part = part.Head (message_of (role.Response a));
+  asked = Some a;
+  unread = unread.Nothing;
+  capsules = None;
+}
+
+abbrev pub request_stream : Endpoint → Asked → Stream
+request_stream e a = asking_stream (frames.Frames (message_reader e) false) a
 
 -- the peer's half of a bidirectional stream that was opened here for a session
 abbrev pub session_stream : ℕ → Stream
-session_stream id = stream_of (frames.Session id) part.NoMessage
-
--- the response to a request that asked for this
-abbrev pub request_stream : Endpoint → Asked → Stream
-request_stream e a =
-    stream_of (frames.Frames (message_reader e) false) (head_of (role.Response a))
+session_stream id = stream_of (frames.Session id)
 
 -- a stream that the peer opened
 abbrev pub with_accepted : Connection → Streams × Frames → Connection × Stream
-with_accepted c x = (with_streams c x.0, stream_of x.1 part.NoMessage)
+with_accepted c x = (with_streams c x.0, stream_of x.1)
 
 abbrev pub accepted : Connection → ℕ → Connection × Stream
 accepted c id = with_accepted c (accepts c.streams id)
 
+-- the state of the message changes
+abbrev pub with_message : Part → Message → Part
+with_message (part.Head before) m = part.Head m
+with_message _ m = part.Body m
+
+-- ---- the end of a stream
+
+-- a session is over after its stream, and stays so
+abbrev pub after_end : Part → Part
+after_end part.Session = part.Past
+after_end (part.Closed more) = part.Past
+after_end part.Ending = part.Past
+after_end part.Losing = part.Past
+after_end part.Past = part.Past
+after_end _ = part.NoMessage
+
+abbrev pub ended : Stream → Stream
+ended s = record s { part = after_end s.part; unread = unread.Nothing; capsules = None }
+
+-- an error of its own stream ends a session that is open
+abbrev pub after_error : Part → Part
+after_error part.Session = part.Losing
+after_error part.Losing = part.Losing
+after_error (part.Closed more) = part.Past
+after_error part.Ending = part.Past
+after_error part.Past = part.Past
+after_error _ = part.NoMessage
+
+-- the stream has a session whose end is still to be given
+abbrev pub is_held : Part → Bool
+is_held part.Session = true
+is_held part.Losing = true
+is_held _ = false
+
 -- ---- CONNECT (RFC 9114, section 4.4)
 
--- a request that is answered with this status: 1xx is no answer yet, and after 2xx there is a tunnel
-abbrev pub answered_with : Stream → Message → ℕ → Stream
-answered_with s m status =
+abbrev pub after_success : Bool → Part
+after_success true = part.Session
+after_success false = part.Tunnel
+
+-- a request that is answered with this status: 1xx is no answer yet, and after 2xx there is a session
+-- or a tunnel
+abbrev pub answered_with : Stream → Bool → Message → ℕ → Stream
+answered_with s session m status =
     if is_success (Some status)
-    then with_part s part.Tunnel
+    then with_part s (after_success session)
     else (if nat_le 300 status then with_part s (part.Body m) else s)
 
 abbrev pub answered_by : Stream → Part → ℕ → Stream
-answered_by s (part.Unanswered m) status = answered_with s m status
-answered_by s other status = s
+answered_by s (part.Unanswered session m) status = answered_with s session m status
+answered_by s _ status = s
 
 abbrev pub answered : Stream → ℕ → Stream
 answered s status = answered_by s s.part status
-
--- the response to a CONNECT request opens a tunnel if its status is 2xx
-abbrev pub asks_for_tunnel : Asked → Bool
-asks_for_tunnel asked.Connect = true
-asks_for_tunnel asked.Session = true
-asks_for_tunnel _ = false
-
-abbrev pub after_response : Part → ℕ → Message → Part
-after_response (part.Head (role.Response a) before) status m =
-    if asks_for_tunnel a && is_success (Some status) then part.Tunnel else part.Body m
-after_response other status m = part.Body m
-
--- the state of the message changes
-abbrev pub with_message : Part → Message → Part
-with_message (part.Head r before) m = part.Head r m
-with_message other m = part.Body m
 
 -- ---- what a stream waits for
 
@@ -110,8 +155,50 @@ session_wait None = None
 session_wait (Some id) = Some (wait.Session id)
 
 abbrev pub waits_by : Part → Option Waits → Option Waits
-waits_by (part.Unanswered m) other = Some wait.Answer
-waits_by p other = other
+waits_by (part.Unanswered session m) w = Some wait.Answer
+waits_by _ w = w
+
+abbrev pub waits_early : Unread → Option Waits → Option Waits
+waits_early (unread.Early size) w = Some wait.Settings
+waits_early _ w = w
 
 abbrev pub waits_for : Stream → Option Waits
-waits_for s = waits_by s.part (session_wait (session_waited_for s.frames))
+waits_for s = waits_early s.unread (waits_by s.part (session_wait (session_waited_for s.frames)))
+
+-- ---- what is to be given before more of a stream is read
+
+abbrev pub spoiled_if : Bool → Due
+spoiled_if true = due.Spoiled
+spoiled_if false = due.Nothing
+
+-- nothing may follow the capsule that closes a session
+abbrev pub due_by : Part → Bool → Due
+due_by (part.Unanswered session m) empty = due.Wait
+due_by part.Exceeded empty = due.Excess
+due_by (part.Closed more) empty = spoiled_if (more || not empty)
+due_by part.Ending empty = due.End
+due_by part.Losing empty = due.Lost
+due_by _ empty = due.Nothing
+
+-- ---- capsules
+
+-- the capsules of a session begin
+abbrev pub with_session : Stream → Stream
+with_session s = record s { capsules = Some new_held }
+
+abbrev pub Found : Type 0
+Found = Result (Option (CapsuleKind × List ℕ)) CapsuleError
+
+-- the next capsule of what is held and of the bytes a, with the bytes b left
+abbrev pub GivesNext : Option Held → Found → Stream → List ℕ → Stream → List ℕ → Type 0
+GivesNext None r s a t b = (r ≡ Err capsule_error.TooLong) × (t ≡ s) × (b ≡ a)
+GivesNext (Some h) r s a t b =
+    (g : Held) × NextGiven r h a g b × (t ≡ record s { capsules = Some g })
+
+abbrev pub GivesCapsule : Found → Stream → List ℕ → Stream → List ℕ → Type 0
+GivesCapsule r s a t b = GivesNext s.capsules r s a t b
+
+-- no capsule has begun
+abbrev pub EndsBetween : Option Held → Type 0
+EndsBetween None = ⊥
+EndsBetween (Some h) = next_held h [] ≡ End

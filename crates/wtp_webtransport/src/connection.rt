@@ -2,16 +2,17 @@
 ghost use Rattle.std.specs.Prelude.{◌≡◌, ◌≤◌, length};
 ghost use Rattle.wtp_connection.specs.Receiving.{Fits};
 ghost use Rattle.wtp_webtransport.specs.Events.{told_of};
-ghost use Rattle.wtp_webtransport.specs.Receiving.{Receives, FoundGives, closed_by, fails, found_opened, malformed as malformed_is};
-ghost use Rattle.wtp_webtransport.specs.Streams.{connection_of, accepted, request_stream};
+ghost use Rattle.wtp_webtransport.specs.Receiving.{Receives, FoundGives, closed_by, fails, found_opened, last_in, malformed as malformed_is};
+ghost use Rattle.wtp_webtransport.specs.Streams.{connection_of, accepted, request_stream, after_error};
 
 mod messages;
+mod sessions;
 mod streams;
 
 use crate::event::{Event, Received, Waits};
 use crate::fault::Fault;
 use crate::fields::Fields;
-use crate::stream::{Part, Stream};
+use crate::stream::{Due, Part, Stream, Unread};
 use wtp_connection::connection::{Connection as Streams, Found};
 use wtp_connection::settings::PeerSettings;
 use wtp_connection::stream::{Purpose, Stream as Frames};
@@ -31,6 +32,8 @@ pub struct Connection {
     endpoint: Endpoint,
     /// Whether this endpoint allows extended CONNECT (RFC 8441, section 3).
     extended: bool,
+    /// Whether SETTINGS of the peer came.
+    configured: bool,
     /// Whether an error ended the connection.
     over: bool,
 }
@@ -45,6 +48,7 @@ impl Connection {
             streams: Streams::new(endpoint),
             endpoint,
             extended,
+            configured: false,
             over: false,
         }
     }
@@ -61,7 +65,7 @@ impl Connection {
     pub fn open(&self, asked: Asked) -> Stream
         ensures { result ≡ request_stream self.now.endpoint asked }
     {
-        Stream::of_message(Frames::of_request(self.endpoint), Role::Response(asked))
+        Stream::of_response(Frames::of_request(self.endpoint), asked)
     }
 
     /// Returns the settings of the peer. Until its SETTINGS come each one has its default (RFC 9114,
@@ -96,16 +100,23 @@ impl Connection {
                 event: Event::More,
             };
         }
-        if let Some(size) = stream.unread {
-            return self.read_again(stream, size, bytes, fields);
+        match stream.unread {
+            Unread::Nothing => {}
+            Unread::Early(size) | Unread::Section(size) => {
+                return self.read_again(stream, size, bytes, fields);
+            }
+            Unread::Content(size) => return self.capsules_again(stream, size, bytes),
         }
-        match stream.part {
-            Part::Unanswered(_) => Received {
+        match stream.due(bytes.is_empty()) {
+            Due::Wait => Received {
                 consumed: 0,
                 event: Event::Waits(Waits::Answer),
             },
-            Part::Exceeded => self.malformed(stream, Malformed::ContentTooLong, bytes.len()),
-            _ => {
+            Due::Excess => self.malformed(stream, Malformed::ContentTooLong, bytes.len()),
+            Due::Spoiled => self.spoil(stream, bytes.len()),
+            Due::End => last(stream, Event::End, bytes.len()),
+            Due::Lost => last(stream, Event::SessionLost, bytes.len()),
+            Due::Nothing => {
                 let found = self
                     .streams
                     .receive(&mut stream.frames, bytes, fin, &mut fields.entries);
@@ -129,6 +140,7 @@ impl Connection {
         match found {
             Found::Opened(purpose, n) => return self.opened(stream, purpose, n),
             Found::Settings(settings, start, end) => {
+                self.configured = true;
                 return Received {
                     consumed: end,
                     event: Event::Settings(settings, &bytes[start..end]),
@@ -179,7 +191,7 @@ impl Connection {
         ensures { (result.consumed, told_of result.event, self.new, stream.new)
             ≡ fails self.old stream.old fault len }
     {
-        stream.part = Part::NoMessage;
+        stream.part = part_after_error(stream.part);
         Received {
             consumed: len,
             event: self.close(fault),
@@ -210,5 +222,28 @@ impl Connection {
             consumed: len,
             event: Event::Malformed(rule),
         }
+    }
+}
+
+// Returns the last event of a session's own stream, with all `len` bytes.
+fn last<'a>(stream: &mut Stream, event: Event<'a>, len: usize) -> Received<'a>
+    ensures { (result.consumed, told_of result.event, stream.new)
+        ≡ last_in stream.old (told_of event.entry) len }
+{
+    stream.end();
+    Received {
+        consumed: len,
+        event,
+    }
+}
+
+// Returns how far a stream is after an error of it.
+fn part_after_error(part: Part) -> Part
+    ensures { result ≡ after_error part }
+{
+    match part {
+        Part::Session | Part::Losing => Part::Losing,
+        Part::Closed(_) | Part::Ending | Part::Past => Part::Past,
+        _ => Part::NoMessage,
     }
 }

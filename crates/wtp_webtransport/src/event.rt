@@ -1,6 +1,7 @@
 //! What the streams of a connection give.
 ghost use Rattle.std.specs.Prelude.{◌≡◌};
 
+use crate::close::Close;
 use crate::fault::Fault;
 use wtp_connection::settings::PeerSettings;
 use wtp_connection::stream::Purpose;
@@ -26,6 +27,9 @@ pub enum HeadersKind {
 pub enum Waits {
     /// For the session with this ID, until `Connection::join` says what became of it.
     Session(u64),
+    /// For the SETTINGS of the peer: the stream has a request for a session
+    /// (draft-ietf-webtrans-http3-07, section 3.1).
+    Settings,
     /// For the answer to its CONNECT request, until `Stream::answer`.
     Answer,
 }
@@ -45,6 +49,21 @@ pub enum Event<'a> {
     Frame(FrameType, &'a [u8]),
     /// A field section of the message: what it is, and its fields.
     Headers(HeadersKind, FieldList),
+    /// At a server, the header section of a request for a session of WebTransport.
+    SessionRequested(FieldList),
+    /// At a client, the header section of the response that accepts a session, with its status.
+    SessionReady(u32, FieldList),
+    /// At a client, that of a final response that does not accept a session, with its status. What
+    /// follows is the rest of an ordinary response.
+    Rejected(u32, FieldList),
+    /// The peer closed the session whose own stream this is. The streams of the session are to be
+    /// reset and stopped, and the own half of this one is to be ended.
+    SessionClosed(Close),
+    /// The session whose own stream this is ended otherwise: by a reset or an error of this stream.
+    /// It follows `StreamError`. The streams of the session are to be reset and stopped.
+    SessionLost,
+    /// The bytes had nothing for the application.
+    Skipped,
     /// A piece of the content of the message, of at least one byte.
     Data(&'a [u8]),
     /// A piece of a stream of a session, of at least one byte.

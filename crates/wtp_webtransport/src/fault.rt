@@ -17,6 +17,9 @@ pub enum Fault {
     /// A field section follows a CONNECT request that was answered with a 2xx status (RFC 9114,
     /// section 4.4).
     SectionInTunnel,
+    /// A capsule of a session is invalid, cut off by the end of the stream, or follows the one that
+    /// closes the session (RFC 9297, section 3.3; draft-ietf-webtrans-http3-02, section 5).
+    Capsule,
 }
 
 impl Fault {
@@ -28,6 +31,7 @@ impl Fault {
             Fault::Streams(fault) => fault.code(),
             Fault::Section(_) => Code::QPACK_DECOMPRESSION_FAILED,
             Fault::SectionInTunnel => Code::H3_FRAME_UNEXPECTED,
+            Fault::Capsule => Code::H3_MESSAGE_ERROR,
         }
     }
 
@@ -37,6 +41,7 @@ impl Fault {
     {
         match self {
             Fault::Streams(fault) => fault.scope(),
+            Fault::Capsule => ErrorScope::Stream,
             _ => ErrorScope::Connection,
         }
     }

@@ -1,59 +1,110 @@
-//! The state of one stream: of its frames, and of its message.
-ghost use Rattle.std.specs.Prelude.{◌≡◌, None};
-ghost use Rattle.wtp_webtransport.specs.Streams.{stream_of, head_of, session_stream, with_part, ended, answered, waits_for as waits_for_is};
+//! The state of one stream: of its frames, and of its message or its session.
+ghost use Rattle.std.specs.Prelude.{◌≡◌, ◌↔◌, IsTrue};
+ghost use Rattle.wtp_webtransport.specs.Streams.{stream_of, asking_stream, session_stream, with_head, with_session, after_end, ended, answered, waits_for as waits_for_is, is_held, due_by, GivesCapsule, EndsBetween};
 
 use crate::event::Waits;
+use std::alloc::Global;
 use wtp_connection::stream::Stream as Frames;
 use wtp_messages::message::{Message, Role};
+use wtp_messages::response::Asked;
+use wtp_wire::capsule::{CapsuleError, CapsuleOwned, CapsuleReading};
 
 /// How far the message of a stream went.
 #[derive(Clone, Copy)]
 pub(crate) enum Part {
     /// The stream has no message, or the message is over.
     NoMessage,
-    /// A message in this role, before its header section.
-    Head(Role, Message),
+    /// A message before its header section.
+    Head(Message),
     /// A message after its header section.
     Body(Message),
-    /// A CONNECT request without an answer.
-    Unanswered(Message),
+    /// A CONNECT request without an answer, and whether it asks for a session.
+    Unanswered(bool, Message),
     /// A CONNECT request with a 2xx answer: only DATA may follow (RFC 9114, section 4.4).
     Tunnel,
     /// A message of which more content came than was announced, up to the announced length.
     Exceeded,
+    /// The own stream of an open session: its content has capsules.
+    Session,
+    /// That of a session that a capsule closed, and whether more content came.
+    Closed(bool),
+    /// That of a session that the end of the stream closed.
+    Ending,
+    /// That of a session after an error of the stream.
+    Losing,
+    /// That of a session after its last event.
+    Past,
 }
 
-/// The state of one stream. It holds no bytes of the stream.
+/// What is next in the bytes of a stream, and was found there before.
+#[derive(Clone, Copy)]
+pub(crate) enum Unread {
+    /// Nothing.
+    Nothing,
+    /// A field section of this size, which waits for the SETTINGS of the peer.
+    Early(usize),
+    /// A field section of this size, for which there was no memory.
+    Section(usize),
+    /// So many bytes of the content of a session, for which there was no memory.
+    Content(usize),
+}
+
+/// What is to be returned before more of the stream is read.
+#[derive(Clone, Copy)]
+pub(crate) enum Due {
+    /// Nothing.
+    Nothing,
+    /// That it waits for an answer.
+    Wait,
+    /// That there is too much content.
+    Excess,
+    /// That something follows the capsule that closed the session.
+    Spoiled,
+    /// The end.
+    End,
+    /// That the session is lost.
+    Lost,
+}
+
+/// The state of one stream. It holds no bytes of the stream but those of a capsule that is cut.
 #[derive(Drop)]
 pub struct Stream {
     /// The state of its frames.
     pub(crate) frames: Frames,
     /// The state of its message.
     pub(crate) part: Part,
-    /// How many of the next bytes are a field section that could not be read for lack of memory.
-    pub(crate) unread: Option<usize>,
+    /// What the request asked for, if the message is the response to it.
+    pub(crate) asked: Option<Asked>,
+    /// What is next in the bytes.
+    pub(crate) unread: Unread,
+    /// The state of its capsules, if it asks for a session.
+    pub(crate) capsules: Option<CapsuleReading>,
 }
 
 impl Stream {
     // Creates the state of a stream without a message.
     pub(crate) fn new(frames: Frames) -> Self
-        ensures { result ≡ stream_of frames Part.NoMessage }
+        ensures { result ≡ stream_of frames }
     {
         Stream {
             frames,
             part: Part::NoMessage,
-            unread: None,
+            asked: None,
+            unread: Unread::Nothing,
+            capsules: None,
         }
     }
 
-    // Creates the state of a stream with a message.
-    pub(crate) fn of_message(frames: Frames, role: Role) -> Self
-        ensures { result ≡ stream_of frames (head_of role) }
+    // Creates the state of the response to a request that asked for this.
+    pub(crate) fn of_response(frames: Frames, asked: Asked) -> Self
+        ensures { result ≡ asking_stream frames asked }
     {
         Stream {
             frames,
-            part: Part::Head(role, Message::new(role)),
-            unread: None,
+            part: Part::Head(Message::new(Role::Response(asked))),
+            asked: Some(asked),
+            unread: Unread::Nothing,
+            capsules: None,
         }
     }
 
@@ -67,28 +118,98 @@ impl Stream {
 
     // Begins a message in this role.
     pub(crate) fn begin(&mut self, role: Role)
-        ensures { self.new ≡ with_part self.old (head_of role) }
+        ensures { self.new ≡ with_head self.old role }
     {
-        self.part = Part::Head(role, Message::new(role));
+        self.part = Part::Head(Message::new(role));
     }
 
-    // Ends the message.
+    // Ends the message or the session.
     pub(crate) fn end(&mut self)
         ensures { self.new ≡ ended self.old }
     {
-        self.part = Part::NoMessage;
-        self.unread = None;
+        self.part = self.part_after_end();
+        self.unread = Unread::Nothing;
+        self.capsules = None;
     }
 
-    /// Says that a CONNECT request is answered with this status. With 2xx its content is a tunnel;
-    /// otherwise what follows is the rest of an ordinary request. Nothing changes with 1xx, and if
-    /// the stream does not wait for an answer.
+    // Returns how far the stream is after its last event.
+    pub(crate) fn part_after_end(&self) -> Part
+        ensures { result ≡ after_end self.now.part }
+    {
+        match self.part {
+            Part::Session | Part::Closed(_) | Part::Ending | Part::Losing | Part::Past => {
+                Part::Past
+            }
+            _ => Part::NoMessage,
+        }
+    }
+
+    // Returns whether the stream has a session whose end was not returned.
+    pub(crate) fn holds_session(&self) -> bool
+        ensures { result ≡ is_held self.now.part }
+    {
+        matches!(self.part, Part::Session | Part::Losing)
+    }
+
+    // Returns what is to be returned before more of the stream is read. `empty`: no bytes came.
+    pub(crate) fn due(&self, empty: bool) -> Due
+        ensures { result ≡ due_by self.now.part empty }
+    {
+        match self.part {
+            Part::Unanswered(_, _) => Due::Wait,
+            Part::Exceeded => Due::Excess,
+            Part::Closed(more) => {
+                if more || !empty {
+                    Due::Spoiled
+                } else {
+                    Due::Nothing
+                }
+            }
+            Part::Ending => Due::End,
+            Part::Losing => Due::Lost,
+            _ => Due::Nothing,
+        }
+    }
+
+    // Takes the next capsule of the session from its content.
+    pub(crate) fn next_capsule(
+        &mut self,
+        bytes: &mut &[u8],
+    ) -> Result<Option<CapsuleOwned>, CapsuleError>
+        ensures { GivesCapsule result self.old bytes.old.now self.new bytes.new.now }
+    {
+        match &mut self.capsules {
+            Some(reading) => reading.next(bytes),
+            None => Err(CapsuleError::TooLong),
+        }
+    }
+
+    // Returns whether the content of the session may end here: no capsule has begun.
+    pub(crate) fn is_between_capsules(&self) -> bool
+        ensures { IsTrue result ↔ EndsBetween self.now.capsules }
+    {
+        match &self.capsules {
+            Some(reading) => reading.finish().is_ok(),
+            None => false,
+        }
+    }
+
+    // Begins to read the capsules of a session.
+    pub(crate) fn begin_capsules(&mut self, alloc: Global)
+        ensures { self.new ≡ with_session self.old }
+    {
+        self.capsules = Some(CapsuleReading::new(alloc));
+    }
+
+    /// Says that a CONNECT request is answered with this status. With 2xx its session is open, or its
+    /// content is a tunnel; otherwise what follows is the rest of an ordinary request. Nothing changes
+    /// with 1xx, and if the stream does not wait for an answer.
     pub fn answer(&mut self, status: u32)
         ensures { self.new ≡ answered self.old status }
     {
-        if let Part::Unanswered(message) = self.part {
+        if let Part::Unanswered(session, message) = self.part {
             if status >= 200 && status < 300 {
-                self.part = Part::Tunnel;
+                self.part = if session { Part::Session } else { Part::Tunnel };
             } else if status >= 300 {
                 self.part = Part::Body(message);
             }
@@ -99,7 +220,10 @@ impl Stream {
     pub fn waits(&self) -> Option<Waits>
         ensures { result ≡ waits_for_is self.now }
     {
-        if let Part::Unanswered(_) = self.part {
+        if let Unread::Early(_) = self.unread {
+            return Some(Waits::Settings);
+        }
+        if let Part::Unanswered(_, _) = self.part {
             return Some(Waits::Answer);
         }
         match self.frames.waits() {

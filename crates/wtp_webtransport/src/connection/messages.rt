@@ -1,19 +1,21 @@
 //! Messages: their field sections, content and end (RFC 9114, section 4.1).
 ghost use Rattle.std.specs.Prelude.{◌≡◌, ◌≤◌, ◌<◌, length};
-ghost use Rattle.wtp_messages.specs.Request.{is_connect as is_connect_request};
+ghost use Rattle.wtp_messages.specs.Names.{has_value as has_value_of};
 ghost use Rattle.wtp_webtransport.specs.Events.{told_of};
-ghost use Rattle.wtp_webtransport.specs.Receiving.{UnreadGives, SectionGives, ReadGives, taken_of, headers_given, interim_found, too_large as too_large_is, data_found, content_found, end_found};
-ghost use Rattle.wtp_webtransport.specs.Streams.{after_response as after_response_is, with_message as with_message_is};
+ghost use Rattle.wtp_webtransport.specs.Receiving.{UnreadGives, SectionGives, ReadGives, DataGives, taken_of, headers_given, interim_found, request_found, response_found, too_large as too_large_is, content_found, EndGives};
+ghost use Rattle.wtp_webtransport.specs.Sessions.{asks_of};
+ghost use Rattle.wtp_webtransport.specs.Streams.{with_message as with_message_is};
 
-use crate::connection::Connection;
-use crate::event::{Event, HeadersKind, Received};
+use crate::connection::{Connection, last};
+use crate::event::{Event, HeadersKind, Received, Waits};
 use crate::fault::Fault;
 use crate::fields::Fields;
-use crate::stream::{Part, Stream};
+use crate::stream::{Part, Stream, Unread};
+use std::alloc::Global;
 use wtp_fields::fields::{FieldList, FieldSectionError};
 use wtp_frames::frame_type::FrameType;
 use wtp_messages::malformed::Malformed;
-use wtp_messages::message::{Message, Role, Section};
+use wtp_messages::message::{Message, Section};
 use wtp_messages::response::Asked;
 
 impl Connection {
@@ -34,7 +36,7 @@ impl Connection {
                 event: Event::More,
             };
         }
-        stream.unread = None;
+        stream.unread = Unread::Nothing;
         self.section(stream, 0, size, bytes, fields)
     }
 
@@ -52,15 +54,20 @@ impl Connection {
             (result.consumed, told_of result.event, self.new, stream.new) }
     {
         match stream.part {
-            Part::Head(_, message) | Part::Body(message) => {
+            Part::Head(message) | Part::Body(message) => {
                 let list = FieldList::decode(fields.alloc, &bytes[start..end], fields.limit);
+                let span = Span {
+                    start,
+                    end,
+                    len: bytes.len(),
+                };
                 match list {
-                    Ok(list) => self.take(stream, message, list, end, bytes.len()),
+                    Ok(list) => self.take(stream, message, list, span, fields.alloc),
                     Err(FieldSectionError::TooLarge) => {
                         self.too_large(stream, None, end, bytes.len())
                     }
                     Err(FieldSectionError::Memory) => {
-                        stream.unread = Some(end - start);
+                        stream.unread = Unread::Section(end - start);
                         Received {
                             consumed: start,
                             event: Event::NoMemory,
@@ -71,7 +78,9 @@ impl Connection {
                     }
                 }
             }
-            Part::Tunnel => self.fail(stream, Fault::SectionInTunnel, bytes.len()),
+            Part::Tunnel | Part::Session => {
+                self.fail(stream, Fault::SectionInTunnel, bytes.len())
+            }
             _ => Received {
                 consumed: end,
                 event: Event::Frame(FrameType::Headers, &bytes[start..end]),
@@ -79,38 +88,87 @@ impl Connection {
         }
     }
 
-    // Takes the next fields of a message, whose encoding ends at `end`.
+    // Takes the next fields of a message.
     fn take<'a>(
         &mut self,
         stream: &mut Stream,
         message: Message,
         list: FieldList,
-        end: usize,
-        len: usize,
+        span: Span,
+        alloc: Global,
     ) -> Received<'a>
-        ensures { ReadGives self.old stream.old message list end len
+        ensures { ReadGives self.old stream.old message list span
             (result.consumed, told_of result.event, self.new, stream.new) }
     {
         let mut message = message;
         match section_of(message.section(&list)) {
-            Taken::Request => {
-                stream.part = if is_connect(&list) {
-                    Part::Unanswered(message)
-                } else {
-                    Part::Body(message)
-                };
-                given(HeadersKind::Request, list, end)
-            }
-            Taken::Interim(status) => self.interim(stream, status, list, end, len),
-            Taken::Response(status) => {
-                stream.part = after_response(stream.part, status, message);
-                given(HeadersKind::Response(status), list, end)
-            }
+            Taken::Request => self.request(stream, message, list, span, alloc),
+            Taken::Interim(status) => self.interim(stream, status, list, span),
+            Taken::Response(status) => respond(stream, message, status, list, span, alloc),
             Taken::Trailers => {
                 stream.part = Part::Body(message);
-                given(HeadersKind::Trailers, list, end)
+                given(HeadersKind::Trailers, list, span.end)
             }
-            Taken::Malformed(rule) => self.malformed(stream, rule, len),
+            Taken::Malformed(rule) => self.malformed(stream, rule, span.len),
+        }
+    }
+
+    // Takes the header section of a request.
+    fn request<'a>(
+        &mut self,
+        stream: &mut Stream,
+        message: Message,
+        list: FieldList,
+        span: Span,
+        alloc: Global,
+    ) -> Received<'a>
+        ensures { (result.consumed, told_of result.event, self.new, stream.new)
+            ≡ request_found self.old stream.old message list span }
+    {
+        match self.asked_by(&list) {
+            Asks::Plain => {
+                stream.part = Part::Body(message);
+                given(HeadersKind::Request, list, span.end)
+            }
+            Asks::Tunnel => {
+                stream.part = Part::Unanswered(false, message);
+                given(HeadersKind::Request, list, span.end)
+            }
+            Asks::TooEarly => {
+                stream.unread = Unread::Early(span.end.saturating_sub(span.start));
+                Received {
+                    consumed: span.start,
+                    event: Event::Waits(Waits::Settings),
+                }
+            }
+            Asks::Session => {
+                stream.part = Part::Unanswered(true, message);
+                stream.begin_capsules(alloc);
+                Received {
+                    consumed: span.end,
+                    event: Event::SessionRequested(list),
+                }
+            }
+        }
+    }
+
+    // Returns what a request asks for.
+    fn asked_by(&self, list: &FieldList) -> Asks
+        ensures { result ≡ asks_of self.now list.now }
+    {
+        if !has_value(list, b":method", b"CONNECT") {
+            return Asks::Plain;
+        }
+        if !self.endpoint.webtransport || !has_value(list, b":protocol", b"webtransport") {
+            return Asks::Tunnel;
+        }
+        if !self.configured {
+            return Asks::TooEarly;
+        }
+        if self.allows_sessions() {
+            Asks::Session
+        } else {
+            Asks::Tunnel
         }
     }
 }
@@ -122,15 +180,14 @@ impl Connection {
         stream: &mut Stream,
         status: u32,
         list: FieldList,
-        end: usize,
-        len: usize,
+        span: Span,
     ) -> Received<'a>
         ensures { (result.consumed, told_of result.event, self.new, stream.new)
-            ≡ interim_found self.old stream.old status list end len }
+            ≡ interim_found self.old stream.old status list span }
     {
         match self.streams.interim(&mut stream.frames) {
-            None => given(HeadersKind::Interim(status), list, end),
-            Some(fault) => self.fail(stream, Fault::Streams(fault), len),
+            None => given(HeadersKind::Interim(status), list, span.end),
+            Some(fault) => self.fail(stream, Fault::Streams(fault), span.len),
         }
     }
 
@@ -146,7 +203,9 @@ impl Connection {
             ≡ too_large_is self.old stream.old size n len }
     {
         match stream.part {
-            Part::Tunnel => return self.fail(stream, Fault::SectionInTunnel, len),
+            Part::Tunnel | Part::Session => {
+                return self.fail(stream, Fault::SectionInTunnel, len);
+            }
             Part::Body(_) => {}
             _ => {
                 self.streams.abandon(&mut stream.frames);
@@ -168,13 +227,14 @@ impl Connection {
         bytes: &'a [u8],
     ) -> Received<'a>
         requires { (start < end) × (end ≤ length bytes.now) }
-        ensures { (result.consumed, told_of result.event, self.new, stream.new)
-            ≡ data_found self.old stream.old start end bytes.now }
+        ensures { DataGives self.old stream.old start end bytes.now
+            (result.consumed, told_of result.event, self.new, stream.new) }
     {
         match stream.part {
-            Part::Head(_, message) | Part::Body(message) => {
+            Part::Head(message) | Part::Body(message) => {
                 self.content(stream, message, start, end, bytes)
             }
+            Part::Session => self.capsules(stream, &bytes[start..end], end, bytes.len()),
             Part::NoMessage => Received {
                 consumed: end,
                 event: Event::StreamData(&bytes[start..end]),
@@ -223,20 +283,42 @@ impl Connection {
 
     // Returns the end of a stream, if its message may end here.
     pub(super) fn finish<'a>(&mut self, stream: &mut Stream, len: usize) -> Received<'a>
-        ensures { (result.consumed, told_of result.event, self.new, stream.new)
-            ≡ end_found self.old stream.old len }
+        ensures { EndGives self.old stream.old len
+            (result.consumed, told_of result.event, self.new, stream.new) }
     {
-        if let Part::Head(_, message) | Part::Body(message) = stream.part {
-            if let Err(rule) = message.finish() {
-                return self.malformed(stream, rule, len);
-            }
-        }
-        stream.part = Part::NoMessage;
-        Received {
-            consumed: len,
-            event: Event::End,
+        match stream.part {
+            Part::Head(message) | Part::Body(message) => match message.finish() {
+                Ok(()) => last(stream, Event::End, len),
+                Err(rule) => self.malformed(stream, rule, len),
+            },
+            Part::Session => self.end_session(stream, len),
+            _ => last(stream, Event::End, len),
         }
     }
+}
+
+/// Where a field section is in the bytes.
+#[derive(Clone, Copy)]
+struct Span {
+    /// The offset of its encoding.
+    start: usize,
+    /// The offset of the byte after it.
+    end: usize,
+    /// How many bytes there are.
+    len: usize,
+}
+
+/// What a request asks for.
+#[derive(Clone, Copy)]
+enum Asks {
+    /// No CONNECT.
+    Plain,
+    /// A CONNECT without a session, or with one that this endpoint or the peer did not enable.
+    Tunnel,
+    /// A session, before SETTINGS of the peer came.
+    TooEarly,
+    /// A session.
+    Session,
 }
 
 /// What the next section of a message is.
@@ -277,24 +359,53 @@ fn given<'a>(kind: HeadersKind, list: FieldList, end: usize) -> Received<'a>
     }
 }
 
-// Returns whether the method of a request is CONNECT.
-fn is_connect(list: &FieldList) -> bool
-    ensures { result ≡ is_connect_request list.now }
+// Returns whether the first field of a name has this value.
+fn has_value(list: &FieldList, name: &[u8], text: &[u8]) -> bool
+    ensures { result ≡ has_value_of name.now text.now list.now }
 {
-    match list.first(b":method") {
-        Some(method) => method == b"CONNECT".as_slice(),
+    match list.first(name) {
+        Some(value) => value == text,
         None => false,
     }
 }
 
-// Returns how far a message is after the final response.
-fn after_response(part: Part, status: u32, message: Message) -> Part
-    ensures { result ≡ after_response_is part status message }
+// Takes the header section of a final response.
+fn respond<'a>(
+    stream: &mut Stream,
+    message: Message,
+    status: u32,
+    list: FieldList,
+    span: Span,
+    alloc: Global,
+) -> Received<'a>
+    ensures { (result.consumed, told_of result.event, stream.new)
+        ≡ response_found stream.old message status list span }
 {
-    match part {
-        Part::Head(Role::Response(Asked::Connect | Asked::Session), _)
-            if status >= 200 && status < 300 => { Part::Tunnel }
-        _ => Part::Body(message),
+    let success = status >= 200 && status < 300;
+    match stream.asked {
+        Some(Asked::Session) if success => {
+            stream.part = Part::Session;
+            stream.begin_capsules(alloc);
+            Received {
+                consumed: span.end,
+                event: Event::SessionReady(status, list),
+            }
+        }
+        Some(Asked::Session) => {
+            stream.part = Part::Body(message);
+            Received {
+                consumed: span.end,
+                event: Event::Rejected(status, list),
+            }
+        }
+        Some(Asked::Connect) if success => {
+            stream.part = Part::Tunnel;
+            given(HeadersKind::Response(status), list, span.end)
+        }
+        _ => {
+            stream.part = Part::Body(message);
+            given(HeadersKind::Response(status), list, span.end)
+        }
     }
 }
 
@@ -303,7 +414,7 @@ fn with_message(part: Part, message: Message) -> Part
     ensures { result ≡ with_message_is part message }
 {
     match part {
-        Part::Head(role, _) => Part::Head(role, message),
+        Part::Head(_) => Part::Head(message),
         _ => Part::Body(message),
     }
 }

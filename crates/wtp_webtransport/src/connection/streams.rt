@@ -2,7 +2,6 @@
 ghost use Rattle.std.specs.Prelude.{◌≡◌};
 ghost use Rattle.wtp_webtransport.specs.Events.{told_of};
 ghost use Rattle.wtp_webtransport.specs.Joining.{joins, resets, abandons, joining_of, joined_told};
-ghost use Rattle.wtp_connection.specs.Streams.{known_alone};
 
 use crate::connection::Connection;
 use crate::event::{Event, Waits};
@@ -33,18 +32,10 @@ impl Connection {
         }
     }
 
-    /// Returns what is known of a session if the caller has no stream with its ID, as
-    /// `wtp_connection::connection::Connection::known_without_stream`.
-    pub fn known_without_stream(&self, session: u64) -> Known
-        ensures { result ≡ known_alone self.now.streams session }
-    {
-        self.streams.known_without_stream(session)
-    }
-
     /// Says that the peer reset a stream. Its bytes that were not returned are lost, and the stream
     /// is over.
     ///
-    /// Returns `Reset`, or `ConnectionError` for the control stream (RFC 9114, section 6.2.1) and
+    /// Returns `SessionLost` if it is the own stream of an open session, otherwise `Reset`, or `ConnectionError` for the control stream (RFC 9114, section 6.2.1) and
     /// those of QPACK (RFC 9204, section 4.2), and `More` after an error of the connection.
     pub fn reset(&mut self, stream: &mut Stream) -> Event<'static>
         ensures { (told_of result, self.new, stream.new) ≡ resets self.old stream.old }
@@ -52,12 +43,14 @@ impl Connection {
         if self.over {
             return Event::More;
         }
+        let lost = stream.holds_session();
         stream.end();
         match self.streams.reset(&mut stream.frames) {
             Some(fault) => match fault.scope() {
                 ErrorScope::Stream => Event::Reset(Some(Fault::Streams(fault))),
                 _ => self.close(Fault::Streams(fault)),
             },
+            None if lost => Event::SessionLost,
             None => Event::Reset(None),
         }
     }

@@ -1,0 +1,84 @@
+//! How a session was closed (draft-ietf-webtrans-http3-02, section 5).
+ghost use Rattle.std.specs.Prelude.{◌≡◌, [], None, Some, MatchOption, drop};
+ghost use Rattle.wtp_wire.specs.CloseSession.{close_in};
+
+use std::marker::Model;
+use wtp_wire::capsule::CapsuleOwned;
+use wtp_wire::capsule::capsules::CloseWebTransportSession;
+
+/// How the peer closed a session: an error code and a reason of its application.
+#[derive(Drop)]
+pub struct Close {
+    code: u32,
+    /// The capsule that has the reason.
+    capsule: Option<CapsuleOwned>,
+}
+
+impl Model for Close {
+    ghost use Rattle.std.specs.Prelude.{ℕ, List};
+    ghost use Rattle.wtp_webtransport.specs.Close.{reason_in};
+
+    ghost Value = { ℕ × List ℕ };
+
+    ghost view = { λ c. (c.code, reason_in c.capsule) };
+}
+
+impl Close {
+    // Creates a close without a capsule, which has the code 0 and no reason.
+    pub(crate) fn clean() -> Self
+        ensures { result ≡ (0, []) }
+    {
+        Close {
+            code: 0,
+            capsule: None,
+        }
+    }
+
+    // Reads the code and the reason of a capsule. Returns `None` if it is not valid.
+    pub(crate) fn read(capsule: CapsuleOwned) -> Option<Self>
+        ensures { MatchOption result (close_in capsule.entry.1 ≡ None) (λ c. close_in capsule.entry.1 ≡ Some c) }
+    {
+        match code_in(capsule.payload()) {
+            Some(code) => Some(Close {
+                code,
+                capsule: Some(capsule),
+            }),
+            None => None,
+        }
+    }
+
+    /// Returns the error code of the application.
+    pub fn code(&self) -> u32
+        ensures { result ≡ self.now.0 }
+    {
+        self.code
+    }
+
+    /// Returns the reason, which is UTF-8.
+    pub fn reason(&self) -> &[u8]
+        ensures { result.now ≡ self.now.1 }
+    {
+        match &self.capsule {
+            Some(capsule) => capsule.payload().get(4..).unwrap_or(&[]),
+            None => &[],
+        }
+    }
+}
+
+// Returns the code of a payload, if it is valid.
+#[tactic(auto, unfolding(wtp_wire::specs::CloseSession::close_in))]
+fn code_in(payload: &[u8]) -> Option<u32>
+    ensures { MatchOption result (close_in payload.now ≡ None)
+        (λ code. close_in payload.now ≡ Some (code, drop 4 payload.now)) }
+{
+    let Some((code, text)) = payload.split_first_chunk::<4>() else {
+        return None;
+    };
+    if text.len() > CloseWebTransportSession::MAX_REASON_LEN {
+        return None;
+    }
+    let Ok(_) = str::from_utf8(text) else {
+        return None;
+    };
+    Some(u32::from_be_bytes(*code))
+}

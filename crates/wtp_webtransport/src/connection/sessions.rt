@@ -1,0 +1,176 @@
+//! The own streams of sessions, and what is known of a session (draft-ietf-webtrans-http3-02,
+//! sections 3.1, 4 and 5; RFC 9297, section 3).
+ghost use Rattle.std.specs.Prelude.{◌≡◌};
+ghost use Rattle.wtp_connection.specs.Streams.{known_alone};
+ghost use Rattle.wtp_webtransport.specs.Events.{told_of};
+ghost use Rattle.wtp_webtransport.specs.Receiving.{CapsulesGive, ContentGives, SessionEndGives, closes, spoiled};
+ghost use Rattle.wtp_webtransport.specs.Sessions.{allows_sessions as allows_sessions_is, known_of, known_of_other as known_of_other_is};
+
+use crate::close::Close;
+use crate::connection::Connection;
+use crate::event::{Event, Received};
+use crate::fault::Fault;
+use crate::stream::{Part, Stream, Unread};
+use wtp_connection::connection::Known;
+use wtp_connection::stream::Stream as Frames;
+use wtp_frames::endpoint::Side;
+use wtp_messages::response::Asked;
+use wtp_wire::capsule::{CapsuleError, CapsuleOwned};
+
+impl Connection {
+    /// Returns whether the SETTINGS of the peer, if they came, and the own ones allow sessions: both
+    /// enable WebTransport, and the peer datagrams; a server also extended CONNECT (RFC 9220, section
+    /// 3).
+    pub fn allows_sessions(&self) -> bool
+        ensures { result ≡ allows_sessions_is self.now }
+    {
+        let peer = self.streams.peer_settings();
+        let enabled = peer.enable_webtransport
+            || peer.webtransport_max_sessions > 0
+            || peer.wt_max_sessions > 0;
+        let connects = match self.endpoint.side {
+            Side::Client => peer.enable_connect_protocol,
+            Side::Server => true,
+        };
+        self.configured && self.endpoint.webtransport && peer.h3_datagram && enabled && connects
+    }
+
+    /// Returns what is known of the session whose ID is that of this stream.
+    pub fn known(&self, its: &Stream) -> Known
+        ensures { result ≡ known_of self.now its.now }
+    {
+        match its.part {
+            Part::Session => Known::Open,
+            Part::Closed(_) | Part::Ending | Part::Losing | Part::Past => Known::Over,
+            Part::Unanswered(true, _) => Known::Coming,
+            Part::Head(_) => match self.endpoint.side {
+                Side::Server => Known::Coming,
+                Side::Client => match its.asked {
+                    Some(Asked::Session) => Known::Coming,
+                    _ => Known::Impossible,
+                },
+            },
+            _ => self.known_of_other(its),
+        }
+    }
+
+    // Returns what is known of a session whose stream has none.
+    fn known_of_other(&self, its: &Stream) -> Known
+        ensures { result ≡ known_of_other_is self.now its.now }
+    {
+        match (&its.frames, self.endpoint.side, its.asked) {
+            (Frames::Session(_) | Frames::Joining(_) | Frames::Waiting(_), _, _) => {
+                Known::Impossible
+            }
+            (Frames::Bi, Side::Server, _) => Known::Coming,
+            (_, Side::Server, _) => Known::Refused,
+            (_, Side::Client, Some(Asked::Session)) => Known::Refused,
+            (_, Side::Client, _) => Known::Impossible,
+        }
+    }
+
+    /// Returns what is known of a session if the caller has no stream with its ID, as
+    /// `wtp_connection::connection::Connection::known_without_stream`.
+    pub fn known_without_stream(&self, session: u64) -> Known
+        ensures { result ≡ known_alone self.now.streams session }
+    {
+        self.streams.known_without_stream(session)
+    }
+
+    // Reads content of a session of this size that could not be read before.
+    pub(super) fn capsules_again<'a>(
+        &mut self,
+        stream: &mut Stream,
+        size: usize,
+        bytes: &'a [u8],
+    ) -> Received<'a>
+        ensures { ContentGives self.old stream.old size bytes.now
+            (result.consumed, told_of result.event, self.new, stream.new) }
+    {
+        if bytes.len() < size {
+            return Received {
+                consumed: 0,
+                event: Event::More,
+            };
+        }
+        stream.unread = Unread::Nothing;
+        self.capsules(stream, &bytes[..size], size, bytes.len())
+    }
+
+    // Reads a piece of the content of a session, which ends at `end`.
+    pub(super) fn capsules<'a>(
+        &mut self,
+        stream: &mut Stream,
+        piece: &[u8],
+        end: usize,
+        len: usize,
+    ) -> Received<'a>
+        ensures { CapsulesGive self.old stream.old piece.now end len
+            (result.consumed, told_of result.event, self.new, stream.new) }
+    {
+        let mut rest = piece;
+        match stream.next_capsule(&mut rest) {
+            Ok(None) => Received {
+                consumed: end,
+                event: Event::Skipped,
+            },
+            Ok(Some(capsule)) => self.close_session(stream, capsule, !rest.is_empty(), end, len),
+            Err(CapsuleError::TooLong) => self.spoil(stream, len),
+            Err(CapsuleError::Memory) => {
+                stream.unread = Unread::Content(rest.len());
+                Received {
+                    consumed: end.saturating_sub(rest.len()),
+                    event: Event::NoMemory,
+                }
+            }
+        }
+    }
+
+    // Closes a session by this capsule. `more`: other content follows it.
+    fn close_session<'a>(
+        &mut self,
+        stream: &mut Stream,
+        capsule: CapsuleOwned,
+        more: bool,
+        end: usize,
+        len: usize,
+    ) -> Received<'a>
+        ensures { (result.consumed, told_of result.event, self.new, stream.new)
+            ≡ closes self.old stream.old capsule.entry.1 more end len }
+    {
+        match Close::read(capsule) {
+            Some(close) => {
+                stream.part = Part::Closed(more);
+                Received {
+                    consumed: end,
+                    event: Event::SessionClosed(close),
+                }
+            }
+            None => self.spoil(stream, len),
+        }
+    }
+
+    // Ends a session's own stream, whose capsules are invalid, with all `len` bytes.
+    pub(super) fn spoil<'a>(&mut self, stream: &mut Stream, len: usize) -> Received<'a>
+        ensures { (result.consumed, told_of result.event, self.new, stream.new)
+            ≡ spoiled self.old stream.old len }
+    {
+        self.streams.abandon(&mut stream.frames);
+        self.fail(stream, Fault::Capsule, len)
+    }
+
+    // Ends a session by the end of its own stream, which may not be within a capsule.
+    pub(super) fn end_session<'a>(&mut self, stream: &mut Stream, len: usize) -> Received<'a>
+        ensures { SessionEndGives self.old stream.old len
+            (result.consumed, told_of result.event, self.new, stream.new) }
+    {
+        if !stream.is_between_capsules() {
+            return self.spoil(stream, len);
+        }
+        stream.part = Part::Ending;
+        Received {
+            consumed: len,
+            event: Event::SessionClosed(Close::clean()),
+        }
+    }
+}
