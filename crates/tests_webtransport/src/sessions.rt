@@ -249,7 +249,7 @@ fn name(known: Known) -> &'static str {
         Known::Open => "open",
         Known::Over => "over",
         Known::Refused => "refused",
-        Known::Impossible => "impossible",
+        _ => "impossible",
     }
 }
 

@@ -5,3 +5,4 @@ pub mod Streams
 pub mod Sessions
 pub mod Receiving
 pub mod Joining
+pub mod Endings

@@ -139,11 +139,11 @@ closes c s value more end len = closed_if (close_in value) c s more end len
 
 -- a capsule of the session, with the bytes b left of its content
 abbrev pub capsule_found : Capsules → Connection → Stream → List ℕ → ℕ → ℕ → Outcome
-capsule_found (Ok None) c s b end len = (end, Skipped, c, s)
+capsule_found (Ok None) c s b end len = (end, Skipped, c, with_part s (part.Session 0))
 capsule_found (Ok (Some x)) c s b end len = closes c s x.1 (nat_lt 0 (length b)) end len
 capsule_found (Err capsule_error.TooLong) c s b end len = spoiled c s len
 capsule_found (Err capsule_error.Memory) c s b end len =
-    (end - length b, NoMemory, c, record s { unread = unread.Content (length b) })
+    (end - length b, NoMemory, c, with_part s (part.Session (length b)))
 
 abbrev pub CapsulesGive : Connection → Stream → List ℕ → ℕ → ℕ → Outcome → Type 0
 CapsulesGive c s piece end len o =
@@ -157,7 +157,7 @@ CapsulesGive c s piece end len o =
 abbrev pub ContentBy : Bool → Connection → Stream → ℕ → List ℕ → Outcome → Type 0
 ContentBy true c s size bytes o = o ≡ (0, More, c, s)
 ContentBy false c s size bytes o =
-    CapsulesGive c (record s { unread = unread.Nothing }) (take size bytes) size (length bytes) o
+    CapsulesGive c s (take size bytes) size (length bytes) o
 
 abbrev pub ContentGives : Connection → Stream → ℕ → List ℕ → Outcome → Type 0
 ContentGives c s size bytes o = ContentBy (nat_lt (length bytes) size) c s size bytes o
@@ -167,7 +167,7 @@ ContentGives c s size bytes o = ContentBy (nat_lt (length bytes) size) c s size 
 abbrev pub DataBy : Part → Connection → Stream → ℕ → ℕ → List ℕ → Outcome → Type 0
 DataBy (part.Head m) c s start end bytes o = o ≡ content_found c s m start end bytes
 DataBy (part.Body m) c s start end bytes o = o ≡ content_found c s m start end bytes
-DataBy part.Session c s start end bytes o =
+DataBy (part.Session size) c s start end bytes o =
     CapsulesGive c s (slice start end bytes) end (length bytes) o
 DataBy part.NoMessage c s start end bytes o =
     o ≡ (end, StreamData (slice start end bytes), c, s)
@@ -193,7 +193,7 @@ pub data SessionEndGives (c : Connection) (s : Stream) (len : ℕ) (o : Outcome)
 abbrev pub EndBy : Part → Connection → Stream → ℕ → Outcome → Type 0
 EndBy (part.Head m) c s len o = o ≡ ends_by c s len (end_of m.stage m.content.left)
 EndBy (part.Body m) c s len o = o ≡ ends_by c s len (end_of m.stage m.content.left)
-EndBy part.Session c s len o = SessionEndGives c s len o
+EndBy (part.Session size) c s len o = SessionEndGives c s len o
 EndBy _ c s len o = o ≡ last c s End len
 
 abbrev pub EndGives : Connection → Stream → ℕ → Outcome → Type 0
@@ -205,7 +205,7 @@ EndGives c s len o = EndBy s.part c s len o
 -- without its header section nothing more of a message is given.
 abbrev pub too_large_by : Part → Connection → Stream → Option ℕ → ℕ → ℕ → Outcome
 too_large_by part.Tunnel c s size n len = fails c s fault.SectionInTunnel len
-too_large_by part.Session c s size n len = fails c s fault.SectionInTunnel len
+too_large_by (part.Session held) c s size n len = fails c s fault.SectionInTunnel len
 too_large_by (part.Body m) c s size n len = (n, TooLarge size, c, s)
 too_large_by _ c s size n len =
     (n, TooLarge size, (leaves c s).0, with_part (leaves c s).1 part.NoMessage)
@@ -254,7 +254,7 @@ request_found c s m fields at = request_by (asks_of c fields) c s m fields at
 -- the header section of a final response: one of success to a CONNECT opens a session or a tunnel
 abbrev pub response_in : Option Asked → Bool → Stream → Message → ℕ → List Field → Span → ℕ × Told × Stream
 response_in (Some asked.Session) true s m status fields at =
-    (at.end, SessionReady status fields, with_session (with_part s part.Session))
+    (at.end, SessionReady status fields, with_session (with_part s (part.Session 0)))
 response_in (Some asked.Session) false s m status fields at =
     (at.end, Rejected status fields, with_part s (part.Body m))
 response_in (Some asked.Connect) true s m status fields at =
@@ -313,7 +313,7 @@ SectionBy (part.Body m) limit c s start end bytes o =
     DecodedGives limit c s m (span_in start end bytes) bytes o
 SectionBy part.Tunnel limit c s start end bytes o =
     o ≡ fails c s fault.SectionInTunnel (length bytes)
-SectionBy part.Session limit c s start end bytes o =
+SectionBy (part.Session size) limit c s start end bytes o =
     o ≡ fails c s fault.SectionInTunnel (length bytes)
 SectionBy _ limit c s start end bytes o =
     o ≡ (end, Frame kind.Headers (slice start end bytes), c, s)
@@ -362,6 +362,7 @@ pub record GoesOn (limit : ℕ) (c : Connection) (s : Stream) (bytes : List ℕ)
 abbrev pub DueGives : Due → ℕ → Connection → Stream → List ℕ → Bool → Outcome → Type 0
 DueGives due.Wait limit c s bytes fin o = o ≡ (0, Waits wait.Answer, c, s)
 DueGives due.Excess limit c s bytes fin o = o ≡ malformed c s ContentTooLong (length bytes)
+DueGives (due.Content size) limit c s bytes fin o = ContentGives c s size bytes o
 DueGives due.Spoiled limit c s bytes fin o = o ≡ spoiled c s (length bytes)
 DueGives due.End limit c s bytes fin o = o ≡ last c s End (length bytes)
 DueGives due.Lost limit c s bytes fin o = o ≡ last c s SessionLost (length bytes)
@@ -370,7 +371,6 @@ DueGives due.Nothing limit c s bytes fin o = GoesOn limit c s bytes fin o
 abbrev pub StreamGives : Unread → ℕ → Connection → Stream → List ℕ → Bool → Outcome → Type 0
 StreamGives (unread.Early size) limit c s bytes fin o = UnreadGives limit c s size bytes o
 StreamGives (unread.Section size) limit c s bytes fin o = UnreadGives limit c s size bytes o
-StreamGives (unread.Content size) limit c s bytes fin o = ContentGives c s size bytes o
 StreamGives unread.Nothing limit c s bytes fin o =
     DueGives (due_by s.part (length bytes == 0)) limit c s bytes fin o
 

@@ -100,7 +100,7 @@ known_of_request true c s = known.Coming
 known_of_request false c s = known_of_other c s
 
 abbrev pub known_by_part : Part → Connection → Stream → Known
-known_by_part part.Session c s = known.Open
+known_by_part (part.Session size) c s = known.Open
 known_by_part (part.Closed more) c s = known.Over
 known_by_part part.Ending c s = known.Over
 known_by_part part.Losing c s = known.Over

@@ -1,6 +1,6 @@
 -- Connections, streams and their messages (RFC 9114, sections 4.1, 4.4 and 6;
 -- draft-ietf-webtrans-http3-02, sections 4 and 5).
-use Rattle.std.specs.Prelude.{◌≡◌, ℕ, nat_le, ◌&&◌, ◌||◌, not, if◌then◌else◌, Bool, true, false, List, [], Option, Some, None, Result, Ok, Err}
+use Rattle.std.specs.Prelude.{◌≡◌, ℕ, nat_le, nat_lt, ◌&&◌, ◌||◌, not, if◌then◌else◌, Bool, true, false, List, [], Option, Some, None, Result, Ok, Err}
 use Rattle.wtp_frames.specs.declared.endpoint.Endpoint.{Endpoint}
 use Rattle.wtp_frames.specs.Start.{message_reader}
 use Rattle.wtp_connection.specs.declared.connection.Connection.{Connection as Streams}
@@ -65,9 +65,13 @@ stream_of t = record {
 abbrev pub with_part : Stream → Part → Stream
 with_part s p = record s { part = p }
 
--- a message in this role, of which nothing has come
+-- a message in this role, of which nothing has come; a stream has one message
+abbrev pub head_if : Part → Role → Part
+head_if part.NoMessage r = part.Head (message_of r)
+head_if p r = p
+
 abbrev pub with_head : Stream → Role → Stream
-with_head s r = with_part s (part.Head (message_of r))
+with_head s r = with_part s (head_if s.part r)
 
 -- the response to a request that asked for this
 abbrev pub asking_stream : Frames → Asked → Stream
@@ -102,7 +106,7 @@ with_message _ m = part.Body m
 
 -- a session is over after its stream, and stays so
 abbrev pub after_end : Part → Part
-after_end part.Session = part.Past
+after_end (part.Session size) = part.Past
 after_end (part.Closed more) = part.Past
 after_end part.Ending = part.Past
 after_end part.Losing = part.Past
@@ -114,7 +118,7 @@ ended s = record s { part = after_end s.part; unread = unread.Nothing; capsules 
 
 -- an error of its own stream ends a session that is open
 abbrev pub after_error : Part → Part
-after_error part.Session = part.Losing
+after_error (part.Session size) = part.Losing
 after_error part.Losing = part.Losing
 after_error (part.Closed more) = part.Past
 after_error part.Ending = part.Past
@@ -123,14 +127,14 @@ after_error _ = part.NoMessage
 
 -- the stream has a session whose end is still to be given
 abbrev pub is_held : Part → Bool
-is_held part.Session = true
+is_held (part.Session size) = true
 is_held part.Losing = true
 is_held _ = false
 
 -- ---- CONNECT (RFC 9114, section 4.4)
 
 abbrev pub after_success : Bool → Part
-after_success true = part.Session
+after_success true = part.Session 0
 after_success false = part.Tunnel
 
 -- a request that is answered with this status: 1xx is no answer yet, and after 2xx there is a session
@@ -171,11 +175,15 @@ abbrev pub spoiled_if : Bool → Due
 spoiled_if true = due.Spoiled
 spoiled_if false = due.Nothing
 
+abbrev pub content_due : ℕ → Due
+content_due size = if nat_lt 0 size then due.Content size else due.Nothing
+
 -- nothing may follow the capsule that closes a session
 abbrev pub due_by : Part → Bool → Due
 due_by (part.Unanswered session m) empty = due.Wait
 due_by part.Exceeded empty = due.Excess
 due_by (part.Closed more) empty = spoiled_if (more || not empty)
+due_by (part.Session size) empty = content_due size
 due_by part.Ending empty = due.End
 due_by part.Losing empty = due.Lost
 due_by _ empty = due.Nothing

@@ -105,7 +105,6 @@ impl Connection {
             Unread::Early(size) | Unread::Section(size) => {
                 return self.read_again(stream, size, bytes, fields);
             }
-            Unread::Content(size) => return self.capsules_again(stream, size, bytes),
         }
         match stream.due(bytes.is_empty()) {
             Due::Wait => Received {
@@ -113,6 +112,7 @@ impl Connection {
                 event: Event::Waits(Waits::Answer),
             },
             Due::Excess => self.malformed(stream, Malformed::ContentTooLong, bytes.len()),
+            Due::Content(size) => self.capsules_again(stream, size, bytes),
             Due::Spoiled => self.spoil(stream, bytes.len()),
             Due::End => last(stream, Event::End, bytes.len()),
             Due::Lost => last(stream, Event::SessionLost, bytes.len()),
@@ -242,7 +242,7 @@ fn part_after_error(part: Part) -> Part
     ensures { result ≡ after_error part }
 {
     match part {
-        Part::Session | Part::Losing => Part::Losing,
+        Part::Session(_) | Part::Losing => Part::Losing,
         Part::Closed(_) | Part::Ending | Part::Past => Part::Past,
         _ => Part::NoMessage,
     }

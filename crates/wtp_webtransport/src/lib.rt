@@ -8,4 +8,5 @@ pub mod connection;
 pub mod event;
 pub mod fault;
 pub mod fields;
+pub mod laws;
 pub mod stream;

@@ -24,8 +24,9 @@ pub(crate) enum Part {
     Tunnel,
     /// A message of which more content came than was announced, up to the announced length.
     Exceeded,
-    /// The own stream of an open session: its content has capsules.
-    Session,
+    /// The own stream of an open session, whose content has capsules, and how many of the next bytes
+    /// are content for which there was no memory.
+    Session(usize),
     /// That of a session that a capsule closed, and whether more content came.
     Closed(bool),
     /// That of a session that the end of the stream closed.
@@ -45,8 +46,6 @@ pub(crate) enum Unread {
     Early(usize),
     /// A field section of this size, for which there was no memory.
     Section(usize),
-    /// So many bytes of the content of a session, for which there was no memory.
-    Content(usize),
 }
 
 /// What is to be returned before more of the stream is read.
@@ -60,6 +59,8 @@ pub(crate) enum Due {
     Excess,
     /// That something follows the capsule that closed the session.
     Spoiled,
+    /// What so many bytes of the content of a session have.
+    Content(usize),
     /// The end.
     End,
     /// That the session is lost.
@@ -116,11 +117,13 @@ impl Stream {
         Stream::new(Frames::of_session(session))
     }
 
-    // Begins a message in this role.
+    // Begins a message in this role, if the stream has none.
     pub(crate) fn begin(&mut self, role: Role)
         ensures { self.new ≡ with_head self.old role }
     {
-        self.part = Part::Head(Message::new(role));
+        if let Part::NoMessage = self.part {
+            self.part = Part::Head(Message::new(role));
+        }
     }
 
     // Ends the message or the session.
@@ -137,7 +140,7 @@ impl Stream {
         ensures { result ≡ after_end self.now.part }
     {
         match self.part {
-            Part::Session | Part::Closed(_) | Part::Ending | Part::Losing | Part::Past => {
+            Part::Session(_) | Part::Closed(_) | Part::Ending | Part::Losing | Part::Past => {
                 Part::Past
             }
             _ => Part::NoMessage,
@@ -148,7 +151,7 @@ impl Stream {
     pub(crate) fn holds_session(&self) -> bool
         ensures { result ≡ is_held self.now.part }
     {
-        matches!(self.part, Part::Session | Part::Losing)
+        matches!(self.part, Part::Session(_) | Part::Losing)
     }
 
     // Returns what is to be returned before more of the stream is read. `empty`: no bytes came.
@@ -161,6 +164,13 @@ impl Stream {
             Part::Closed(more) => {
                 if more || !empty {
                     Due::Spoiled
+                } else {
+                    Due::Nothing
+                }
+            }
+            Part::Session(size) => {
+                if size > 0 {
+                    Due::Content(size)
                 } else {
                     Due::Nothing
                 }
@@ -209,7 +219,11 @@ impl Stream {
     {
         if let Part::Unanswered(session, message) = self.part {
             if status >= 200 && status < 300 {
-                self.part = if session { Part::Session } else { Part::Tunnel };
+                self.part = if session {
+                    Part::Session(0)
+                } else {
+                    Part::Tunnel
+                };
             } else if status >= 300 {
                 self.part = Part::Body(message);
             }

@@ -78,7 +78,7 @@ impl Connection {
                     }
                 }
             }
-            Part::Tunnel | Part::Session => {
+            Part::Tunnel | Part::Session(_) => {
                 self.fail(stream, Fault::SectionInTunnel, bytes.len())
             }
             _ => Received {
@@ -203,7 +203,7 @@ impl Connection {
             ≡ too_large_is self.old stream.old size n len }
     {
         match stream.part {
-            Part::Tunnel | Part::Session => {
+            Part::Tunnel | Part::Session(_) => {
                 return self.fail(stream, Fault::SectionInTunnel, len);
             }
             Part::Body(_) => {}
@@ -234,7 +234,7 @@ impl Connection {
             Part::Head(message) | Part::Body(message) => {
                 self.content(stream, message, start, end, bytes)
             }
-            Part::Session => self.capsules(stream, &bytes[start..end], end, bytes.len()),
+            Part::Session(_) => self.capsules(stream, &bytes[start..end], end, bytes.len()),
             Part::NoMessage => Received {
                 consumed: end,
                 event: Event::StreamData(&bytes[start..end]),
@@ -291,7 +291,7 @@ impl Connection {
                 Ok(()) => last(stream, Event::End, len),
                 Err(rule) => self.malformed(stream, rule, len),
             },
-            Part::Session => self.end_session(stream, len),
+            Part::Session(_) => self.end_session(stream, len),
             _ => last(stream, Event::End, len),
         }
     }
@@ -384,7 +384,7 @@ fn respond<'a>(
     let success = status >= 200 && status < 300;
     match stream.asked {
         Some(Asked::Session) if success => {
-            stream.part = Part::Session;
+            stream.part = Part::Session(0);
             stream.begin_capsules(alloc);
             Received {
                 consumed: span.end,

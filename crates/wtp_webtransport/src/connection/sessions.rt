@@ -10,7 +10,7 @@ use crate::close::Close;
 use crate::connection::Connection;
 use crate::event::{Event, Received};
 use crate::fault::Fault;
-use crate::stream::{Part, Stream, Unread};
+use crate::stream::{Part, Stream};
 use wtp_connection::connection::Known;
 use wtp_connection::stream::Stream as Frames;
 use wtp_frames::endpoint::Side;
@@ -40,7 +40,7 @@ impl Connection {
         ensures { result ≡ known_of self.now its.now }
     {
         match its.part {
-            Part::Session => Known::Open,
+            Part::Session(_) => Known::Open,
             Part::Closed(_) | Part::Ending | Part::Losing | Part::Past => Known::Over,
             Part::Unanswered(true, _) => Known::Coming,
             Part::Head(_) => match self.endpoint.side {
@@ -93,7 +93,6 @@ impl Connection {
                 event: Event::More,
             };
         }
-        stream.unread = Unread::Nothing;
         self.capsules(stream, &bytes[..size], size, bytes.len())
     }
 
@@ -110,14 +109,17 @@ impl Connection {
     {
         let mut rest = piece;
         match stream.next_capsule(&mut rest) {
-            Ok(None) => Received {
-                consumed: end,
-                event: Event::Skipped,
-            },
+            Ok(None) => {
+                stream.part = Part::Session(0);
+                Received {
+                    consumed: end,
+                    event: Event::Skipped,
+                }
+            }
             Ok(Some(capsule)) => self.close_session(stream, capsule, !rest.is_empty(), end, len),
             Err(CapsuleError::TooLong) => self.spoil(stream, len),
             Err(CapsuleError::Memory) => {
-                stream.unread = Unread::Content(rest.len());
+                stream.part = Part::Session(rest.len());
                 Received {
                     consumed: end.saturating_sub(rest.len()),
                     event: Event::NoMemory,
