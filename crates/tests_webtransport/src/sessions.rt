@@ -4,6 +4,7 @@ use crate::messages::{Row, check};
 use crate::playing::{Case, configure, server};
 use std::process::Abort;
 use wtp_connection::connection::Known;
+use wtp_frames::endpoint::{Endpoint, Side};
 use wtp_messages::response::Asked;
 use wtp_webtransport::connection::Connection;
 use wtp_webtransport::event::{Event, Waits};
@@ -310,4 +311,24 @@ fn streams_of_a_session_join_it(rt: HostRuntime) {
         _ => 0,
     };
     assert!(rt; gone == 0x170d_7b68, "the session is gone");
+}
+
+#[test]
+fn goaway_names_what_is_not_processed(rt: HostRuntime) {
+    let mut connection = Connection::new(Endpoint::new(Side::Client), false);
+    let mut fields = Fields::new(rt.alloc(), 1000);
+    let mut control = connection.accept(3);
+    let bytes = [0x00, 0x04, 0x00, 0x07, 0x01, 0x04];
+    let mut start: usize = 0;
+    let mut came = false;
+    for _turn in 0..4u32 {
+        let rest = bytes.get(start..).unwrap_or(&[]);
+        let received = connection.receive(&mut control, rest, false, &mut fields);
+        came |= matches!(received.event, Event::GoAway(4));
+        start = start.saturating_add(received.consumed);
+    }
+    assert!(rt; came, "GOAWAY came");
+    assert!(rt; connection.is_unprocessed(4), "request 4 is not processed");
+    assert!(rt; connection.is_unprocessed(8), "request 8 is not processed");
+    assert!(rt; !connection.is_unprocessed(0), "request 0 is processed");
 }

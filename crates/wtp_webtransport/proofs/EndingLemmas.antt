@@ -1,10 +1,12 @@
 -- Each call keeps the session of a stream, ends it or begins it.
 use Rattle.std.proofs.Common.{◌≡◌, ℕ, refl, sym, ap, ◌∙◌, cond, Bool, ◌&&◌, ◌||◌, not, true, false, List, Option, Some, None, Result, Ok, Err, length, nat_lt, ◌==◌, ◌-◌}
+use Rattle.wtp_core.specs.Varint.{number_at}
 use Rattle.wtp_core.specs.declared.error.scope.ErrorScope.{ErrorScope}
 use Rattle.wtp_core.specs.declared.error.scope.ErrorScope.TheVariants as scope
 use Rattle.wtp_qpack.specs.Field.{Field}
 use Rattle.wtp_frames.specs.declared.frame_type.FrameType.{FrameType}
 use Rattle.wtp_frames.specs.declared.frame_type.FrameType.TheVariants as kind
+use Rattle.wtp_frames.specs.Reading.{slice}
 use Rattle.wtp_connection.specs.declared.connection.Found.{Found}
 use Rattle.wtp_connection.specs.declared.connection.Found.TheVariants as found
 use Rattle.wtp_connection.specs.declared.stream.Purpose.{Purpose}
@@ -43,7 +45,7 @@ use Rattle.wtp_webtransport.specs.Events as told
 use Rattle.wtp_webtransport.specs.Fault.{scope_of}
 use Rattle.wtp_webtransport.specs.Sessions.{asks_of}
 use Rattle.wtp_webtransport.specs.Streams.{Found as Capsules, after_end, after_error, head_if, with_streams, with_frames, with_message, is_held, spoiled_if, due_by, GivesNext, GivesCapsule}
-use Rattle.wtp_webtransport.specs.Receiving.{Outcome, closed_in, fails, last, leaves, malformed, spoiled, found_opened, content_by, closed_if, closes, capsule_found, CapsulesGive, ContentBy, ContentGives, DataBy, DataGives, ends_by, SessionEndGives, Between, Within, EndBy, EndGives, too_large_by, too_large, interim_by, request_by, response_in, takes, taken_of, ReadGives, ResultGives, span_in, SectionBy, FoundGives, UnreadBy, GoesOn, DueGives, StreamGives, ReceivesIf, Receives}
+use Rattle.wtp_webtransport.specs.Receiving.{Outcome, closed_in, fails, last, goaway_in, in_stream, leaves, malformed, spoiled, found_opened, content_by, closed_if, closes, capsule_found, CapsulesGive, ContentBy, ContentGives, DataBy, DataGives, ends_by, SessionEndGives, Between, Within, EndBy, EndGives, too_large_by, too_large, interim_by, request_by, response_in, takes, taken_of, ReadGives, ResultGives, span_in, SectionBy, FoundGives, UnreadBy, GoesOn, DueGives, StreamGives, ReceivesIf, Receives}
 use Rattle.wtp_webtransport.specs.Endings.{begins_session, ends_session, Keeps, KeepsSession}
 
 -- ---- events that are neither
@@ -348,6 +350,11 @@ section_keeps _ limit c s start end bytes o e g =
 
 -- ---- calls
 
+goaway_keeps : (x : Option (ℕ × List ℕ)) (c : Connection) (s : Stream) (end : ℕ) (payload : List ℕ)
+    → KeepsSession s (in_stream s (goaway_in x c end payload))
+goaway_keeps None c s end payload = quiet s.part _ s.part refl refl refl
+goaway_keeps (Some x) c s end payload = quiet s.part _ s.part refl refl refl
+
 found_keeps : (x : Found) (limit : ℕ) (c : Connection) (s : Stream) (bytes : List ℕ) (o : Outcome)
     → losing s.part ≡ false
     → FoundGives limit x c s bytes o
@@ -357,6 +364,8 @@ found_keeps (found.Settings v start end) limit c s bytes o f g =
     at s o _ g (quiet s.part _ s.part refl refl refl)
 found_keeps (found.Frame kind.Headers start end) limit c s bytes o f g =
     section_keeps s.part limit c s start end bytes o refl g
+found_keeps (found.Frame kind.GoAway start end) limit c s bytes o f g =
+    at s o _ g (goaway_keeps (number_at (slice start end bytes)) c s end (slice start end bytes))
 found_keeps (found.Frame _ start end) limit c s bytes o f g =
     at s o _ g (quiet s.part _ s.part refl refl refl)
 found_keeps (found.Data start end) limit c s bytes o f g =

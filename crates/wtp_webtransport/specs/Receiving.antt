@@ -1,6 +1,7 @@
 -- What one call of a connection gives: how many bytes are consumed, the event, and the connection
 -- and the stream after it (RFC 9114, sections 4.1, 4.1.2, 4.2.2, 4.4 and 8).
 use Rattle.std.specs.Prelude.{◌≡◌, ℕ, ◌+◌, ◌-◌, ◌<◌, ◌==◌, nat_lt, if◌then◌else◌, Bool, true, false, List, [], length, take, Option, Some, None, Result, Ok, Err}
+use Rattle.wtp_core.specs.Varint.{number_at}
 use Rattle.wtp_core.specs.declared.error.scope.ErrorScope.{ErrorScope}
 use Rattle.wtp_core.specs.declared.error.scope.ErrorScope.TheVariants as scope
 use Rattle.wtp_qpack.specs.Field.{Field}
@@ -50,7 +51,7 @@ use Rattle.wtp_webtransport.specs.declared.stream.Due.TheVariants as due
 use Rattle.wtp_webtransport.specs.declared.stream.Part.{Part}
 use Rattle.wtp_webtransport.specs.declared.stream.Part.TheVariants as part
 use Rattle.wtp_webtransport.specs.Fault.{scope_of}
-use Rattle.wtp_webtransport.specs.Events.{Told, Opened, Joins, Settings, Frame, Headers, SessionRequested, SessionReady, Rejected, SessionClosed, SessionLost, Skipped, Data, StreamData, TooLarge, Malformed as MalformedBy, StreamError, ConnectionError, End, NoMemory, Waits, More}
+use Rattle.wtp_webtransport.specs.Events.{Told, Opened, Joins, Settings, GoAway, Frame, Headers, SessionRequested, SessionReady, Rejected, SessionClosed, SessionLost, Skipped, Data, StreamData, TooLarge, Malformed as MalformedBy, StreamError, ConnectionError, End, NoMemory, Waits, More}
 use Rattle.wtp_webtransport.specs.Sessions.{asks_of}
 use Rattle.wtp_webtransport.specs.Streams.{Found as Capsules, with_streams, with_frames, with_part, with_head, with_message, with_session, ended, after_error, due_by, GivesCapsule, EndsBetween}
 
@@ -100,6 +101,20 @@ found_opened c s («for».Session id) n = (n, Joins id, c, s)
 found_opened c s «for».Message n =
     (n, Opened «for».Message, c, with_head s (role.Request c.extended))
 found_opened c s p n = (n, Opened p, c, s)
+
+-- ---- GOAWAY
+
+abbrev pub goaway_in : Option (ℕ × List ℕ) → Connection → ℕ → List ℕ → ℕ × Told × Connection
+goaway_in None c end payload = (end, Frame kind.GoAway payload, c)
+goaway_in (Some x) c end payload = (end, GoAway x.0, record c { goaway = Some x.0 })
+
+-- a GOAWAY, whose payload from start to end is an ID
+abbrev pub goaway_found : Connection → ℕ → ℕ → List ℕ → ℕ × Told × Connection
+goaway_found c start end bytes =
+    goaway_in (number_at (slice start end bytes)) c end (slice start end bytes)
+
+abbrev pub in_stream : Stream → ℕ × Told × Connection → Outcome
+in_stream s x = (x.0, x.1, x.2, s)
 
 -- ---- content
 
@@ -330,6 +345,8 @@ FoundGives limit (found.Settings v start end) c s bytes o =
     o ≡ (end, Settings v (slice start end bytes), record c { configured = true }, s)
 FoundGives limit (found.Frame kind.Headers start end) c s bytes o =
     SectionGives limit c s start end bytes o
+FoundGives limit (found.Frame kind.GoAway start end) c s bytes o =
+    o ≡ in_stream s (goaway_found c start end bytes)
 FoundGives limit (found.Frame k start end) c s bytes o =
     o ≡ (end, Frame k (slice start end bytes), c, s)
 FoundGives limit (found.Data start end) c s bytes o = DataGives c s start end bytes o

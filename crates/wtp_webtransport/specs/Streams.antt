@@ -2,6 +2,8 @@
 -- draft-ietf-webtrans-http3-02, sections 4 and 5).
 use Rattle.std.specs.Prelude.{◌≡◌, ℕ, nat_le, nat_lt, ◌&&◌, ◌||◌, not, if◌then◌else◌, Bool, true, false, List, [], Option, Some, None, Result, Ok, Err}
 use Rattle.wtp_frames.specs.declared.endpoint.Endpoint.{Endpoint}
+use Rattle.wtp_frames.specs.declared.endpoint.Side.{Side}
+use Rattle.wtp_frames.specs.declared.endpoint.Side.TheVariants.{Client}
 use Rattle.wtp_frames.specs.Start.{message_reader}
 use Rattle.wtp_connection.specs.declared.connection.Connection.{Connection as Streams}
 use Rattle.wtp_connection.specs.declared.stream.Stream.{Stream as Frames}
@@ -40,6 +42,7 @@ connection_of e extended = record {
   endpoint = e;
   extended = extended;
   configured = false;
+  goaway = None;
   over = false;
 }
 
@@ -49,6 +52,11 @@ with_streams c d = record c { streams = d }
 
 abbrev pub with_frames : Stream → Frames → Stream
 with_frames s t = record s { frames = t }
+
+-- a server does not process the requests from the ID of its GOAWAY on (RFC 9114, section 5.2)
+abbrev pub is_unprocessed_by : Side → Option ℕ → ℕ → Bool
+is_unprocessed_by Client (Some first) id = nat_le first id
+is_unprocessed_by _ goaway id = false
 
 -- ---- streams
 

@@ -2,8 +2,8 @@
 ghost use Rattle.std.specs.Prelude.{◌≡◌, ◌≤◌, length};
 ghost use Rattle.wtp_connection.specs.Receiving.{Fits};
 ghost use Rattle.wtp_webtransport.specs.Events.{told_of};
-ghost use Rattle.wtp_webtransport.specs.Receiving.{Receives, FoundGives, closed_by, fails, found_opened, last_in, malformed as malformed_is};
-ghost use Rattle.wtp_webtransport.specs.Streams.{connection_of, accepted, request_stream, after_error};
+ghost use Rattle.wtp_webtransport.specs.Receiving.{Receives, FoundGives, closed_by, fails, found_opened, goaway_found, last_in, malformed as malformed_is};
+ghost use Rattle.wtp_webtransport.specs.Streams.{connection_of, accepted, request_stream, after_error, is_unprocessed_by};
 
 mod messages;
 mod sessions;
@@ -17,7 +17,8 @@ use wtp_connection::connection::{Connection as Streams, Found};
 use wtp_connection::settings::PeerSettings;
 use wtp_connection::stream::{Purpose, Stream as Frames};
 use wtp_core::error::ErrorScope;
-use wtp_frames::endpoint::Endpoint;
+use wtp_core::varint::first_varint;
+use wtp_frames::endpoint::{Endpoint, Side};
 use wtp_frames::frame_type::FrameType;
 use wtp_messages::malformed::Malformed;
 use wtp_messages::message::Role;
@@ -34,6 +35,8 @@ pub struct Connection {
     extended: bool,
     /// Whether SETTINGS of the peer came.
     configured: bool,
+    /// The ID in the last GOAWAY of the peer.
+    goaway: Option<u64>,
     /// Whether an error ended the connection.
     over: bool,
 }
@@ -49,6 +52,7 @@ impl Connection {
             endpoint,
             extended,
             configured: false,
+            goaway: None,
             over: false,
         }
     }
@@ -74,6 +78,18 @@ impl Connection {
         ensures { result ≡ self.now.streams.peer }
     {
         self.streams.peer_settings()
+    }
+
+    /// Returns, at a client, whether a request with this ID is not processed by the server, since its
+    /// GOAWAY names the ID of this request or of one before it. It may be sent again on another
+    /// connection (RFC 9114, section 5.2).
+    pub fn is_unprocessed(&self, id: u64) -> bool
+        ensures { result ≡ is_unprocessed_by self.now.endpoint.side self.now.goaway id }
+    {
+        match (self.endpoint.side, self.goaway) {
+            (Side::Client, Some(first)) => id >= first,
+            _ => false,
+        }
     }
 
     /// Returns what is next in the bytes of a stream that follow those consumed before. `fin`: the
@@ -149,6 +165,9 @@ impl Connection {
             Found::Frame(FrameType::Headers, start, end) => {
                 return self.section(stream, start, end, bytes, fields);
             }
+            Found::Frame(FrameType::GoAway, start, end) => {
+                return self.goes_away(start, end, bytes);
+            }
             Found::Frame(kind, start, end) => {
                 return Received {
                     consumed: end,
@@ -167,6 +186,27 @@ impl Connection {
             }
             Found::Fault(fault) => return self.fail(stream, Fault::Streams(fault), bytes.len()),
             Found::End => return self.finish(stream, bytes.len()),
+        }
+    }
+
+    // Returns the ID of a GOAWAY, whose payload is from `start` to `end`.
+    fn goes_away<'a>(&mut self, start: usize, end: usize, bytes: &'a [u8]) -> Received<'a>
+        requires { (start ≤ end) × (end ≤ length bytes.now) }
+        ensures { (result.consumed, told_of result.event, self.new)
+            ≡ goaway_found self.old start end bytes.now }
+    {
+        match first_varint(&bytes[start..end]) {
+            Some((id, _)) => {
+                self.goaway = Some(id.into_inner());
+                Received {
+                    consumed: end,
+                    event: Event::GoAway(id.into_inner()),
+                }
+            }
+            None => Received {
+                consumed: end,
+                event: Event::Frame(FrameType::GoAway, &bytes[start..end]),
+            },
         }
     }
 

@@ -45,6 +45,9 @@ pub enum Event<'a> {
     Joined(u64),
     /// SETTINGS of the peer: what they define, and their payload.
     Settings(PeerSettings, &'a [u8]),
+    /// GOAWAY: at a client the ID of the first request that is not processed, at a server that of a
+    /// push (RFC 9114, section 5.2). Open sessions go on.
+    GoAway(u64),
     /// Another frame of the control stream: its type and its payload.
     Frame(FrameType, &'a [u8]),
     /// A field section of the message: what it is, and its fields.
