@@ -1,9 +1,10 @@
 //! The dynamic table (RFC 9204, section 3.2).
 
-ghost use Rattle.std.specs.Prelude.{◌≡◌, ℕ, ◌+◌, ◌-◌, ◌^◌, ◌<◌, ◌≤◌, min, List, length, take, drop, Decides, IfOk, option_map};
+ghost use Rattle.std.specs.Prelude.{◌≡◌, ℕ, ◌+◌, ◌-◌, ◌^◌, ◌<◌, ◌≤◌, min, List, length, take, drop, Decides, IfOk, Ok, Err, option_map};
 ghost use Rattle.std.specs.Vec.{vec_len};
 ghost use Rattle.std.specs.VecDeque.{deque_capacity};
-ghost use Rattle.wtp_dynamic.specs.Table.{Table, entry_size, table_size, insert_count, excess, evicted, empty_table, entry_of, relative_entry, post_base_entry, FindsLatest};
+ghost use Rattle.wtp_dynamic.specs.declared.error.EncoderStreamError.TheVariants.{Memory};
+ghost use Rattle.wtp_dynamic.specs.Table.{Table, entry_size, table_size, insert_count, excess, evicted, inserted, empty_table, entry_of, relative_entry, post_base_entry, FindsLatest};
 ghost use Rattle.wtp_dynamic.specs.Steps.{set_step, insert_step, Steps};
 
 use crate::error::EncoderStreamError;
@@ -242,9 +243,10 @@ impl DynamicTable {
         None
     }
 
-    /// Changes the capacity, and evicts the oldest entries that no longer fit.
+    /// Changes the capacity, and evicts the oldest entries that no longer fit. It needs no memory.
     pub fn set_capacity(&mut self, capacity: u64) -> Result<(), EncoderStreamError>
-        ensures { Steps (set_step capacity self.old) self.old self.new result }
+        ensures step { Steps (set_step capacity self.old) self.old self.new result }
+        ensures memory { ¬ (result ≡ Err Memory) }
     {
         if capacity > self.limit {
             return Err(EncoderStreamError::CapacityAboveLimit);
@@ -259,10 +261,12 @@ impl DynamicTable {
         Ok(())
     }
 
-    /// Inserts an entry, and evicts the oldest entries first that then no longer fit.
+    /// Inserts an entry, and evicts the oldest entries first that then no longer fit. It needs memory
+    /// only for an entry that is inserted.
     #[tactic(auto, using(crate::proofs::Tables::size_push))]
     pub fn insert(&mut self, entry: Entry) -> Result<(), EncoderStreamError>
-        ensures { Steps (insert_step entry self.old) self.old self.new result }
+        ensures step { Steps (insert_step entry self.old) self.old self.new result }
+        ensures memory { result ≡ Err Memory → insert_step entry self.old ≡ Ok (inserted entry self.old) }
     {
         let size = entry.size();
         if size > self.capacity {
