@@ -41,8 +41,8 @@ pub enum NotHeld {
 
 /// The bytes of one stream that calls left over. It has no memory while there are none.
 ///
-/// It is for QUIC stacks that give the bytes of a stream once, in chunks. Bytes of a chunk that are
-/// not part of something that a chunk before it began are not copied.
+/// It is for QUIC stacks that give the bytes of a stream once, in chunks. The bytes that a call leaves
+/// are copied, and so are those of the next chunk that complete what they begin.
 #[derive(Drop)]
 pub struct Hold {
     /// The bytes, with those at their start that the last call consumed.

@@ -229,10 +229,8 @@ impl Connection {
     pub fn overflow(&mut self, stream: &mut Stream) -> Option<Fault>
         ensures { (self.new, stream.new, result) ≡ overflows self.old stream.old }
     {
-        if self.over {
-            return None;
-        }
         match stream {
+            _ if self.over => None,
             Stream::Joining(_) => self.refuse(stream, StreamFault::BufferedStreamRejected),
             Stream::Waiting(_) => {
                 self.free();
