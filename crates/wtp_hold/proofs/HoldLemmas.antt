@@ -1,5 +1,5 @@
 -- What is found in bytes of which the first are held.
-use Rattle.std.proofs.Common.{◌≡◌, ℕ, zero, suc, ◌+◌, ◌-◌, ◌*◌, ◌<◌, ◌≤◌, ◌&&◌, ◌==◌, Bool, true, false, cond, List, [], ◌∷◌, ◌++◌, length, take, drop, Some, None, refl, sym, ap, subst, ◌∙◌, append_assoc, arith, length-append, length-drop}
+use Rattle.std.proofs.Common.{◌≡◌, ℕ, zero, suc, ◌+◌, ◌-◌, ◌*◌, ◌<◌, ◌≤◌, ◌&&◌, ◌==◌, Bool, true, false, cond, List, [], ◌∷◌, ◌++◌, length, take, drop, Some, None, Result, Ok, Err, refl, sym, ap, subst, ◌∙◌, append_assoc, arith, length-append, length-drop}
 use Rattle.std.proofs.lemmas.Bool.{false≢true, eqb-true}
 use Rattle.std.proofs.lemmas.List.{append-nil, drop-drop, take-append-drop}
 use Rattle.std.proofs.Math.Seq.{drop-length}
@@ -13,8 +13,9 @@ use Rattle.wtp_connection.proofs.FinishLemmas.{ended_followed}
 use Rattle.wtp_hold.specs.declared.hold.Hold.{Hold}
 use Rattle.wtp_hold.specs.declared.hold.Source.TheVariants.{Held, Chunk}
 use Rattle.wtp_hold.specs.declared.hold.Received.{Received}
+use Rattle.wtp_hold.specs.declared.hold.NotHeld.{NotHeld}
 use Rattle.wtp_hold.specs.declared.hold.NotHeld.TheVariants.{Memory, Limit}
-use Rattle.wtp_hold.specs.Holding.{pending, joined, source_of, Reads, IsQuiet, IsHeld, AfterMore, ReceivedIs, IsPast, IsReason, NotHeldIs, consumed_by, IsStill, IsRead}
+use Rattle.wtp_hold.specs.Holding.{pending, joined, source_of, Reads, IsQuiet, IsHeld, AfterMore, ReceivedIs, IsPast, IsReason, NotHeldIs, ReceptionIs, taken_before, consumed_by, IsStill, IsRead, IsFoundInChunk, IsInChunk}
 
 -- ---- more bytes follow
 
@@ -124,6 +125,9 @@ empty_rest rest back last is e at = sym is ∙ empty rest (sym e ∙ at)
     empty [] at = refl
     empty (b ∷ l) at = let e : suc (length l) ≡ 0 = eqb-true _ _ at in absurd (omega arith)
 
+pub not_empty : (l : List ℕ) → l ≡ [] → 0 < length l → ⊥
+not_empty l e some = let size : length l ≡ 0 = ap (λ (k : List ℕ). length k) e in absurd (omega arith)
+
 -- more than the limit
 pub past_more : (limit len : ℕ) (rest back : List ℕ) (last : Bool) → rest ≡ back → last ≡ (length rest == 0) → limit < len + cond last 0 1 → limit < len + length back
 past_more limit len rest back last is e h = subst (λ (l : List ℕ). limit < len + length l) is (more rest last e h)
@@ -224,6 +228,16 @@ chunk_found x n c s rest chunk taken limit k d t at before is other e none =
       after = other_after x (taken + n) limit chunk k d t other;
     }
 
+pub in_chunk : (x : Found) (n : ℕ) (k : Hold) → k.bytes.items ≡ [] → IsFoundInChunk n x (Chunk n) k
+in_chunk (found.More m) n k none = tt
+in_chunk (found.Opened p m) n k none = record { at = refl; none = none }
+in_chunk (found.Settings v start end) n k none = record { at = refl; none = none }
+in_chunk (found.Frame kind start end) n k none = record { at = refl; none = none }
+in_chunk (found.Data start end) n k none = record { at = refl; none = none }
+in_chunk (found.TooLarge size m) n k none = record { at = refl; none = none }
+in_chunk (found.Fault f) n k none = record { at = refl; none = none }
+in_chunk found.End n k none = record { at = refl; none = none }
+
 -- nothing is found in it
 pub chunk_quiet : (x : Found) (m n : ℕ) (fin : Bool) (c : Connection) (s : Stream) (rest chunk : List ℕ) (taken : ℕ) (d : Connection) (t : Stream) → rest ≡ drop taken chunk → FoundIs x c s rest fin d t → x ≡ found.More m → n ≡ consumed_by x (length rest) → IsQuiet fin d t (drop (taken + n) chunk)
 chunk_quiet x m n fin c s rest chunk taken d t at is more e =
@@ -277,3 +291,23 @@ chunk_refused c s bytes chunk n limit k d t none within reads = record {
   reads = subst (λ (l : List ℕ). Reads k.fin c s bytes [] d t l) (sym (nothing_held k (drop n chunk) none)) reads;
   reason = tt;
 }
+
+-- ---- nothing was found before, and nothing is held
+
+pub chunk_then : (x : Result Received NotHeld) (fin : Bool) (b c : Connection) (r s : Stream) (all items bytes chunk : List ℕ) (limit : ℕ) (k : Hold) (d : Connection) (t : Stream) → items ≡ [] → k.fin ≡ fin → Reads fin b r all [] c s (items ++ bytes) → ReceptionIs x c s bytes chunk limit k d t → ReceptionIs x b r all chunk limit k d t
+chunk_then x fin b c r s all items bytes chunk limit k d t none e before h =
+    by_result x (subst (λ (f : Bool). Reads f b r all [] c s bytes) (sym e) (subst (λ (l : List ℕ). Reads fin b r all [] c s (l ++ bytes)) none before)) h
+  where
+    by_result : (x : Result Received NotHeld) → Reads k.fin b r all [] c s bytes → ReceptionIs x c s bytes chunk limit k d t → ReceptionIs x b r all chunk limit k d t
+    by_result (Ok x) g h = record {
+      taken = h.taken;
+      within = h.within;
+      fits = h.fits;
+      reads = reads_then k.fin b c r s all bytes (seen_of x.found (source_of x.source k chunk)) d t (joined k (drop x.taken chunk)) g h.reads;
+      after = h.after;
+    }
+    by_result (Err x) g h = record {
+      taken = h.taken;
+      reads = reads_then k.fin b c r s all bytes [] d t (joined k (drop (taken_before x) chunk)) g h.reads;
+      reason = h.reason;
+    }

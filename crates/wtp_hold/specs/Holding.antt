@@ -100,6 +100,22 @@ abbrev pub ReceptionIs : Result Received NotHeld → Connection → Stream → L
 ReceptionIs (Ok x) c s bytes chunk limit k d t = ReceivedIs x c s bytes chunk limit k d t
 ReceptionIs (Err x) c s bytes chunk limit k d t = NotHeldIs x c s bytes chunk limit k d t
 
+-- ---- what is not copied
+
+-- it was found in the chunk, from this place on, and nothing is held
+pub record IsInChunk (n : ℕ) (source : Source) (k : Hold) : Type 0 where
+  pub at : source ≡ Chunk n
+  pub none : k.bytes.items ≡ []
+
+abbrev pub IsFoundInChunk : ℕ → Found → Source → Hold → Type 0
+IsFoundInChunk n (found.More m) source k = Unit {0}
+IsFoundInChunk n other source k = IsInChunk n source k
+
+-- bytes are held after More only
+abbrev pub IsUncopied : ℕ → Result Received NotHeld → Hold → Type 0
+IsUncopied n (Ok x) k = IsFoundInChunk n x.found x.source k
+IsUncopied n (Err x) k = k.bytes.items ≡ []
+
 -- ---- its parts
 
 -- how many of so many bytes are consumed

@@ -1,6 +1,6 @@
 //! The bytes of one stream that wait for more.
 ghost use Rattle.std.specs.Prelude.{◌≡◌, ◌+◌, ◌<◌, ◌≤◌, ◌||◌, ◌&&◌, ◌++◌, ◌==◌, true, false, if◌then◌else◌, [], length, drop, take, MatchOption, IfSome};
-ghost use Rattle.wtp_hold.specs.Holding.{pending, joined, ReceptionIs, consumed_by, IsStill, IsRead, IsNew, IsWithin, source_of};
+ghost use Rattle.wtp_hold.specs.Holding.{pending, joined, ReceptionIs, consumed_by, IsStill, IsRead, IsNew, IsWithin, IsUncopied, source_of};
 
 use std::alloc::Global;
 use wtp_connection::connection::{Connection, Found};
@@ -42,7 +42,8 @@ pub enum NotHeld {
 /// The bytes of one stream that calls left over. It has no memory while there are none.
 ///
 /// It is for QUIC stacks that give the bytes of a stream once, in chunks. The bytes that a call leaves
-/// are copied, and so are those of the next chunk that complete what they begin.
+/// are copied, and so are those of the next chunk that complete what they begin. While nothing is held
+/// what is found is in the chunk itself.
 #[derive(Drop)]
 pub struct Hold {
     /// The bytes, with those at their start that the last call consumed.
@@ -125,6 +126,7 @@ impl Hold {
     ) -> Result<Received, NotHeld>
         ensures received { ReceptionIs result connection.old stream.old (joined self.old chunk.now)
             chunk.now limit self.new connection.new stream.new }
+        ensures uncopied { pending self.old ≡ [] → IsUncopied 0 result self.new }
         ensures end { self.new.fin ≡ (self.old.fin || fin) }
         ensures fields { fields.new ≡ fields.old }
     {
@@ -222,6 +224,7 @@ impl Hold {
         requires fresh { self.old.used ≡ 0 }
         ensures received { ReceptionIs result connection.old stream.old (drop taken chunk.now)
             chunk.now limit self.new connection.new stream.new }
+        ensures uncopied { IsUncopied taken result self.new }
         ensures end { self.new.fin ≡ self.old.fin }
         ensures fields { fields.new ≡ fields.old }
     {

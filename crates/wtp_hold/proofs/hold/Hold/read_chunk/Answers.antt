@@ -1,5 +1,5 @@
 use Rattle.std.proofs.Common.{◌≡◌, ℕ, ◌+◌, ◌≤◌, ◌<◌, List, [], ◌++◌, length, drop, refl, sym, ap, subst, ◌∙◌}
-use Rattle.wtp_hold.proofs.HoldLemmas.{not_more, chunk_found, chunk_quiet, chunk_silent, chunk_within, chunk_limit, chunk_held, chunk_refused}
+use Rattle.wtp_hold.proofs.HoldLemmas.{not_more, in_chunk, chunk_found, chunk_quiet, chunk_silent, chunk_within, chunk_limit, chunk_held, chunk_refused}
 use Rattle.wtp_hold.proofs.hold.Hold.read_chunk.Goals as goal
 
 pub returns-then-left-limit-clause-received : goal.returns-then-left-limit-clause-received
@@ -13,3 +13,6 @@ returns-in-Err-clause-received c = chunk_refused c.args.connection.now c.args.st
 
 pub returns-clause-received : goal.returns-clause-received
 returns-clause-received c = chunk_found c.receive-found.result c.consumed.result c.args.connection.now c.args.stream.now c.split_at.result.1.now c.args.chunk.now c.args.taken c.args.limit c.args.self.now c.receive-found.new.self c.receive-found.new.stream c.split_at.ensures.back c.requires.within c.receive-found.ensures.found (not_more c.receive-found.result c.in_default.not-More) c.consumed.ensures c.requires.none
+
+pub returns-clause-uncopied : goal.returns-clause-uncopied
+returns-clause-uncopied c = in_chunk c.receive-found.result c.args.taken c.args.self.now c.requires.none

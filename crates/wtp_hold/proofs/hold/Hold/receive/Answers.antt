@@ -1,6 +1,7 @@
 use Rattle.std.proofs.Common.{rules, ◌≡◌, ℕ, ◌+◌, ◌≤◌, Bool, List, [], ◌++◌, length, take, drop, ap, subst, ◌∙◌, sym, arith, length-drop}
+use Rattle.std.proofs.lemmas.Grind.{common_steps}
 use Rattle.wtp_hold.specs.Holding.{joined, Reads}
-use Rattle.wtp_hold.proofs.HoldLemmas.{held_received, still, still_quiet, empty_rest, past_more, moved, nothing_more_held, limit_reached, memory_refused}
+use Rattle.wtp_hold.proofs.HoldLemmas.{not_empty, chunk_then, held_received, still, still_quiet, empty_rest, past_more, moved, nothing_more_held, limit_reached, memory_refused}
 use Rattle.wtp_hold.proofs.hold.Hold.receive.Goals as goal
 
 pub returns-in-Some-clause-received : goal.returns-in-Some-clause-received
@@ -12,6 +13,7 @@ held-preserved-then-len-eq0 c = record {
   fresh = c.in-None.ensures.read.fresh;
   end = c.read_held.ensures.end ∙ c.held.invariant.end;
   reads = still c.held.self.fin c.is_empty-last.result c.args.connection.now c.held.connection c.args.stream.now c.held.stream (joined c.args.self.now c.args.chunk.now) c.held.self.bytes.items c.read_held.new.connection c.read_held.new.stream c.read_held.new.self _ c.in-None.ensures.read c.read_held.ensures.end (empty_rest _ _ c.is_empty-last.result c.split_at.ensures.back c.is_empty-last.ensures) c.held.invariant.reads;
+  empty = λ e. absurd (not_empty c.held.self.bytes.items (c.held.invariant.empty e).0 (search rules));
   fields = c.read_held.ensures.fields ∙ c.held.invariant.fields;
 }
 
@@ -30,8 +32,12 @@ held-preserved c =
       fresh = c.take_more.ensures.used ∙ c.in-None.ensures.read.fresh;
       end = c.take_more.ensures.end ∙ c.read_held.ensures.end ∙ c.held.invariant.end;
       reads = subst (λ (f : Bool). Reads f c.args.connection.now c.args.stream.now (joined c.args.self.now c.args.chunk.now) [] c.read_held.new.connection c.read_held.new.stream (c.take_more.new.self.bytes.items ++ drop (c.held.taken + c.in-Some-take_more.n) c.args.chunk.now)) (sym c.take_more.ensures.end) (moved c.read_held.new.self.fin c.args.connection.now c.read_held.new.connection c.args.stream.now c.read_held.new.stream (joined c.args.self.now c.args.chunk.now) c.read_held.new.self.bytes.items c.args.chunk.now c.take_more.new.self.bytes.items c.held.taken c.in-Some-take_more.n (c.in-Some-take_more.ensures.taken ∙ items) (still c.held.self.fin c.is_empty-last.result c.args.connection.now c.held.connection c.args.stream.now c.held.stream (joined c.args.self.now c.args.chunk.now) c.held.self.bytes.items c.read_held.new.connection c.read_held.new.stream c.read_held.new.self _ c.in-None.ensures.read c.read_held.ensures.end (empty_rest _ _ c.is_empty-last.result c.split_at.ensures.back c.is_empty-last.ensures) c.held.invariant.reads));
+      empty = λ e. absurd (not_empty c.held.self.bytes.items (c.held.invariant.empty e).0 (search rules));
       fields = c.read_held.ensures.fields ∙ c.held.invariant.fields;
     }
 
 pub returns-in-None-take_more-clause-received : goal.returns-in-None-take_more-clause-received
 returns-in-None-take_more-clause-received c = memory_refused c.args.connection.now c.args.stream.now (joined c.args.self.now c.args.chunk.now) c.read_held.new.connection c.read_held.new.stream c.take_more.new.self c.held.taken c.args.limit c.args.chunk.now (c.take_more.ensures.used ∙ c.in-None.ensures.read.fresh) c.held.invariant.within (subst (λ (f : Bool). Reads f c.args.connection.now c.args.stream.now (joined c.args.self.now c.args.chunk.now) [] c.read_held.new.connection c.read_held.new.stream (c.take_more.new.self.bytes.items ++ drop c.held.taken c.args.chunk.now)) (sym c.take_more.ensures.end) (subst (λ (l : List ℕ). Reads c.read_held.new.self.fin c.args.connection.now c.args.stream.now (joined c.args.self.now c.args.chunk.now) [] c.read_held.new.connection c.read_held.new.stream (l ++ drop c.held.taken c.args.chunk.now)) (sym c.in-None-take_more.ensures.taken) (still c.held.self.fin c.is_empty-last.result c.args.connection.now c.held.connection c.args.stream.now c.held.stream (joined c.args.self.now c.args.chunk.now) c.held.self.bytes.items c.read_held.new.connection c.read_held.new.stream c.read_held.new.self _ c.in-None.ensures.read c.read_held.ensures.end (empty_rest _ _ c.is_empty-last.result c.split_at.ensures.back c.is_empty-last.ensures) c.held.invariant.reads)))
+
+pub returns-then-is_empty-clause-received : goal.returns-then-is_empty-clause-received
+returns-then-is_empty-clause-received c = chunk_then c.read_chunk.result c.held.self.fin c.args.connection.now c.held.connection c.args.stream.now c.held.stream (joined c.args.self.now c.args.chunk.now) c.held.self.bytes.items (drop c.held.taken c.args.chunk.now) c.args.chunk.now c.args.limit c.read_chunk.new.self c.read_chunk.new.connection c.read_chunk.new.stream (grind (arith, common_steps)) c.read_chunk.ensures.end c.held.invariant.reads c.read_chunk.ensures.received
