@@ -23,6 +23,8 @@ use Rattle.wtp_messages.specs.declared.response.Asked.TheVariants as asked
 use Rattle.wtp_messages.specs.Message.{end_of}
 use Rattle.wtp_messages.specs.Response.{is_success}
 use Rattle.wtp_wire.specs.declared.capsule.CapsuleError.TheVariants as capsule_error
+use Rattle.wtp_wire.specs.declared.capsule.CapsuleKind.{CapsuleKind}
+use Rattle.wtp_wire.specs.declared.capsule.CapsuleKind.TheVariants.{CloseWebTransportSession}
 use Rattle.wtp_wire.specs.CloseSession.{close_in}
 use Rattle.wtp_wire.specs.Held.{Held}
 use Rattle.wtp_webtransport.specs.declared.fault.Fault.{Fault}
@@ -45,7 +47,7 @@ use Rattle.wtp_webtransport.specs.Events as told
 use Rattle.wtp_webtransport.specs.Fault.{scope_of}
 use Rattle.wtp_webtransport.specs.Sessions.{asks_of}
 use Rattle.wtp_webtransport.specs.Streams.{Found as Capsules, after_end, after_error, head_if, with_streams, with_frames, with_message, is_held, spoiled_if, due_by, GivesNext, GivesCapsule}
-use Rattle.wtp_webtransport.specs.Receiving.{Outcome, closed_in, fails, last, goaway_in, in_stream, leaves, malformed, spoiled, found_opened, content_by, closed_if, closes, capsule_found, CapsulesGive, ContentBy, ContentGives, DataBy, DataGives, ends_by, SessionEndGives, Between, Within, EndBy, EndGives, too_large_by, too_large, interim_by, request_by, response_in, takes, taken_of, ReadGives, ResultGives, span_in, SectionBy, FoundGives, UnreadBy, GoesOn, DueGives, StreamGives, ReceivesIf, Receives}
+use Rattle.wtp_webtransport.specs.Receiving.{Outcome, closed_in, fails, last, goaway_in, in_stream, leaves, malformed, spoiled, found_opened, content_by, closed_if, complete, capsule_found, CapsulesGive, ContentBy, ContentGives, DataBy, DataGives, ends_by, SessionEndGives, Between, Within, EndBy, EndGives, too_large_by, too_large, interim_by, request_by, response_in, takes, taken_of, ReadGives, ResultGives, span_in, SectionBy, FoundGives, UnreadBy, GoesOn, DueGives, StreamGives, ReceivesIf, Receives}
 use Rattle.wtp_webtransport.specs.Endings.{begins_session, ends_session, Keeps, KeepsSession}
 
 -- ---- events that are neither
@@ -157,12 +159,18 @@ closed_keeps (Some close) c s more end len h = record {
   only = λ t. h;
 }
 
+complete_keeps : (k : CapsuleKind) (c : Connection) (s : Stream) (value : List ℕ) (more : Bool) (end len : ℕ)
+    → is_held s.part ≡ true
+    → KeepsSession s (complete k c s value more end len)
+complete_keeps CloseWebTransportSession c s value more end len h =
+    closed_keeps (close_in value) c s more end len h
+
 capsule_keeps : (r : Capsules) (c : Connection) (s : Stream) (b : List ℕ) (end len : ℕ)
     → is_held s.part ≡ true
     → KeepsSession s (capsule_found r c s b end len)
 capsule_keeps (Ok None) c s b end len h = quiet s.part _ (part.Session 0) refl refl (sym h)
 capsule_keeps (Ok (Some x)) c s b end len h =
-    closed_keeps (close_in x.1) c s (nat_lt 0 (length b)) end len h
+    complete_keeps x.0 c s x.1 (nat_lt 0 (length b)) end len h
 capsule_keeps (Err capsule_error.TooLong) c s b end len h = spoiled_keeps c s len
 capsule_keeps (Err capsule_error.Memory) c s b end len h =
     quiet s.part _ (part.Session (length b)) refl refl (sym h)

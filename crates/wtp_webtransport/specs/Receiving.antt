@@ -31,6 +31,8 @@ use Rattle.wtp_messages.specs.Response.{is_success}
 use Rattle.wtp_messages.specs.declared.response.Asked.{Asked}
 use Rattle.wtp_messages.specs.declared.response.Asked.TheVariants as asked
 use Rattle.wtp_wire.specs.declared.capsule.CapsuleError.TheVariants as capsule_error
+use Rattle.wtp_wire.specs.declared.capsule.CapsuleKind.{CapsuleKind}
+use Rattle.wtp_wire.specs.declared.capsule.CapsuleKind.TheVariants.{CloseWebTransportSession}
 use Rattle.wtp_wire.specs.CloseSession.{close_in}
 use Rattle.wtp_webtransport.specs.declared.fault.Fault.{Fault}
 use Rattle.wtp_webtransport.specs.declared.fault.Fault.TheVariants as fault
@@ -148,14 +150,16 @@ closed_if None c s more end len = spoiled c s len
 closed_if (Some close) c s more end len =
     (end, SessionClosed close, c, with_part s (part.Closed more))
 
--- a capsule with this value, which closes the session; whether more content follows it
-abbrev pub closes : Connection → Stream → List ℕ → Bool → ℕ → ℕ → Outcome
-closes c s value more end len = closed_if (close_in value) c s more end len
+-- a capsule of this kind with this value; whether more content follows it
+abbrev pub complete : CapsuleKind → Connection → Stream → List ℕ → Bool → ℕ → ℕ → Outcome
+complete CloseWebTransportSession c s value more end len =
+    closed_if (close_in value) c s more end len
 
 -- a capsule of the session, with the bytes b left of its content
 abbrev pub capsule_found : Capsules → Connection → Stream → List ℕ → ℕ → ℕ → Outcome
 capsule_found (Ok None) c s b end len = (end, Skipped, c, with_part s (part.Session 0))
-capsule_found (Ok (Some x)) c s b end len = closes c s x.1 (nat_lt 0 (length b)) end len
+capsule_found (Ok (Some x)) c s b end len =
+    complete x.0 c s x.1 (nat_lt 0 (length b)) end len
 capsule_found (Err capsule_error.TooLong) c s b end len = spoiled c s len
 capsule_found (Err capsule_error.Memory) c s b end len =
     (end - length b, NoMemory, c, with_part s (part.Session (length b)))

@@ -3,8 +3,8 @@ ghost use Rattle.std.specs.Prelude.{◌≡◌, [], None, Some, MatchOption, drop
 ghost use Rattle.wtp_wire.specs.CloseSession.{close_in};
 
 use std::marker::Model;
-use wtp_wire::capsule::CapsuleOwned;
 use wtp_wire::capsule::capsules::CloseWebTransportSession;
+use wtp_wire::capsule::{CapsuleKind, CapsuleOwned};
 
 /// How the peer closed a session: an error code and a reason of its application.
 #[derive(Drop)]
@@ -34,8 +34,10 @@ impl Close {
         }
     }
 
-    // Reads the code and the reason of a capsule. Returns `None` if it is not valid.
+    // Reads the code and the reason of a capsule that closes its session. Returns `None` if it is not
+    // valid.
     pub(crate) fn read(capsule: CapsuleOwned) -> Option<Self>
+        requires { capsule.0 ≡ CapsuleKind.CloseWebTransportSession }
         ensures { MatchOption result (close_in capsule.entry.1 ≡ None) (λ c. close_in capsule.entry.1 ≡ Some c) }
     {
         match code_in(capsule.payload()) {

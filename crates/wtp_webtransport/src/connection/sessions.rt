@@ -3,7 +3,7 @@
 ghost use Rattle.std.specs.Prelude.{◌≡◌};
 ghost use Rattle.wtp_connection.specs.Streams.{known_alone};
 ghost use Rattle.wtp_webtransport.specs.Events.{told_of};
-ghost use Rattle.wtp_webtransport.specs.Receiving.{CapsulesGive, ContentGives, SessionEndGives, closes, spoiled};
+ghost use Rattle.wtp_webtransport.specs.Receiving.{CapsulesGive, ContentGives, SessionEndGives, complete as complete_is, spoiled};
 ghost use Rattle.wtp_webtransport.specs.Sessions.{allows_sessions as allows_sessions_is, known_of, known_of_other as known_of_other_is};
 
 use crate::close::Close;
@@ -15,7 +15,7 @@ use wtp_connection::connection::Known;
 use wtp_connection::stream::Stream as Frames;
 use wtp_frames::endpoint::Side;
 use wtp_messages::response::Asked;
-use wtp_wire::capsule::{CapsuleError, CapsuleOwned};
+use wtp_wire::capsule::{CapsuleError, CapsuleKind, CapsuleOwned};
 
 impl Connection {
     /// Returns whether the SETTINGS of the peer, if they came, and the own ones allow sessions: both
@@ -116,7 +116,7 @@ impl Connection {
                     event: Event::Skipped,
                 }
             }
-            Ok(Some(capsule)) => self.close_session(stream, capsule, !rest.is_empty(), end, len),
+            Ok(Some(capsule)) => self.complete(stream, capsule, !rest.is_empty(), end, len),
             Err(CapsuleError::TooLong) => self.spoil(stream, len),
             Err(CapsuleError::Memory) => {
                 stream.part = Part::Session(rest.len());
@@ -128,8 +128,9 @@ impl Connection {
         }
     }
 
-    // Closes a session by this capsule. `more`: other content follows it.
-    fn close_session<'a>(
+    // Returns what a complete capsule does to its session, by its kind. `more`: other content follows
+    // it.
+    fn complete<'a>(
         &mut self,
         stream: &mut Stream,
         capsule: CapsuleOwned,
@@ -138,17 +139,19 @@ impl Connection {
         len: usize,
     ) -> Received<'a>
         ensures { (result.consumed, told_of result.event, self.new, stream.new)
-            ≡ closes self.old stream.old capsule.entry.1 more end len }
+            ≡ complete_is capsule.entry.0 self.old stream.old capsule.entry.1 more end len }
     {
-        match Close::read(capsule) {
-            Some(close) => {
-                stream.part = Part::Closed(more);
-                Received {
-                    consumed: end,
-                    event: Event::SessionClosed(close),
+        match capsule.kind() {
+            CapsuleKind::CloseWebTransportSession => match Close::read(capsule) {
+                Some(close) => {
+                    stream.part = Part::Closed(more);
+                    Received {
+                        consumed: end,
+                        event: Event::SessionClosed(close),
+                    }
                 }
-            }
-            None => self.spoil(stream, len),
+                None => self.spoil(stream, len),
+            },
         }
     }
 
