@@ -3,6 +3,8 @@
 #![tactic(auto)]
 
 #[cfg(test)]
+mod datagrams;
+#[cfg(test)]
 mod messages;
 #[cfg(test)]
 mod playing;

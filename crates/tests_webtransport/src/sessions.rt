@@ -12,7 +12,7 @@ use wtp_webtransport::fields::Fields;
 use wtp_webtransport::stream::Stream;
 
 /// CONNECT https://a/ for a session, in a HEADERS frame.
-static REQUEST: [u8; 34] = [
+pub(crate) static REQUEST: [u8; 34] = [
     0x01, 0x20, 0x00, 0x00, 0xcf, 0xd7, 0xc1, 0x50, 0x01, 0x61, 0x27, 0x02, 0x3a, 0x70, 0x72, 0x6f,
     0x74, 0x6f, 0x63, 0x6f, 0x6c, 0x0c, 0x77, 0x65, 0x62, 0x74, 0x72, 0x61, 0x6e, 0x73, 0x70, 0x6f,
     0x72, 0x74,
@@ -250,12 +250,13 @@ fn name(known: Known) -> &'static str {
         Known::Open => "open",
         Known::Over => "over",
         Known::Refused => "refused",
-        _ => "impossible",
+        Known::Other => "other",
+        Known::Impossible => "impossible",
     }
 }
 
 /// Asserts what is known of the session of a stream.
-fn assert_known<R: Abort>(rt: &R, connection: &Connection, its: &Stream, wanted: &str) {
+pub(crate) fn assert_known<R: Abort>(rt: &R, connection: &Connection, its: &Stream, wanted: &str) {
     let came = name(connection.known(its));
     assert!(rt; came == wanted, "{came}, and not {wanted}");
 }

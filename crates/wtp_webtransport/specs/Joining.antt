@@ -1,6 +1,6 @@
--- Streams of sessions, and streams that end before their last byte (RFC 9114, sections 4.1.1 and
--- 6.2.1; draft-ietf-webtrans-http3-02, section 4).
-use Rattle.std.specs.Prelude.{◌≡◌, ℕ, if◌then◌else◌, Bool, true, false, Option, Some, None}
+-- Streams of sessions, streams that end before their last byte, and datagrams (RFC 9114, sections
+-- 4.1.1 and 6.2.1; draft-ietf-webtrans-http3-02, section 4; RFC 9297, section 2).
+use Rattle.std.specs.Prelude.{◌≡◌, ℕ, if◌then◌else◌, Bool, true, false, List, Option, Some, None, Result, Ok, Err}
 use Rattle.wtp_core.specs.declared.error.scope.ErrorScope.{ErrorScope}
 use Rattle.wtp_core.specs.declared.error.scope.ErrorScope.TheVariants as scope
 use Rattle.wtp_connection.specs.declared.connection.Connection.{Connection as Streams}
@@ -8,8 +8,11 @@ use Rattle.wtp_connection.specs.declared.connection.Known.{Known}
 use Rattle.wtp_connection.specs.declared.fault.Fault.{Fault as StreamsFault}
 use Rattle.wtp_connection.specs.declared.stream.Stream.{Stream as Frames}
 use Rattle.wtp_connection.specs.declared.stream.Stream.TheVariants as frames
+use Rattle.wtp_connection.specs.declared.stream.Purpose.{Purpose}
+use Rattle.wtp_connection.specs.Datagrams.{Taken as StreamsTaken, taken as streams_taken, after_taken as streams_after}
 use Rattle.wtp_connection.specs.Fault.{scope_of as streams_scope}
-use Rattle.wtp_connection.specs.Streams.{Joined as After, joins as joins_streams, resets as resets_frames, abandons as abandons_frames}
+use Rattle.wtp_connection.specs.Streams.{Joined as After, joins as joins_streams, resets as resets_frames, abandons as abandons_frames, stops as stops_streams}
+use Rattle.wtp_webtransport.specs.declared.fault.Fault.{Fault}
 use Rattle.wtp_webtransport.specs.declared.fault.Fault.TheVariants as fault
 use Rattle.wtp_webtransport.specs.declared.event.Waits.TheVariants as wait
 use Rattle.wtp_webtransport.specs.declared.connection.Connection.{Connection}
@@ -75,3 +78,39 @@ abandoned_by c s x = (with_streams c x.0, with_frames s x.1)
 
 abbrev pub abandons : Connection → Stream → Connection × Stream
 abandons c s = abandoned_by c (ended s) (abandons_frames c.streams s.frames)
+
+-- ---- own streams that the peer asks to stop
+
+abbrev pub stopped_by : Connection → Streams × Option StreamsFault → Connection × Option Fault
+stopped_by c (d, None) = (with_streams c d, None)
+stopped_by c (d, Some f) =
+    ((closed_by (with_streams c d) (fault.Streams f)).0, Some (fault.Streams f))
+
+-- the peer asks to stop an own stream for this purpose
+abbrev pub stops : Connection → Purpose → Connection × Option Fault
+stops c own = if c.over then (c, None) else stopped_by c (stops_streams c.streams own)
+
+-- ---- datagrams
+
+-- a session's ID and a payload, or nothing; or an error
+abbrev pub Taken : Type 0
+Taken = Result (Option (ℕ × List ℕ)) Fault
+
+abbrev pub taken_of : StreamsTaken → Taken
+taken_of (Ok d) = Ok d
+taken_of (Err f) = Err (fault.Streams f)
+
+-- the payload of a QUIC datagram; nothing is taken after an error of the connection
+abbrev pub takes : Connection → List ℕ → Taken
+takes c bytes = if c.over then Ok None else taken_of (streams_taken c.streams bytes)
+
+abbrev pub after_taken : Connection → Taken → Connection
+after_taken c (Ok d) = c
+after_taken c (Err f) = (closed_by c f).0
+
+abbrev pub taken_by : Connection → StreamsTaken → Connection
+taken_by c t = after_taken (with_streams c (streams_after c.streams t)) (taken_of t)
+
+-- the connection after a datagram
+abbrev pub after_datagram : Connection → List ℕ → Connection
+after_datagram c bytes = if c.over then c else taken_by c (streams_taken c.streams bytes)

@@ -1,5 +1,6 @@
 -- Sessions: what the settings of both ends allow, what a request asks for, and what is known of a
--- session (draft-ietf-webtrans-http3-02, sections 3.1, 3.3 and 4; RFC 9220, section 3).
+-- session (draft-ietf-webtrans-http3-02, sections 3.1, 3.3 and 4; RFC 9220, section 3; RFC 9297,
+-- sections 2 and 2.1).
 use Rattle.std.specs.Prelude.{ℕ, nat_lt, ◌&&◌, ◌||◌, not, Bool, true, false, List, Option, Some, None}
 use Rattle.wtp_qpack.specs.Field.{Field}
 use Rattle.wtp_frames.specs.declared.endpoint.Side.{Side}
@@ -12,6 +13,7 @@ use Rattle.wtp_connection.specs.declared.stream.Stream.TheVariants as frames
 use Rattle.wtp_messages.specs.declared.response.Asked.{Asked}
 use Rattle.wtp_messages.specs.declared.response.Asked.TheVariants as asked
 use Rattle.wtp_messages.specs.Request.{is_connect, asks_for_session}
+use Rattle.wtp_wire.specs.Held.{Held}
 use Rattle.wtp_webtransport.specs.declared.connection.Connection.{Connection}
 use Rattle.wtp_webtransport.specs.declared.connection.messages.Asks.{Asks}
 use Rattle.wtp_webtransport.specs.declared.connection.messages.Asks.TheVariants as asks
@@ -61,8 +63,28 @@ asks_of c fields = asks_by c (is_connect fields) (asks_for_session fields)
 
 -- ---- what is known of the session whose ID is that of a stream
 
--- a stream that is no session, or none any more: at a server its request was refused, ended or asked
--- for something else; a client knows which sessions it asked for
+-- A message goes on that is no session's. If its request asked for a session, that was refused: at a
+-- server its capsules have begun, and a client knows what it asked for. Any other request has no use
+-- for datagrams (RFC 9297, section 2).
+abbrev pub message_at_server : Option Held → Known
+message_at_server None = known.Other
+message_at_server (Some h) = known.Refused
+
+abbrev pub message_at_client : Option Asked → Known
+message_at_client None = known.Impossible
+message_at_client (Some asked.Session) = known.Refused
+message_at_client (Some other) = known.Other
+
+abbrev pub known_at_message : Side → Stream → Known
+known_at_message Server s = message_at_server s.capsules
+known_at_message Client s = message_at_client s.asked
+
+abbrev pub known_of_message : Connection → Stream → Known
+known_of_message c s = known_at_message c.endpoint.side s
+
+-- A stream without a message, or whose message is over: at a server its request was refused, ended or
+-- asked for something else; a client knows which sessions it asked for. Datagrams are dropped once the
+-- receiving half is over (RFC 9297, section 2.1).
 abbrev pub none_at_client : Option Asked → Known
 none_at_client (Some asked.Session) = known.Refused
 none_at_client _ = known.Impossible
@@ -89,7 +111,7 @@ known_of_other c s = known_by_frames s.frames c.endpoint.side s.asked
 -- before its header section a request, or the response to one for a session, may be one
 abbrev pub head_at_client : Option Asked → Known
 head_at_client (Some asked.Session) = known.Coming
-head_at_client _ = known.Impossible
+head_at_client a = message_at_client a
 
 abbrev pub known_of_head : Side → Option Asked → Known
 known_of_head Server a = known.Coming
@@ -97,7 +119,7 @@ known_of_head Client a = head_at_client a
 
 abbrev pub known_of_request : Bool → Connection → Stream → Known
 known_of_request true c s = known.Coming
-known_of_request false c s = known_of_other c s
+known_of_request false c s = known_of_message c s
 
 abbrev pub known_by_part : Part → Connection → Stream → Known
 known_by_part (part.Session size) c s = known.Open
@@ -107,7 +129,8 @@ known_by_part part.Losing c s = known.Over
 known_by_part part.Past c s = known.Over
 known_by_part (part.Unanswered session m) c s = known_of_request session c s
 known_by_part (part.Head m) c s = known_of_head c.endpoint.side s.asked
-known_by_part _ c s = known_of_other c s
+known_by_part part.NoMessage c s = known_of_other c s
+known_by_part _ c s = known_of_message c s
 
 abbrev pub known_of : Connection → Stream → Known
 known_of c s = known_by_part s.part c s

@@ -4,7 +4,7 @@ ghost use Rattle.std.specs.Prelude.{◌≡◌};
 ghost use Rattle.wtp_connection.specs.Streams.{known_alone};
 ghost use Rattle.wtp_webtransport.specs.Events.{told_of};
 ghost use Rattle.wtp_webtransport.specs.Receiving.{CapsulesGive, ContentGives, SessionEndGives, complete as complete_is, spoiled};
-ghost use Rattle.wtp_webtransport.specs.Sessions.{allows_sessions as allows_sessions_is, known_of, known_of_other as known_of_other_is};
+ghost use Rattle.wtp_webtransport.specs.Sessions.{allows_sessions as allows_sessions_is, known_of, known_of_message as known_of_message_is, known_of_other as known_of_other_is};
 
 use crate::close::Close;
 use crate::connection::Connection;
@@ -35,7 +35,11 @@ impl Connection {
         self.configured && self.endpoint.webtransport && peer.h3_datagram && enabled && connects
     }
 
-    /// Returns what is known of the session whose ID is that of this stream.
+    /// Returns what is known of the session whose ID is that of this stream. It is `Other` while a
+    /// message goes on whose request asked for something else: a datagram for it is an error of its
+    /// stream (RFC 9297, section 2). After the end of such a stream it is `Refused`, at a client
+    /// `Impossible`, and datagrams are dropped (RFC 9297, section 2.1).
+    /// [`datagram_for`](Known::datagram_for) says which.
     pub fn known(&self, its: &Stream) -> Known
         ensures { result ≡ known_of self.now its.now }
     {
@@ -43,18 +47,33 @@ impl Connection {
             Part::Session(_) => Known::Open,
             Part::Closed(_) | Part::Ending | Part::Losing | Part::Past => Known::Over,
             Part::Unanswered(true, _) => Known::Coming,
-            Part::Head(_) => match self.endpoint.side {
-                Side::Server => Known::Coming,
-                Side::Client => match its.asked {
-                    Some(Asked::Session) => Known::Coming,
-                    _ => Known::Impossible,
-                },
+            Part::Head(_) => match (self.endpoint.side, its.asked) {
+                (Side::Server, _) | (Side::Client, Some(Asked::Session)) => Known::Coming,
+                _ => self.known_of_message(its),
             },
-            _ => self.known_of_other(its),
+            Part::NoMessage => self.known_of_other(its),
+            _ => self.known_of_message(its),
         }
     }
 
-    // Returns what is known of a session whose stream has none.
+    // Returns what is known of a session whose stream has a message instead.
+    fn known_of_message(&self, its: &Stream) -> Known
+        ensures { result ≡ known_of_message_is self.now its.now }
+    {
+        match self.endpoint.side {
+            Side::Server => match &its.capsules {
+                Some(_) => Known::Refused,
+                None => Known::Other,
+            },
+            Side::Client => match its.asked {
+                Some(Asked::Session) => Known::Refused,
+                Some(_) => Known::Other,
+                None => Known::Impossible,
+            },
+        }
+    }
+
+    // Returns what is known of a session whose stream has no message, or none any more.
     fn known_of_other(&self, its: &Stream) -> Known
         ensures { result ≡ known_of_other_is self.now its.now }
     {

@@ -1,14 +1,14 @@
-//! Streams of sessions, and streams that end before their last byte.
-ghost use Rattle.std.specs.Prelude.{◌≡◌};
+//! Streams of sessions, streams that end before their last byte, and datagrams.
+ghost use Rattle.std.specs.Prelude.{◌≡◌, Ok, Err, MatchResult, option_map};
 ghost use Rattle.wtp_webtransport.specs.Events.{told_of};
-ghost use Rattle.wtp_webtransport.specs.Joining.{joins, resets, abandons, joining_of, joined_told};
+ghost use Rattle.wtp_webtransport.specs.Joining.{joins, resets, abandons, joining_of, joined_told, stops, takes, after_datagram};
 
 use crate::connection::Connection;
 use crate::event::{Event, Waits};
 use crate::fault::Fault;
 use crate::stream::Stream;
 use wtp_connection::connection::Known;
-use wtp_connection::stream::Stream as Frames;
+use wtp_connection::stream::{Purpose, Stream as Frames};
 use wtp_core::error::ErrorScope;
 
 impl Connection {
@@ -63,6 +63,59 @@ impl Connection {
     {
         stream.end();
         self.streams.abandon(&mut stream.frames);
+    }
+
+    /// Says that the peer asked to stop a stream that was opened here (STOP_SENDING). `own` is what
+    /// that stream is for. If there is no error, the own half is to be reset (RFC 9000, section 3.5);
+    /// the other half goes on, and what else to do is the application's.
+    ///
+    /// # Errors
+    ///
+    /// `ClosedCriticalStream`, which ends the connection, if it is the own control stream (RFC 9114,
+    /// section 6.2.1) or one of QPACK (RFC 9204, section 4.2). None after an error of the connection.
+    pub fn stopped(&mut self, own: Purpose) -> Option<Fault>
+        ensures { (self.new, result) ≡ stops self.old own }
+    {
+        if self.over {
+            return None;
+        }
+        match self.streams.stopped(own) {
+            Some(fault) => {
+                self.close(Fault::Streams(fault));
+                Some(Fault::Streams(fault))
+            }
+            None => None,
+        }
+    }
+
+    /// Returns the session of a datagram and its payload, which may be empty. `bytes` is the payload
+    /// of a QUIC datagram. [`known`](Self::known) says what is known of the session, and
+    /// [`Known::datagram_for`] what is to be done with the datagram.
+    ///
+    /// Returns `None`, and the datagram is to be dropped, if the own SETTINGS do not enable datagrams
+    /// ([`Endpoint::datagrams`](wtp_frames::endpoint::Endpoint)), and after an error of the
+    /// connection.
+    ///
+    /// # Errors
+    ///
+    /// `Datagram`, which ends the connection, if it does not begin with a complete number, or if that
+    /// number is 2^60 or more (RFC 9297, section 2.1).
+    pub fn datagram<'a>(&mut self, bytes: &'a [u8]) -> Result<Option<(u64, &'a [u8])>, Fault>
+        ensures taken { MatchResult result
+            (λ d. takes self.old bytes.now ≡ Ok (option_map (λ p. (p.0, p.1.now)) d))
+            (λ f. takes self.old bytes.now ≡ Err f) }
+        ensures connection { self.new ≡ after_datagram self.old bytes.now }
+    {
+        if self.over {
+            return Ok(None);
+        }
+        match self.streams.datagram(bytes) {
+            Ok(datagram) => Ok(datagram),
+            Err(fault) => {
+                self.close(Fault::Streams(fault));
+                Err(Fault::Streams(fault))
+            }
+        }
     }
 }
 
