@@ -21,19 +21,20 @@ static CONNECT: [u8; 8] = [0x01, 0x06, 0x00, 0x00, 0xcf, 0x50, 0x01, 0x61];
 /// A response with status 404, in a HEADERS frame.
 static NOT_FOUND: [u8; 5] = [0x01, 0x03, 0x00, 0x00, 0xdb];
 
-/// Reads a stream: its bytes, and its end if `fin` is set.
-fn read(
-    connection: &mut Connection,
-    stream: &mut Stream,
-    bytes: &[u8],
-    fin: bool,
-    fields: &mut Fields,
-) {
+/// Reads these bytes of a stream, which goes on after them.
+fn read(connection: &mut Connection, stream: &mut Stream, bytes: &[u8], fields: &mut Fields) {
     let mut start: usize = 0;
     for _turn in 0..4u32 {
         let rest = bytes.get(start..).unwrap_or(&[]);
-        let received = connection.receive(stream, rest, fin, fields);
+        let received = connection.receive(stream, rest, false, fields);
         start = start.saturating_add(received.consumed);
+    }
+}
+
+/// Reads the end of a stream.
+fn end(connection: &mut Connection, stream: &mut Stream, fields: &mut Fields) {
+    for _turn in 0..2u32 {
+        connection.receive(stream, &[], true, fields);
     }
 }
 
@@ -56,25 +57,25 @@ fn requests_for_no_session_have_no_use_for_datagrams(rt: HostRuntime) {
     configure(&mut connection, &mut fields);
     let mut get = connection.accept(0);
     assert_for(&rt, &connection, &get, "coming", "early");
-    read(&mut connection, &mut get, GET.as_slice(), false, &mut fields);
+    read(&mut connection, &mut get, &GET, &mut fields);
     assert_for(&rt, &connection, &get, "other", "end the stream");
-    read(&mut connection, &mut get, &[], true, &mut fields);
+    end(&mut connection, &mut get, &mut fields);
     assert_for(&rt, &connection, &get, "refused", "discard");
     let mut tunnel = connection.accept(4);
-    read(&mut connection, &mut tunnel, CONNECT.as_slice(), false, &mut fields);
+    read(&mut connection, &mut tunnel, &CONNECT, &mut fields);
     assert_for(&rt, &connection, &tunnel, "other", "end the stream");
     tunnel.answer(200);
     assert_for(&rt, &connection, &tunnel, "other", "end the stream");
     let mut refused = connection.accept(8);
-    read(&mut connection, &mut refused, REQUEST.as_slice(), false, &mut fields);
+    read(&mut connection, &mut refused, &REQUEST, &mut fields);
     assert_for(&rt, &connection, &refused, "coming", "early");
     refused.answer(404);
     assert_for(&rt, &connection, &refused, "refused", "discard");
     let mut open = connection.accept(12);
-    read(&mut connection, &mut open, REQUEST.as_slice(), false, &mut fields);
+    read(&mut connection, &mut open, &REQUEST, &mut fields);
     open.answer(200);
     assert_for(&rt, &connection, &open, "open", "deliver");
-    read(&mut connection, &mut open, &[], true, &mut fields);
+    end(&mut connection, &mut open, &mut fields);
     assert_for(&rt, &connection, &open, "over", "discard");
 }
 
@@ -84,13 +85,13 @@ fn a_client_knows_what_it_asked_for(rt: HostRuntime) {
     let mut fields = Fields::new(rt.alloc(), 1000);
     let mut get = connection.open(Asked::Other);
     assert_for(&rt, &connection, &get, "other", "end the stream");
-    read(&mut connection, &mut get, NOT_FOUND.as_slice(), false, &mut fields);
+    read(&mut connection, &mut get, &NOT_FOUND, &mut fields);
     assert_for(&rt, &connection, &get, "other", "end the stream");
-    read(&mut connection, &mut get, &[], true, &mut fields);
+    end(&mut connection, &mut get, &mut fields);
     assert_for(&rt, &connection, &get, "impossible", "discard");
     let mut session = connection.open(Asked::Session);
     assert_for(&rt, &connection, &session, "coming", "early");
-    read(&mut connection, &mut session, NOT_FOUND.as_slice(), false, &mut fields);
+    read(&mut connection, &mut session, &NOT_FOUND, &mut fields);
     assert_for(&rt, &connection, &session, "refused", "discard");
 }
 
@@ -151,7 +152,10 @@ fn critical_streams_may_not_be_stopped(rt: HostRuntime) {
             Some(fault) => fault.code().number().into_inner(),
         };
         assert!(rt; code == 0x0104, "{code}, and not H3_CLOSED_CRITICAL_STREAM");
-        assert!(rt; connection.stopped(own).is_none(), "the error is returned once");
+        assert!(rt;
+            connection.stopped(own).is_none(),
+            "the error is returned once"
+        );
         let mut stream = connection.accept(0);
         let after = connection.receive(&mut stream, GET.as_slice(), false, &mut fields);
         let is_over = matches!(after.event, Event::More) && after.consumed == 10;
