@@ -296,8 +296,8 @@ int wt_fields_write(const wt_field *fields, size_t count, const uint8_t *texts, 
    host is sent in lower case, port 443 and a fragment are not sent. A user name and a password in it are
    sent in :authority, which RFC 9114, section 4.3.1, forbids. A value is any bytes, as RFC 9110, section
    5.5, allows them. It allocates.
-   WT_OK, WT_BUFFER_TOO_SMALL: as above. WT_INVALID: the URL is not one, its scheme is not https, or it has 16 MiB or
-   more and would be too long. Or a field is not within the texts; its name is empty, starts with a colon
+   WT_OK, WT_BUFFER_TOO_SMALL: as above. WT_INVALID: the URL is not one, or its scheme is not https; one of 16 MiB or
+   more may be refused too. Or a field is not within the texts; its name is empty, starts with a colon
    (as a pseudo-header field), has an upper-case letter or is no token; or its value has a control
    character other than a tab, such as CR, LF or NUL, or starts or ends with a space or a tab.
    WT_MEMORY. */

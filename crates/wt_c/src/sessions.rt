@@ -117,7 +117,7 @@ fn request_for(alloc: Global, url: &[u8]) -> Result<FieldList, Rejection>
 ///
 /// Returns `OK` with the size of the frame in `used`. Returns `BUFFER_TOO_SMALL` if `out` is
 /// shorter than that size, which `used` then is; `out` does not change. Returns `INVALID` if the
-/// URL is not one, its scheme is not `https`, or it has 2^24 bytes or more and is too long; or if a
+/// URL is not one or its scheme is not `https`, and perhaps for one of 2^24 bytes or more; or if a
 /// field is not within `texts`, its name is empty, starts with a colon, has an upper-case letter or
 /// is no token, or its value has a control character other than a tab, or starts or ends with a
 /// space or a tab. Returns `MEMORY` if allocation failed, which does not hide a fault of a field,

@@ -35,7 +35,7 @@ pub enum SendError {
 /// The reason no header map was read.
 #[derive(Debug, Drop, PartialEq, Eq, thiserror::Error)]
 pub enum ReceiveError {
-    /// No turn gave a frame: the source was not ready, or gave a part of an unknown frame.
+    /// No turn gave a frame: the source was not ready, or gave an unknown frame or a part of one.
     #[error("the source is not ready")]
     Waiting,
     /// The stream gives no frame.

@@ -8,8 +8,8 @@ ghost use Rattle.wtp_qpack.specs.FieldSection.{after_prefix, map_at, section_of}
 ghost use Rattle.wtp_qpack.specs.FieldLines.{octet_line_at, as_texts, AreOctetLines, AreUtf8Fields};
 
 /// A line of bytes is the line of texts, if its name and its value are UTF-8, and otherwise no
-/// valid one. A line that is cut or invalid as bytes is so as texts, with the same fault, unless
-/// its name, which is read first, is not UTF-8.
+/// valid one. A line that is cut or invalid as bytes is so as texts: with the same fault, or with
+/// `InvalidString`, as where its name, which is read first, is not UTF-8.
 pub fn lines_of_texts()
     ensures line { (bytes rest : List ℕ) (line : Field) → octet_line_at bytes ≡ Ok (line, rest)
         → line_at bytes ≡ as_texts (line, rest) }
@@ -19,7 +19,7 @@ pub fn lines_of_texts()
 
 /// The map of a section is the map of its lines, all of which are UTF-8. A section with a line that
 /// has a fault, or is not UTF-8, after lines that are UTF-8, has no map: its fault is that of the
-/// line.
+/// line as bytes, or `InvalidString`.
 pub fn maps_of_lines()
     ensures found { (section : List ℕ) (m : List Field) → map_at section ≡ Ok m
         → (lines : List ℕ) × (fields : List Field) × (after_prefix section ≡ Ok lines)

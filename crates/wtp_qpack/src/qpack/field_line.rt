@@ -233,7 +233,8 @@ fn read_as<'a>(
     }
 }
 
-/// Reads the line at the start. Its Huffman texts are all that `room` contains afterwards.
+/// Reads the line at the start. Its Huffman texts are decoded in `room`; what else that contains
+/// afterwards is unspecified.
 // Inlined with all that it calls, so that each caller's code knows its `texts`.
 #[inline(always)]
 pub fn read<'a>(
@@ -325,6 +326,8 @@ fn write_by(
 }
 
 /// Appends the line of a field.
+///
+/// Returns [`AllocError`] if allocation fails. The contents of `out` are then unspecified.
 #[tactic(auto, unfolding(crate::specs::FieldLine::encoded_line))]
 pub fn write(out: &mut Vec<u8>, name: &str, value: &str) -> Result<(), AllocError>
     ensures ok { OnOk result (out.new.items ≡ out.old.items ++ encoded_line (name.now, value.now)) }
@@ -341,6 +344,8 @@ pub fn write(out: &mut Vec<u8>, name: &str, value: &str) -> Result<(), AllocErro
 }
 
 /// Appends the line of a field whose name and value need not be UTF-8.
+///
+/// Returns [`AllocError`] if allocation fails. The contents of `out` are then unspecified.
 #[tactic(auto, unfolding(crate::specs::FieldLine::encoded_line))]
 pub fn write_octets(out: &mut Vec<u8>, name: &[u8], value: &[u8]) -> Result<(), AllocError>
     ensures { OnOk result (out.new.items ≡ out.old.items ++ encoded_line (name.now, value.now)) }

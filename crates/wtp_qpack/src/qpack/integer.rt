@@ -87,6 +87,8 @@ pub fn only_byte<const N: u32>(flags: u8, value: u64) -> u8
 
 /// Appends an integer: the flags above the low `N` bits of the first byte, and no unnecessary
 /// group.
+///
+/// Returns [`AllocError`] if allocation fails. The contents of `out` are then unspecified.
 pub fn write<const N: u32>(out: &mut Vec<u8>, flags: u8, value: u64) -> Result<(), AllocError>
     requires some { 1 ≤ N }
     requires few { N ≤ 8 }

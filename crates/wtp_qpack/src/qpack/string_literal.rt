@@ -107,7 +107,7 @@ pub fn has_flag<const N: u32>(bytes: &[u8]) -> bool
 
 /// Reads the string at the start, with its length in the low `N` bits of the first byte. Returns
 /// its text, or `None` if it was appended to `room`, and the bytes after it. The room allocates
-/// `capacity` bytes at once.
+/// `capacity` bytes at once. After an error its contents are unspecified.
 #[inline(always)]
 #[tactic(auto, unfolding(crate::specs::StringLiteral::string_in))]
 pub fn read<'a, const N: u32>(
@@ -151,6 +151,8 @@ fn shorter_len(text: &[u8]) -> Option<usize>
 
 /// Appends the length of a text and then the text, under the flags: in the Huffman code if that is
 /// strictly shorter.
+///
+/// Returns [`AllocError`] if allocation fails. The contents of `out` are then unspecified.
 pub fn write<const N: u32>(out: &mut Vec<u8>, flags: u8, text: &[u8]) -> Result<(), AllocError>
     requires some { 1 ≤ N }
     requires few { N ≤ 7 }
