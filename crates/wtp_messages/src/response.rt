@@ -30,8 +30,9 @@ pub struct Response {
     /// The status code: from 100 to 999, and not 101. One from 600 on is to be handled as 5xx (RFC
     /// 9110, section 15).
     pub status: u32,
-    /// The content that is to come. Of a 2xx response to a CONNECT request this is any number of
-    /// bytes, of a response without content it is none.
+    /// The content that is to come. Of an interim response, one with status 204 or 304, and one to
+    /// a HEAD request it is none. Of any other 2xx response to a CONNECT request it is any number of
+    /// bytes.
     pub content: Content,
 }
 
