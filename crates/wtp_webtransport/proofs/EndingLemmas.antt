@@ -4,7 +4,6 @@ use Rattle.wtp_core.specs.Varint.{number_at}
 use Rattle.wtp_core.specs.declared.error.scope.ErrorScope.{ErrorScope}
 use Rattle.wtp_core.specs.declared.error.scope.ErrorScope.TheVariants as scope
 use Rattle.wtp_qpack.specs.Field.{Field}
-use Rattle.wtp_frames.specs.declared.frame_type.FrameType.{FrameType}
 use Rattle.wtp_frames.specs.declared.frame_type.FrameType.TheVariants as kind
 use Rattle.wtp_frames.specs.Reading.{slice}
 use Rattle.wtp_connection.specs.declared.connection.Found.{Found}
@@ -40,14 +39,13 @@ use Rattle.wtp_webtransport.specs.declared.stream.Part.{Part}
 use Rattle.wtp_webtransport.specs.declared.stream.Part.TheVariants as part
 use Rattle.wtp_webtransport.specs.declared.stream.Unread.{Unread}
 use Rattle.wtp_webtransport.specs.declared.stream.Unread.TheVariants as unread
-use Rattle.wtp_webtransport.specs.declared.stream.Due.{Due}
 use Rattle.wtp_webtransport.specs.declared.stream.Due.TheVariants as due
 use Rattle.wtp_webtransport.specs.Events.{Told}
 use Rattle.wtp_webtransport.specs.Events as told
 use Rattle.wtp_webtransport.specs.Fault.{scope_of}
 use Rattle.wtp_webtransport.specs.Sessions.{asks_of}
-use Rattle.wtp_webtransport.specs.Streams.{Found as Capsules, after_end, after_error, head_if, with_streams, with_frames, with_message, is_held, spoiled_if, due_by, GivesNext, GivesCapsule}
-use Rattle.wtp_webtransport.specs.Receiving.{Outcome, closed_in, fails, last, goaway_in, in_stream, leaves, malformed, spoiled, found_opened, content_by, closed_if, complete, capsule_found, CapsulesGive, ContentBy, ContentGives, DataBy, DataGives, ends_by, SessionEndGives, Between, Within, EndBy, EndGives, too_large_by, too_large, interim_by, request_by, response_in, takes, taken_of, ReadGives, ResultGives, span_in, SectionBy, FoundGives, UnreadBy, GoesOn, DueGives, StreamGives, ReceivesIf, Receives}
+use Rattle.wtp_webtransport.specs.Streams.{Found as Capsules, after_end, after_error, head_if, with_streams, with_frames, with_message, is_held, spoiled_if, due_by, GivesNext}
+use Rattle.wtp_webtransport.specs.Receiving.{Outcome, closed_in, fails, last, goaway_in, in_stream, leaves, malformed, spoiled, found_opened, content_by, closed_if, complete, capsule_found, CapsulesGive, ContentBy, DataBy, ends_by, SessionEndGives, Between, Within, EndBy, too_large_by, interim_by, request_by, response_in, takes, taken_of, ResultGives, span_in, SectionBy, FoundGives, UnreadBy, GoesOn, DueGives, StreamGives, ReceivesIf, Receives}
 use Rattle.wtp_webtransport.specs.Endings.{begins_session, ends_session, Keeps, KeepsSession}
 
 -- ---- events that are neither

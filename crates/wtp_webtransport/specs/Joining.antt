@@ -1,6 +1,6 @@
 -- Streams of sessions, streams that end before their last byte, and datagrams (RFC 9114, sections
 -- 4.1.1 and 6.2.1; draft-ietf-webtrans-http3-02, section 4; RFC 9297, section 2).
-use Rattle.std.specs.Prelude.{◌≡◌, ℕ, if◌then◌else◌, Bool, true, false, List, Option, Some, None, Result, Ok, Err}
+use Rattle.std.specs.Prelude.{ℕ, if◌then◌else◌, Bool, true, false, List, Option, Some, None, Result, Ok, Err}
 use Rattle.wtp_core.specs.declared.error.scope.ErrorScope.{ErrorScope}
 use Rattle.wtp_core.specs.declared.error.scope.ErrorScope.TheVariants as scope
 use Rattle.wtp_connection.specs.declared.connection.Connection.{Connection as Streams}

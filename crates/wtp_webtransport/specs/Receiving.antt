@@ -1,11 +1,10 @@
 -- What one call of a connection gives: how many bytes are consumed, the event, and the connection
 -- and the stream after it (RFC 9114, sections 4.1, 4.1.2, 4.2.2, 4.4 and 8).
-use Rattle.std.specs.Prelude.{◌≡◌, ℕ, ◌+◌, ◌-◌, ◌<◌, ◌==◌, nat_lt, if◌then◌else◌, Bool, true, false, List, [], length, take, Option, Some, None, Result, Ok, Err}
+use Rattle.std.specs.Prelude.{◌≡◌, ℕ, ◌+◌, ◌-◌, ◌==◌, nat_lt, if◌then◌else◌, Bool, true, false, List, [], length, take, Option, Some, None, Result, Ok, Err}
 use Rattle.wtp_core.specs.Varint.{number_at}
 use Rattle.wtp_core.specs.declared.error.scope.ErrorScope.{ErrorScope}
 use Rattle.wtp_core.specs.declared.error.scope.ErrorScope.TheVariants as scope
 use Rattle.wtp_qpack.specs.Field.{Field}
-use Rattle.wtp_frames.specs.declared.frame_type.FrameType.{FrameType}
 use Rattle.wtp_frames.specs.declared.frame_type.FrameType.TheVariants as kind
 use Rattle.wtp_frames.specs.Reading.{slice}
 use Rattle.wtp_connection.specs.declared.connection.Connection.{Connection as Streams}
@@ -25,7 +24,7 @@ use Rattle.wtp_messages.specs.declared.message.Message.{Message}
 use Rattle.wtp_messages.specs.declared.message.Role.TheVariants as role
 use Rattle.wtp_messages.specs.declared.message.Section.{Section}
 use Rattle.wtp_messages.specs.declared.message.Section.TheVariants as section
-use Rattle.wtp_messages.specs.Content.{fits, left_after}
+use Rattle.wtp_messages.specs.Content.{left_after}
 use Rattle.wtp_messages.specs.Message.{SectionComes, end_of}
 use Rattle.wtp_messages.specs.Response.{is_success}
 use Rattle.wtp_messages.specs.declared.response.Asked.{Asked}

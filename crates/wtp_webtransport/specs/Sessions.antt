@@ -1,7 +1,7 @@
 -- Sessions: what the settings of both ends allow, what a request asks for, and what is known of a
 -- session (draft-ietf-webtrans-http3-02, sections 3.1, 3.3 and 4; RFC 9220, section 3; RFC 9297,
 -- sections 2 and 2.1).
-use Rattle.std.specs.Prelude.{ℕ, nat_lt, ◌&&◌, ◌||◌, not, Bool, true, false, List, Option, Some, None}
+use Rattle.std.specs.Prelude.{nat_lt, ◌&&◌, ◌||◌, Bool, true, false, List, Option, Some, None}
 use Rattle.wtp_qpack.specs.Field.{Field}
 use Rattle.wtp_frames.specs.declared.endpoint.Side.{Side}
 use Rattle.wtp_frames.specs.declared.endpoint.Side.TheVariants.{Client, Server}

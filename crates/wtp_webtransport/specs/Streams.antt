@@ -1,6 +1,6 @@
 -- Connections, streams and their messages (RFC 9114, sections 4.1, 4.4 and 6;
 -- draft-ietf-webtrans-http3-02, sections 4 and 5).
-use Rattle.std.specs.Prelude.{◌≡◌, ℕ, nat_le, nat_lt, ◌&&◌, ◌||◌, not, if◌then◌else◌, Bool, true, false, List, [], Option, Some, None, Result, Ok, Err}
+use Rattle.std.specs.Prelude.{◌≡◌, ℕ, nat_le, nat_lt, ◌||◌, not, if◌then◌else◌, Bool, true, false, List, [], Option, Some, None, Result, Err}
 use Rattle.wtp_frames.specs.declared.endpoint.Endpoint.{Endpoint}
 use Rattle.wtp_frames.specs.declared.endpoint.Side.{Side}
 use Rattle.wtp_frames.specs.declared.endpoint.Side.TheVariants.{Client}
