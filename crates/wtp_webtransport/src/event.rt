@@ -62,8 +62,8 @@ pub enum Event<'a> {
     /// The peer closed the session whose own stream this is. The streams of the session are to be
     /// reset and stopped, and the own half of this one is to be ended.
     SessionClosed(Close),
-    /// The session whose own stream this is ended otherwise: by a reset or an error of this stream.
-    /// It follows `StreamError`. The streams of the session are to be reset and stopped.
+    /// The session whose own stream this is ended otherwise: by a reset of this stream, or by an
+    /// error of it, after `StreamError`. The streams of the session are to be reset and stopped.
     SessionLost,
     /// The bytes had nothing for the application.
     Skipped,
@@ -89,7 +89,7 @@ pub enum Event<'a> {
     Reset(Option<Fault>),
     /// The stream ended, without an error.
     End,
-    /// Allocation failed. The call can be repeated.
+    /// Allocation failed. The call can be repeated, with the bytes that were not consumed.
     NoMemory,
     /// The bytes that are left wait.
     Waits(Waits),
