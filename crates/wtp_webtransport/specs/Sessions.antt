@@ -73,7 +73,7 @@ message_at_server (Some h) = known.Refused
 abbrev pub message_at_client : Option Asked → Known
 message_at_client None = known.Impossible
 message_at_client (Some asked.Session) = known.Refused
-message_at_client (Some other) = known.Other
+message_at_client (Some _) = known.Other
 
 abbrev pub known_at_message : Side → Stream → Known
 known_at_message Server s = message_at_server s.capsules
