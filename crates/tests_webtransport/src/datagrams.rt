@@ -117,7 +117,7 @@ fn datagrams_have_a_session_and_a_payload(rt: HostRuntime) {
     assert!(rt; came, "a quarter of 4, and a payload");
     let empty = matches!(connection.datagram(b"\x40\x40"), Ok(Some((256, b""))));
     assert!(rt; empty, "a quarter of 256, and no payload");
-    let off = matches!(server(true).datagram(b"\x01ab"), Ok(None));
+    let off = matches!(server(false).datagram(b"\x01ab"), Ok(None));
     assert!(rt; off, "the own SETTINGS do not enable datagrams");
 }
 

@@ -46,6 +46,7 @@ pub(crate) fn configure(connection: &mut Connection, fields: &mut Fields) {
 pub(crate) fn server(webtransport: bool) -> Connection {
     let mut endpoint = Endpoint::new(Side::Server);
     endpoint.webtransport = webtransport;
+    endpoint.datagrams = webtransport;
     Connection::new(endpoint, true)
 }
 
@@ -113,6 +114,11 @@ impl Player {
                 write!(self.text, "session closed {code} {reason}; ")
             }
             Event::SessionLost => write!(self.text, "session lost; "),
+            Event::Datagram(payload) => {
+                let text = str::from_utf8(payload.as_slice()).unwrap_or("not UTF-8");
+                write!(self.text, "datagram {text}; ")
+            }
+            Event::Draining => write!(self.text, "draining; "),
             Event::Waits(Waits::Settings) => write!(self.text, "waits for settings; "),
             Event::TooLarge(_) => write!(self.text, "too large; "),
             Event::Malformed(rule) => write!(self.text, "malformed: {rule}; "),

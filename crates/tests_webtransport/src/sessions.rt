@@ -7,7 +7,7 @@ use wtp_connection::connection::Known;
 use wtp_frames::endpoint::{Endpoint, Side};
 use wtp_messages::response::Asked;
 use wtp_webtransport::connection::Connection;
-use wtp_webtransport::event::{Event, Waits};
+use wtp_webtransport::event::{Event, HeadersKind, Waits};
 use wtp_webtransport::fields::Fields;
 use wtp_webtransport::stream::Stream;
 
@@ -19,7 +19,7 @@ pub(crate) static REQUEST: [u8; 34] = [
 ];
 
 /// Requests for a session, and what follows on their streams.
-static SESSIONS: [Row; 15] = [
+static SESSIONS: [Row; 16] = [
     // the stream ends
     Row {
         case: Case::Session(200),
@@ -135,6 +135,16 @@ static SESSIONS: [Row; 15] = [
         ],
         events: "session requested 5; connection error 261; ",
     },
+    // the head of HEADERS in an open session
+    Row {
+        case: Case::Session(200),
+        bytes: &[
+            0x01, 0x20, 0x00, 0x00, 0xcf, 0xd7, 0xc1, 0x50, 0x01, 0x61, 0x27, 0x02, 0x3a, 0x70,
+            0x72, 0x6f, 0x74, 0x6f, 0x63, 0x6f, 0x6c, 0x0c, 0x77, 0x65, 0x62, 0x74, 0x72, 0x61,
+            0x6e, 0x73, 0x70, 0x6f, 0x72, 0x74, 0x01, 0x06,
+        ],
+        events: "session requested 5; connection error 261; ",
+    },
     // a session that is refused
     Row {
         case: Case::Session(404),
@@ -193,7 +203,7 @@ static SESSIONS: [Row; 15] = [
 ];
 
 /// Responses to a request for a session.
-static RESPONSES: [Row; 5] = [
+static RESPONSES: [Row; 6] = [
     // accepted
     Row {
         case: Case::Response(Asked::Session),
@@ -202,6 +212,12 @@ static RESPONSES: [Row; 5] = [
             0x61, 0x62,
         ],
         events: "session ready 200; session closed 1 ab; end; ",
+    },
+    // the head of PUSH_PROMISE in a session
+    Row {
+        case: Case::Response(Asked::Session),
+        bytes: &[0x01, 0x03, 0x00, 0x00, 0xd9, 0x05, 0x03],
+        events: "session ready 200; connection error 261; ",
     },
     // refused
     Row {
@@ -241,6 +257,24 @@ fn responses_to_sessions(rt: HostRuntime) {
     for row in &RESPONSES {
         check(&rt, rt.alloc(), row);
     }
+}
+
+#[test]
+fn sessions_need_datagrams_of_both_ends(rt: HostRuntime) {
+    let mut endpoint = Endpoint::new(Side::Server);
+    endpoint.webtransport = true;
+    let mut connection = Connection::new(endpoint, true);
+    let mut fields = Fields::new(rt.alloc(), 1000);
+    configure(&mut connection, &mut fields);
+    assert!(rt; !connection.allows_sessions(), "the own SETTINGS do not enable datagrams");
+    let mut stream = connection.accept(0);
+    connection.receive(&mut stream, REQUEST.as_slice(), false, &mut fields);
+    let received = connection.receive(&mut stream, REQUEST.as_slice(), false, &mut fields);
+    let is_request = matches!(received.event, Event::Headers(HeadersKind::Request, _));
+    assert!(rt; is_request, "it is a request as any other");
+    let mut connection = server(true);
+    configure(&mut connection, &mut fields);
+    assert!(rt; connection.allows_sessions(), "both ends enable sessions");
 }
 
 /// Returns the name of what is known of a session.
