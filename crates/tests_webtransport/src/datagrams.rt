@@ -1,7 +1,7 @@
 //! Datagrams of a connection (RFC 9297, sections 2 and 2.1), and own streams that the peer asks to stop
 //! (RFC 9114, section 6.2.1; RFC 9204, section 4.2).
-use crate::playing::{configure, server};
-use crate::sessions::{REQUEST, assert_known};
+use crate::playing::{REQUEST, configure, server};
+use crate::sessions::assert_known;
 use std::process::Abort;
 use wtp_connection::connection::datagrams::DatagramFor;
 use wtp_connection::stream::Purpose;

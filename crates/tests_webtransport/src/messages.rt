@@ -287,7 +287,8 @@ static RESPONSES: [Row; 8] = [
 
 /// Compares the events of a row with those wanted, however its bytes are cut.
 pub(crate) fn check<R: Abort>(rt: &R, alloc: Global, row: &Row) {
-    for size in 1..row.bytes.len().saturating_add(2) {
+    let len = row.case.prefix().len().saturating_add(row.bytes.len());
+    for size in 1..len.saturating_add(2) {
         let Ok(events) = play(alloc, row.case, row.bytes, size) else {
             continue;
         };

@@ -107,7 +107,7 @@ head_found h a g l rest b n v more none same less parts e =
     let whole : (g ++ b ∷ []) ++ rest ≡ h ++ a =
     append_assoc g (b ∷ []) rest ∙ ap (λ (x : List ℕ). g ++ x) (sym parts) ∙ same in (
       ap pair_at (sym whole)
-      ∙ pair_at-more (g ++ b ∷ []) more rest n v e
-      ∙ ap (λ (x : List ℕ). Some ((n, v), x ++ rest)) last,
+          ∙ pair_at-more (g ++ b ∷ []) more rest n v e
+          ∙ ap (λ (x : List ℕ). Some ((n, v), x ++ rest)) last,
       omega (arith, ap length parts, less),
     )

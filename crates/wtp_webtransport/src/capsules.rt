@@ -104,10 +104,7 @@ impl Capsules {
 
     // Takes bytes up to the end of one capsule, and returns it if it means something. With
     // `CapsuleError::Memory` nothing is lost: the next call goes on with the bytes that are left.
-    pub(crate) fn next(
-        &mut self,
-        bytes: &mut &[u8],
-    ) -> Result<Option<SessionCapsule>, CapsuleError>
+    pub(crate) fn next(&mut self, bytes: &mut &[u8]) -> Result<Option<SessionCapsule>, CapsuleError>
         ensures { CapsuleIs result self.old bytes.old.now self.new bytes.new.now }
     {
         match self.begun {
