@@ -219,6 +219,18 @@ fn streams_whose_session_cannot_come_have_codes(rt: HostRuntime) {
         "a stream that names itself: {code}"
     );
     let mut connection = enabling(Side::Server);
+    let mut gone = connection.accept(0);
+    connection.receive(&mut gone, b"\x40\x41\x08".as_slice(), true, &mut fields);
+    connection.join(&mut gone, Known::Refused);
+    let mut late = connection.accept(4);
+    connection.receive(&mut late, b"\x40\x41\x00".as_slice(), false, &mut fields);
+    let known = connection.known(&gone);
+    let (code, ends) = error_of(connection.join(&mut late, known));
+    assert!(rt;
+        code == 0x0108 && ends,
+        "a stream of a session that is over: {code}"
+    );
+    let mut connection = enabling(Side::Server);
     let mut foreign = connection.accept(4);
     let bytes = b"\x40\x41\x02".as_slice();
     let (code, ends) = error_of(
