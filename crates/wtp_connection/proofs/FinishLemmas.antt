@@ -45,6 +45,7 @@ pub found_open : (x : Found) (c : Connection) (s : Stream) (bytes : List ℕ) (f
 found_open x c s bytes fin d t e h = record {
   fits = h.fits;
   finds = λ more. rw e (h.finds more);
+  goes = λ l. h.finds;
   settled = λ is. absurd (cc (sym e ∙ is));
 }
 
@@ -53,6 +54,7 @@ pub found_before : (x : Found) (c : Connection) (s : Stream) (bytes : List ℕ) 
 found_before x c s bytes fin d t e none h = record {
   fits = h.fits;
   finds = λ more. rw e (ended_finds x c s bytes d t h);
+  goes = λ l. h.finds;
   settled = λ is. settled_none x bytes d t none;
 }
 
@@ -80,6 +82,7 @@ stays_found : (n : ℕ) (c : Connection) (s : Stream) (bytes : List ℕ) (fin : 
 stays_found n c s bytes fin d t e h is = record {
   fits = h.fits;
   finds = λ more. rw e (ended_finds (found.More n) c s bytes d t h);
+  goes = λ l. h.finds;
   settled = λ x. is;
 }
 
@@ -91,6 +94,7 @@ end_found n c s bytes fin d t (Ok u) e h is = record {
       ended_finds (found.More n) c s bytes d t h
       ∙ is
       ∙ ap (λ (y : StreamRun). followed (Ended ∷ []) y) (sym (ended_over d)));
+  goes = λ l. absurd l;
   settled = λ x. tt;
 }
 end_found n c s bytes fin d t (Err f) e h is = record {
@@ -99,6 +103,7 @@ end_found n c s bytes fin d t (Err f) e h is = record {
       ended_finds (found.More n) c s bytes d t h
       ∙ is
       ∙ ap (λ (y : StreamRun). followed (Broke (fault.Stream f) ∷ []) y) (sym (ended_over (closed_by d (fault.Stream f)))));
+  goes = λ l. absurd l;
   settled = λ x. tt;
 }
 

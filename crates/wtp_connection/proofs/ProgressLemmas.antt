@@ -1,5 +1,5 @@
 -- How many calls a stream takes.
-use Rattle.std.proofs.Common.{◌≡◌, ℕ, suc, ◌+◌, ◌-◌, ◌<◌, ◌≤◌, Bool, List, [], ◌∷◌, length, drop, Result, Ok, Err, sym, subst, arith, length-drop}
+use Rattle.std.proofs.Common.{◌≡◌, ℕ, ◌+◌, ◌<◌, ◌≤◌, Bool, List, [], ◌∷◌, length, drop, Result, Ok, Err, sym, subst, arith, length-drop}
 use Rattle.wtp_frames.specs.declared.frame_type.FrameType.{FrameType}
 use Rattle.wtp_frames.specs.declared.frame_type.FrameType.TheVariants as kind
 use Rattle.wtp_frames.specs.declared.reader.Reader.{Reader}

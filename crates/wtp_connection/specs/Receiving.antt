@@ -111,17 +111,26 @@ abbrev pub all_found : Bool → Connection → Stream → List ℕ → List ℕ 
 all_found fin c s bytes more =
     if fin then ended (run_stream c s bytes) else run_stream c s (bytes ++ more)
 
+-- it is neither an error nor the end
+abbrev pub LeavesOpen : Found → Type 0
+LeavesOpen (found.Fault f) = ⊥
+LeavesOpen found.End = ⊥
+LeavesOpen other = Unit {0}
+
 -- nothing is found at the end either
 abbrev pub Settled : Found → List ℕ → Connection → Stream → Type 0
 Settled (found.More n) bytes d t =
     ended (run_stream d t (drop n bytes)) ≡ rests d t (drop n bytes)
 Settled other bytes d t = Unit {0}
 
+-- Whether the stream ends after these bytes or goes on: its state after an error and after the end is
+-- that of a stream that is over, and after anything else the one in which it goes on.
 pub record FoundIs (x : Found) (c : Connection) (s : Stream) (bytes : List ℕ) (fin : Bool)
     (d : Connection) (t : Stream) : Type 0 where
   pub fits : Fits x bytes d t
   pub finds : (more : List ℕ) → all_found fin c s bytes more
       ≡ followed (seen_of x bytes) (all_found fin d t (rest_after x bytes) more)
+  pub goes : LeavesOpen x → Finds c s bytes (seen_of x bytes) d t (rest_after x bytes)
   pub settled : fin ≡ true → Settled x bytes d t
 
 -- ---- how many calls a stream takes
