@@ -15,15 +15,15 @@ use Rattle.wtp_connection.specs.declared.fault.Fault.TheVariants as fault
 use Rattle.wtp_connection.specs.declared.settings.PeerSettings.{PeerSettings}
 use Rattle.wtp_connection.specs.declared.stream.Purpose.{Purpose}
 use Rattle.wtp_connection.specs.declared.stream.Stream.{Stream}
-use Rattle.wtp_connection.specs.declared.stream.Stream.TheVariants.{Uni, Bi, Frames, Joining, Waiting, Decoder, Over}
+use Rattle.wtp_connection.specs.declared.stream.Stream.TheVariants.{Uni, Bi, Frames, Joining, Waiting, Decoder, Incomplete, Over}
 use Rattle.wtp_connection.specs.declared.instructions.DecoderPlace.{DecoderPlace}
 use Rattle.wtp_connection.specs.declared.connection.Connection.{Connection}
 use Rattle.wtp_connection.specs.declared.connection.Found.{Found}
 use Rattle.wtp_connection.specs.declared.connection.Found.TheVariants as found
 use Rattle.wtp_connection.specs.Settings.{settings_in}
 use Rattle.wtp_connection.specs.Instructions.{sets_zero}
-use Rattle.wtp_connection.specs.Opening.{uni_at, bi_at}
-use Rattle.wtp_connection.specs.Streams.{Seen, Opened, Configured, Gave, Broke, Ended, StreamRun, rests, followed, bytes_seen, run_stream, ended, closed_by, end_of}
+use Rattle.wtp_connection.specs.Opening.{uni_at, bi_at, over_by}
+use Rattle.wtp_connection.specs.Streams.{Seen, Opened, Configured, Gave, Broke, Ended, StreamRun, rests, followed, bytes_seen, run_stream, ended, configured, closed_by, end_of}
 
 -- ---- a stream whose purpose is not known yet
 
@@ -139,6 +139,7 @@ pub record FoundIs (x : Found) (c : Connection) (s : Stream) (bytes : List ℕ) 
 abbrev pub free_calls : Stream → ℕ
 free_calls Uni = 2
 free_calls Bi = 2
+free_calls Incomplete = 0
 free_calls Over = 0
 free_calls other = 1
 
@@ -182,7 +183,7 @@ abbrev pub fails : Connection → Fault → Outcome
 fails c f = (found.Fault f, closed_by c f, Over)
 
 abbrev pub settings_found : Connection → Stream → ℕ → ℕ → Result PeerSettings Fault → Outcome
-settings_found c s start end (Ok v) = (found.Settings v start end, record c { peer = v }, s)
+settings_found c s start end (Ok v) = (found.Settings v start end, configured c v, s)
 settings_found c s start end (Err f) = fails c f
 
 abbrev pub frame_found : Connection → Stream → FrameType → ℕ → ℕ → List ℕ → Outcome
@@ -228,19 +229,21 @@ abbrev pub more_in : Found → Option ℕ
 more_in (found.More n) = Some n
 more_in other = None
 
--- ---- the end of a stream that is idle, with so many bytes left over after those consumed
+-- ---- the end of a stream that is idle, with these bytes left over after those consumed
 
 abbrev pub finish_by : Connection → Result (Unit {0}) StreamFault → Outcome
 finish_by c (Ok u) = (found.End, c, Over)
-finish_by c (Err f) = fails c (fault.Stream f)
+finish_by c (Err f) =
+    (found.Fault (fault.Stream f), closed_by c (fault.Stream f), over_by f)
 
-abbrev pub finish_open : Connection → Stream → ℕ → ℕ → Outcome
+abbrev pub finish_open : Connection → Stream → List ℕ → ℕ → Outcome
 finish_open c (Joining s) left consumed = (found.More consumed, c, Joining s)
 finish_open c (Waiting s) left consumed = (found.More consumed, c, Waiting s)
+finish_open c Incomplete left consumed = (found.More consumed, c, Incomplete)
 finish_open c Over left consumed = (found.More consumed, c, Over)
 finish_open c other left consumed = finish_by c (end_of c other left)
 
-abbrev pub finish_of : Connection → Stream → ℕ → ℕ → Outcome
+abbrev pub finish_of : Connection → Stream → List ℕ → ℕ → Outcome
 finish_of c s left consumed =
     if c.over
     then (found.More consumed, c, s)

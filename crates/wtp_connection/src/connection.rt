@@ -1,6 +1,6 @@
 //! What the streams of a connection have in common. It holds no bytes and no table of streams.
 ghost use Rattle.std.specs.Prelude.{◌≡◌, ◌≤◌, ◌||◌, length, drop, true, false, None, Some, MatchOption, IfSome, IfErr};
-ghost use Rattle.wtp_connection.specs.Streams.{connection_of, opens, opening_result, closed_by, accepts, no_number as no_number_is};
+ghost use Rattle.wtp_connection.specs.Streams.{connection_of, opens, opening_result, closed_by, accepts};
 ghost use Rattle.wtp_connection.specs.Receiving.{FoundIs, StepIsFound, IsNearer, IsFirst, IsInside, opening_of, has_frame, step_found, encoder_found, decoder_found, fails, more_in, finish_of};
 
 pub mod datagrams;
@@ -11,7 +11,7 @@ use crate::fields::Fields;
 use crate::instructions::{DecoderPlace, sets_nothing};
 use crate::requests::Begun;
 use crate::settings::PeerSettings;
-use crate::stream::{Purpose, Stream, bi_opening, uni_opening};
+use crate::stream::{Purpose, Stream, bi_opening, uni_opening, unopened_end};
 use wtp_core::error::ErrorScope;
 use wtp_frames::endpoint::{Endpoint, Side};
 use wtp_frames::fault::Fault as StreamFault;
@@ -135,7 +135,7 @@ impl Connection {
         let found = self.step(stream, bytes);
         if fin {
             return match consumed_by_more(found) {
-                Some(n) => self.finish(stream, bytes.len() - n, n),
+                Some(n) => self.finish(stream, bytes.split_at(n).1, n),
                 None => found,
             };
         }
@@ -179,7 +179,7 @@ impl Connection {
                 let next = place.after(bytes);
                 self.go_on(stream, next, bytes.len())
             }
-            Stream::Ignored | Stream::Over => Found::More(bytes.len()),
+            Stream::Ignored | Stream::Incomplete | Stream::Over => Found::More(bytes.len()),
         }
     }
 
@@ -318,25 +318,19 @@ impl Connection {
         }
     }
 
-    // Returns what the end of a stream is, with `left` bytes left over after `consumed`.
-    fn finish(&mut self, stream: &mut Stream, left: usize, consumed: usize) -> Found
-        ensures { (result, self.new, stream.new) ≡ finish_of self.old stream.old left consumed }
+    // Returns what the end of a stream is, with these bytes left over after `consumed`.
+    fn finish(&mut self, stream: &mut Stream, left: &[u8], consumed: usize) -> Found
+        ensures { (result, self.new, stream.new) ≡ finish_of self.old stream.old left.now consumed }
     {
         if self.over {
             return Found::More(consumed);
         }
         let end = match stream {
-            Stream::Joining(_) | Stream::Waiting(_) | Stream::Over => {
+            Stream::Joining(_) | Stream::Waiting(_) | Stream::Incomplete | Stream::Over => {
                 return Found::More(consumed);
             }
-            Stream::Bi => {
-                if left > 0 {
-                    Err(StreamFault::Frame)
-                } else {
-                    Err(no_number(self.endpoint.side))
-                }
-            }
-            Stream::Frames(reader, _) => reader.finish(left),
+            Stream::Bi => Err(unopened_end(self.endpoint.side, left)),
+            Stream::Frames(reader, _) => reader.finish(left.len()),
             Stream::Encoder | Stream::Decoder(_) => Err(StreamFault::ClosedCriticalStream),
             Stream::Uni | Stream::Session(_) | Stream::Ignored => Ok(()),
         };
@@ -345,7 +339,11 @@ impl Connection {
                 *stream = Stream::Over;
                 Found::End
             }
-            Err(fault) => self.fail(stream, Fault::Stream(fault)),
+            Err(fault) => {
+                self.close(Fault::Stream(fault));
+                *stream = Stream::ended_by(fault);
+                Found::Fault(Fault::Stream(fault))
+            }
         }
     }
 
@@ -362,16 +360,6 @@ impl Connection {
         ensures { result ≡ self.now.waiting }
     {
         self.waiting
-    }
-}
-
-// Returns the error of a bidirectional stream that ends before its first number.
-fn no_number(side: Side) -> StreamFault
-    ensures { result ≡ no_number_is side }
-{
-    match side {
-        Side::Client => StreamFault::StreamCreation,
-        Side::Server => StreamFault::RequestIncomplete,
     }
 }
 

@@ -20,7 +20,7 @@ ghost use Rattle.wtp_connection.specs.declared.fault.Fault.TheVariants as fault;
 ghost use Rattle.wtp_connection.specs.declared.settings.PeerSettings.{PeerSettings};
 ghost use Rattle.wtp_connection.specs.declared.stream.Purpose.TheVariants as «for»;
 ghost use Rattle.wtp_connection.specs.declared.stream.Stream.TheVariants.{Uni, Frames, Over};
-ghost use Rattle.wtp_connection.specs.Streams.{connection_of, with_control, with_settings, closed_by, Opened, Configured, Broke, followed, all_given, run_stream, FindsInterim, accepted_all, known_alone, over_if};
+ghost use Rattle.wtp_connection.specs.Streams.{with_control, configured, closed_by, Opened, Configured, Broke, followed, all_given, run_stream, FindsInterim, accepted_all, known_alone, over_if};
 ghost use Rattle.wtp_connection.specs.declared.connection.Found.{Found};
 ghost use Rattle.wtp_connection.specs.declared.stream.Stream.{Stream};
 ghost use Rattle.wtp_connection.specs.Receiving.{AreReturned};
@@ -49,20 +49,23 @@ pub fn invalid_settings_are_reported()
         → is_refused ps id value ≡ true → settings_in (front ++ (s ++ more)) ≡ Err fault.Settings }
 {}
 
-/// A control stream that begins with SETTINGS gives what they define, and the connection has it from
-/// then on. If they are not valid the stream gives their error, and nothing after it.
+/// A control stream that begins with SETTINGS gives what they define, whatever came before on other
+/// streams, and the connection has it from then on. If they are not valid the stream gives their error,
+/// and nothing after it.
 pub fn settings_are_found()
-    ensures values { (e : Endpoint) (t more : List ℕ) (f : Frame) (v : PeerSettings)
+    ensures values { (c : Connection) (t more : List ℕ) (f : Frame) (v : PeerSettings)
+        → c.over ≡ false → c.control ≡ false
         → Encodes 0x00 t → IsFrame 0x04 f → length f.payload ≤ 4096 → settings_in f.payload ≡ Ok v
         → (streamed : Bool) × (idle : ℕ)
-        × (run_stream (connection_of e) Uni (t ++ (written f ++ more))
+        × (run_stream c Uni (t ++ (written f ++ more))
         ≡ followed (Opened «for».Control ∷ Configured v f.payload ∷ [])
-        (run_stream (with_settings e v)
-        (Frames (between e 0 (AfterSettings None None) streamed idle) true) more)) }
-    ensures fault { (e : Endpoint) (t more : List ℕ) (f : Frame) (x : Fault)
+        (run_stream (configured (with_control c) v)
+        (Frames (between c.endpoint 0 (AfterSettings None None) streamed idle) true) more)) }
+    ensures fault { (c : Connection) (t more : List ℕ) (f : Frame) (x : Fault)
+        → c.over ≡ false → c.control ≡ false
         → Encodes 0x00 t → IsFrame 0x04 f → length f.payload ≤ 4096 → settings_in f.payload ≡ Err x
-        → run_stream (connection_of e) Uni (t ++ (written f ++ more))
-        ≡ all_given (closed_by (with_control e) x) Over (Opened «for».Control ∷ Broke x ∷ []) }
+        → run_stream c Uni (t ++ (written f ++ more))
+        ≡ all_given (closed_by (with_control c) x) Over (Opened «for».Control ∷ Broke x ∷ []) }
 {}
 
 /// An interim response gives its section, and once the caller says what it is the stream is before the
