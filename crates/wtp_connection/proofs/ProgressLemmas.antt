@@ -1,8 +1,8 @@
 -- How many calls a stream takes.
-use Rattle.std.proofs.Common.{◌≡◌, ℕ, suc, ◌+◌, ◌-◌, ◌<◌, ◌≤◌, Bool, true, false, cond, List, [], ◌∷◌, length, drop, Some, None, Result, Ok, Err, sym, subst, arith, length-drop}
+use Rattle.std.proofs.Common.{◌≡◌, ℕ, ◌+◌, ◌<◌, ◌≤◌, Bool, true, false, cond, List, [], ◌∷◌, length, drop, Some, Result, Ok, Err, sym, subst, arith, length-drop}
 use Rattle.wtp_frames.specs.declared.fault.Fault.{Fault as StreamFault}
 use Rattle.wtp_frames.specs.declared.frame_type.FrameType.{FrameType}
-use Rattle.wtp_connection.specs.Streams.{end_of}
+use Rattle.wtp_connection.specs.Streams.{end_of, received_settings}
 use Rattle.wtp_frames.specs.declared.frame_type.FrameType.TheVariants as kind
 use Rattle.wtp_frames.specs.declared.reader.Reader.{Reader}
 use Rattle.wtp_frames.specs.declared.reader.Step.{Step}
@@ -15,7 +15,6 @@ use Rattle.wtp_connection.specs.declared.stream.Stream.TheVariants.{Uni, Bi, Fra
 use Rattle.wtp_connection.specs.declared.connection.Connection.{Connection}
 use Rattle.wtp_connection.specs.declared.connection.Found.{Found}
 use Rattle.wtp_connection.specs.declared.connection.Found.TheVariants as found
-use Rattle.wtp_connection.specs.Settings.{settings_in}
 use Rattle.wtp_connection.specs.Receiving.{free_calls, calls_left, IsNearer, IsGoing, AreReturned, Outcome, settings_found, frame_found, step_found, rest_after, more_in, finish_by, finish_open, finish_of}
 
 abbrev Nears : Outcome → Stream → List ℕ → Type 0
@@ -29,7 +28,7 @@ settings_nearer (Ok v) start end c old new g h bytes some within = shorter end b
 settings_nearer (Err f) start end c old new g h bytes some within = tt
 
 frame_nearer : (k : FrameType) (start end : ℕ) (c : Connection) (old new : Reader) (g h : Bool) (bytes : List ℕ) → 0 < end → end ≤ length bytes → Nears (frame_found c (Frames new h) k start end (slice start end bytes)) (Frames old g) bytes
-frame_nearer kind.Settings start end c old new g h bytes some within = settings_nearer (settings_in (slice start end bytes)) start end c old new g h bytes some within
+frame_nearer kind.Settings start end c old new g h bytes some within = settings_nearer (received_settings c (slice start end bytes)) start end c old new g h bytes some within
 frame_nearer other start end c old new g h bytes some within = shorter end bytes some within
 
 step_nearer : (x : Step) (c : Connection) (old new : Reader) (g h : Bool) (bytes : List ℕ) → StepIs x old bytes new → Nears (step_found c (Frames new h) x bytes) (Frames old g) bytes

@@ -1,5 +1,5 @@
 -- A control stream up to the end of SETTINGS.
-use Rattle.std.proofs.Common.{◌≡◌, ℕ, ◌≤◌, Bool, true, false, List, [], ◌∷◌, ◌++◌, length, Option, None, Result, Ok, Err, refl, sym, ap, ◌∙◌, append-nil}
+use Rattle.std.proofs.Common.{◌≡◌, ℕ, ◌≤◌, Bool, true, false, List, [], ◌∷◌, ◌++◌, length, Option, None, Result, Ok, Err, sym, ap, ◌∙◌, append-nil}
 use Rattle.wtp_core.specs.Varint.{Encodes}
 use Rattle.wtp_core.proofs.EncodingLemmas.{number_at-encoding}
 use Rattle.wtp_frames.specs.declared.endpoint.Endpoint.{Endpoint}
@@ -15,9 +15,8 @@ use Rattle.wtp_connection.specs.declared.settings.PeerSettings.{PeerSettings}
 use Rattle.wtp_connection.specs.declared.stream.Purpose.TheVariants as «for»
 use Rattle.wtp_connection.specs.declared.stream.Stream.TheVariants.{Uni, Frames, Over}
 use Rattle.wtp_connection.specs.declared.connection.Connection.{Connection}
-use Rattle.wtp_connection.specs.Settings.{settings_in}
 use Rattle.wtp_connection.specs.Opening.{uni_by, uni_at}
-use Rattle.wtp_connection.specs.Streams.{with_control, configured, opens_once, closed_by, Opened, Configured, Broke, StreamRun, rests, followed, all_given, by_settings, of_items, has_frames, of_frames, by_purpose, by_opening, run_stream}
+use Rattle.wtp_connection.specs.Streams.{with_control, configured, received_settings, opens_once, closed_by, Opened, Configured, Broke, StreamRun, rests, followed, all_given, by_settings, of_items, has_frames, of_frames, by_purpose, by_opening, run_stream}
 use Rattle.wtp_connection.proofs.StreamLemmas.{intact_run, or_true, frames_run}
 
 -- the stream is a control stream
@@ -47,7 +46,7 @@ starts e f more frame size =
 abbrev then_items : Run → Connection → StreamRun
 then_items y d = of_items d (λ k. rests k (Frames y.reader true) y.left) y.items
 
-settings_start : (c : Connection) (t more : List ℕ) (f : Frame) (r : Result PeerSettings Fault) (s : Starts c.endpoint f more) → c.over ≡ false → c.control ≡ false → Encodes 0x00 t → settings_in f.payload ≡ r → run_stream c Uni (t ++ (written f ++ more)) ≡ followed (Opened «for».Control ∷ []) (by_settings (with_control c) f.payload (then_items (run (between c.endpoint 0 (AfterSettings None None) s.streamed s.idle) more)) r)
+settings_start : (c : Connection) (t more : List ℕ) (f : Frame) (r : Result PeerSettings Fault) (s : Starts c.endpoint f more) → c.over ≡ false → c.control ≡ false → Encodes 0x00 t → received_settings c f.payload ≡ r → run_stream c Uni (t ++ (written f ++ more)) ≡ followed (Opened «for».Control ∷ []) (by_settings (with_control c) f.payload (then_items (run (between c.endpoint 0 (AfterSettings None None) s.streamed s.idle) more)) r)
 settings_start c t more f r s over none h is =
     control_run c t (written f ++ more) over none h
     ∙ ap (λ (y : Run). followed (Opened «for».Control ∷ []) (of_frames (with_control c) false y)) s.is
@@ -60,7 +59,7 @@ goes_on d e streamed idle more over =
     ap (λ (b : Bool). of_items d (λ k. rests k (Frames y.reader b) y.left) y.items) (or_true (has_frames y.items))
     ∙ sym (frames_run d (between e 0 (AfterSettings None None) streamed idle) true more over)
 
-pub settings_found : (c : Connection) (t more : List ℕ) (f : Frame) (v : PeerSettings) → c.over ≡ false → c.control ≡ false → Encodes 0x00 t → IsFrame 0x04 f → length f.payload ≤ 4096 → settings_in f.payload ≡ Ok v → (streamed : Bool) × (idle : ℕ) × (run_stream c Uni (t ++ (written f ++ more)) ≡ followed (Opened «for».Control ∷ Configured v f.payload ∷ []) (run_stream (configured (with_control c) v) (Frames (between c.endpoint 0 (AfterSettings None None) streamed idle) true) more))
+pub settings_found : (c : Connection) (t more : List ℕ) (f : Frame) (v : PeerSettings) → c.over ≡ false → c.control ≡ false → Encodes 0x00 t → IsFrame 0x04 f → length f.payload ≤ 4096 → received_settings c f.payload ≡ Ok v → (streamed : Bool) × (idle : ℕ) × (run_stream c Uni (t ++ (written f ++ more)) ≡ followed (Opened «for».Control ∷ Configured v f.payload ∷ []) (run_stream (configured (with_control c) v) (Frames (between c.endpoint 0 (AfterSettings None None) streamed idle) true) more))
 settings_found c t more f v over none h frame size is =
     let s : Starts c.endpoint f more = starts c.endpoint f more frame size in (
       s.streamed,
@@ -69,5 +68,5 @@ settings_found c t more f v over none h frame size is =
           ∙ ap (λ (y : StreamRun). followed (Opened «for».Control ∷ Configured v f.payload ∷ []) y) (goes_on (configured (with_control c) v) c.endpoint s.streamed s.idle more over),
     )
 
-pub settings_broken : (c : Connection) (t more : List ℕ) (f : Frame) (x : Fault) → c.over ≡ false → c.control ≡ false → Encodes 0x00 t → IsFrame 0x04 f → length f.payload ≤ 4096 → settings_in f.payload ≡ Err x → run_stream c Uni (t ++ (written f ++ more)) ≡ all_given (closed_by (with_control c) x) Over (Opened «for».Control ∷ Broke x ∷ [])
+pub settings_broken : (c : Connection) (t more : List ℕ) (f : Frame) (x : Fault) → c.over ≡ false → c.control ≡ false → Encodes 0x00 t → IsFrame 0x04 f → length f.payload ≤ 4096 → received_settings c f.payload ≡ Err x → run_stream c Uni (t ++ (written f ++ more)) ≡ all_given (closed_by (with_control c) x) Over (Opened «for».Control ∷ Broke x ∷ [])
 settings_broken c t more f x over none h frame size is = settings_start c t more f (Err x) (starts c.endpoint f more frame size) over none h is

@@ -21,7 +21,6 @@ use Rattle.wtp_connection.specs.declared.fault.Fault.{Fault}
 use Rattle.wtp_connection.specs.declared.fault.Fault.TheVariants as fault
 use Rattle.wtp_connection.specs.declared.settings.PeerSettings.{PeerSettings}
 use Rattle.wtp_connection.specs.declared.instructions.DecoderPlace.{DecoderPlace}
-use Rattle.wtp_connection.specs.Settings.{settings_in}
 use Rattle.wtp_connection.specs.Instructions.{sets_zero, then_bytes, after_bytes}
 use Rattle.wtp_connection.proofs.InstructionLemmas.{after_append}
 use Rattle.wtp_frames.proofs.RunLemmas.{run_failed}
@@ -32,7 +31,7 @@ use Rattle.wtp_connection.specs.declared.stream.Stream.TheVariants.{Uni, Bi, Fra
 use Rattle.wtp_connection.specs.declared.connection.Connection.{Connection}
 use Rattle.wtp_connection.specs.declared.connection.Found.{Found}
 use Rattle.wtp_connection.specs.declared.connection.Found.TheVariants as found
-use Rattle.wtp_connection.specs.Streams.{opens, opens_once, configured, closed_by, Seen, Opened, Configured, Gave, Broke, StreamRun, rests, followed, all_given, by_settings, by_item, of_items, has_frames, of_frames, bytes_seen, by_capacity, by_place, breaks, run_open, by_purpose, by_opening, run_intact, run_stream}
+use Rattle.wtp_connection.specs.Streams.{opens, opens_once, configured, received_settings, closed_by, Seen, Opened, Configured, Gave, Broke, StreamRun, rests, followed, all_given, by_settings, by_item, of_items, has_frames, of_frames, bytes_seen, by_capacity, by_place, breaks, run_open, by_purpose, by_opening, run_intact, run_stream}
 use Rattle.wtp_connection.specs.Receiving.{IsFirst, opening_of, AreFew, IsBetween, StepIsFound, Outcome, has_frame, IsInside, fails, settings_found, frame_found, step_found, with_capacity, encoder_found, decoder_found}
 use Rattle.wtp_connection.proofs.OpeningLemmas.{opening_more, opening_few}
 
@@ -128,7 +127,7 @@ pub frames_run : (c : Connection) (r : Reader) (g : Bool) (bytes : List ℕ) →
 frames_run c r g bytes e = intact_run c (Frames r g) bytes e
 
 item_same : (i : Item) (c : Connection) (f g : Connection → StreamRun) → ((d : Connection) → f d ≡ g d) → by_item c f i ≡ by_item c g i
-item_same (Whole kind.Settings payload) c f g h = settings_same (settings_in payload) c payload f g h
+item_same (Whole kind.Settings payload) c f g h = settings_same (received_settings c payload) c payload f g h
   where
     settings_same : (o : Result PeerSettings Fault) (c : Connection) (payload : List ℕ) (f g : Connection → StreamRun) → ((d : Connection) → f d ≡ g d) → by_settings c payload f o ≡ by_settings c payload g o
     settings_same (Ok v) c payload f g h = ap (λ (x : StreamRun). followed (Configured v payload ∷ []) x) (h (configured c v))
@@ -198,7 +197,7 @@ incomplete_given d more = elim (cases_Bool d.over) [
 abbrev IsOutcome : Outcome → Connection → Stream → List ℕ → Type 0
 IsOutcome o c s bytes = StepIsFound o.0 c s bytes o.1 o.2
 
-settings_case : (o : Result PeerSettings Fault) (start end : ℕ) (c : Connection) (old new : Reader) (g : Bool) (bytes : List ℕ) → settings_in (slice start end bytes) ≡ o → c.over ≡ false → StepIs (step.Frame kind.Settings start end) old bytes new → IsOutcome (settings_found c (Frames new true) start end o) c (Frames old g) bytes
+settings_case : (o : Result PeerSettings Fault) (start end : ℕ) (c : Connection) (old new : Reader) (g : Bool) (bytes : List ℕ) → received_settings c (slice start end bytes) ≡ o → c.over ≡ false → StepIs (step.Frame kind.Settings start end) old bytes new → IsOutcome (settings_found c (Frames new true) start end o) c (Frames old g) bytes
 settings_case (Ok v) start end c old new g bytes is e h = record {
   fits = (h.within.0, h.within.1, h.within.2, refl);
   finds = λ more.
@@ -234,7 +233,7 @@ other_case k start end c old new g bytes is e h = record {
 }
 
 frame_case : (k : FrameType) (start end : ℕ) (c : Connection) (old new : Reader) (g : Bool) (bytes : List ℕ) → c.over ≡ false → StepIs (step.Frame k start end) old bytes new → IsOutcome (frame_found c (Frames new true) k start end (slice start end bytes)) c (Frames old g) bytes
-frame_case kind.Settings start end c old new g bytes e h = settings_case (settings_in (slice start end bytes)) start end c old new g bytes refl e h
+frame_case kind.Settings start end c old new g bytes e h = settings_case (received_settings c (slice start end bytes)) start end c old new g bytes refl e h
 frame_case other start end c old new g bytes e h = other_case other start end c old new g bytes (λ f. refl) e h
 
 pub frames_found : (x : Step) (c : Connection) (old new : Reader) (g : Bool) (bytes : List ℕ) → c.over ≡ false → StepIs x old bytes new → IsOutcome (step_found c (Frames new (has_frame x || g)) x bytes) c (Frames old g) bytes

@@ -20,10 +20,9 @@ use Rattle.wtp_connection.specs.declared.instructions.DecoderPlace.{DecoderPlace
 use Rattle.wtp_connection.specs.declared.connection.Connection.{Connection}
 use Rattle.wtp_connection.specs.declared.connection.Found.{Found}
 use Rattle.wtp_connection.specs.declared.connection.Found.TheVariants as found
-use Rattle.wtp_connection.specs.Settings.{settings_in}
 use Rattle.wtp_connection.specs.Instructions.{sets_zero}
 use Rattle.wtp_connection.specs.Opening.{uni_at, bi_at, over_by}
-use Rattle.wtp_connection.specs.Streams.{Seen, Opened, Configured, Gave, Broke, Ended, StreamRun, rests, followed, bytes_seen, run_stream, ended, configured, closed_by, end_of}
+use Rattle.wtp_connection.specs.Streams.{Seen, Opened, Configured, Gave, Broke, Ended, StreamRun, rests, followed, bytes_seen, run_stream, ended, configured, received_settings, closed_by, end_of}
 
 -- ---- a stream whose purpose is not known yet
 
@@ -188,7 +187,7 @@ settings_found c s start end (Err f) = fails c f
 
 abbrev pub frame_found : Connection → Stream → FrameType → ℕ → ℕ → List ℕ → Outcome
 frame_found c s kind.Settings start end payload =
-    settings_found c s start end (settings_in payload)
+    settings_found c s start end (received_settings c payload)
 frame_found c s k start end payload = (found.Frame k start end, c, s)
 
 abbrev pub step_found : Connection → Stream → Step → List ℕ → Outcome

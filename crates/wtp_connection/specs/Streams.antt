@@ -31,6 +31,7 @@ use Rattle.wtp_connection.specs.declared.connection.Known.{Known}
 use Rattle.wtp_connection.specs.declared.connection.Known.TheVariants as known
 use Rattle.wtp_connection.specs.Fault.{scope_of}
 use Rattle.wtp_connection.specs.Settings.{values_of, with_defaults, settings_in}
+use Rattle.wtp_connection.specs.Resumption.{accepted_if}
 use Rattle.wtp_connection.specs.Instructions.{sets_zero, after_bytes}
 use Rattle.wtp_connection.specs.Opening.{stream_of, uni_at, bi_at, is_control, is_critical, is_for_critical, has_no_headers, over_from, over_by, end_unopened}
 use Rattle.wtp_connection.specs.declared.requests.Begun.{Begun}
@@ -48,9 +49,27 @@ connection_of e = record {
   decoder = false;
   waiting = 0;
   peer = with_defaults (values_of []);
+  resumed = false;
   begun = none_begun;
   over = false;
 }
+
+-- A connection of a client that resumes a session and sends 0-RTT data: until SETTINGS come the settings
+-- of the server are those of that session. A client's settings are not remembered (RFC 9114, section
+-- 7.2.4.2).
+abbrev pub resuming_at : Side → Endpoint → PeerSettings → Connection
+resuming_at Client e v = record (connection_of e) { peer = v; resumed = true }
+resuming_at Server e v = connection_of e
+
+abbrev pub resuming_of : Endpoint → PeerSettings → Connection
+resuming_of e v = resuming_at e.side e v
+
+-- the server did not accept 0-RTT: what is remembered counts no more
+abbrev pub without_resumption : Connection → Connection
+without_resumption c =
+    if c.resumed
+    then record c { peer = with_defaults (values_of []); resumed = false }
+    else c
 
 -- the peer's control stream was opened
 abbrev pub with_control : Connection → Connection
@@ -58,7 +77,12 @@ with_control c = record c { control = true }
 
 -- SETTINGS came on it
 abbrev pub configured : Connection → PeerSettings → Connection
-configured c v = record c { peer = v }
+configured c v = record c { peer = v; resumed = false }
+
+-- What the payload of SETTINGS is, or its error. If a session is resumed, it must keep what is
+-- remembered.
+abbrev pub received_settings : Connection → List ℕ → Result PeerSettings Fault
+received_settings c payload = accepted_if c.resumed c.peer (settings_in payload)
 
 -- ---- the streams that the peer opens
 
@@ -162,7 +186,8 @@ by_settings c payload more (Err f) = breaks c f
 
 -- an item, and what follows it
 abbrev pub by_item : Connection → (Connection → StreamRun) → Item → StreamRun
-by_item c more (Whole kind.Settings payload) = by_settings c payload more (settings_in payload)
+by_item c more (Whole kind.Settings payload) =
+    by_settings c payload more (received_settings c payload)
 by_item c more (Broken f) =
     followed (Broke (fault.Stream f) ∷ []) (more (closed_by c (fault.Stream f)))
 by_item c more other = followed (Gave other ∷ []) (more c)

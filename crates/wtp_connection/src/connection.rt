@@ -4,6 +4,7 @@ ghost use Rattle.wtp_connection.specs.Streams.{connection_of, opens, opening_res
 ghost use Rattle.wtp_connection.specs.Receiving.{FoundIs, StepIsFound, IsNearer, IsFirst, IsInside, opening_of, has_frame, step_found, encoder_found, decoder_found, fails, more_in, finish_of};
 
 pub mod datagrams;
+mod resumption;
 mod sessions;
 
 use crate::fault::Fault;
@@ -33,6 +34,8 @@ pub struct Connection {
     waiting: u32,
     /// The settings of the peer.
     peer: PeerSettings,
+    /// Whether these are remembered of a session that is resumed.
+    resumed: bool,
     /// At a server, which requests of the client have begun.
     begun: Begun,
     /// Whether an error ended the connection.
@@ -93,6 +96,7 @@ impl Connection {
             decoder: false,
             waiting: 0,
             peer: PeerSettings::new(),
+            resumed: false,
             begun: Begun::new(),
             over: false,
         }
@@ -190,11 +194,8 @@ impl Connection {
     {
         match step {
             Step::Frame(FrameType::Settings, start, end) => {
-                match PeerSettings::read(&bytes[start..end]) {
-                    Ok(settings) => {
-                        self.peer = settings;
-                        Found::Settings(settings, start, end)
-                    }
+                match self.configure(&bytes[start..end]) {
+                    Ok(settings) => Found::Settings(settings, start, end),
                     Err(fault) => self.fail(stream, fault),
                 }
             }
@@ -347,8 +348,8 @@ impl Connection {
         }
     }
 
-    /// Returns the settings of the peer. Until its SETTINGS come each one has its default (RFC 9114,
-    /// section 7.2.4.2).
+    /// Returns the settings of the peer. Until its SETTINGS come each one has its default, or the value
+    /// that is remembered of the session that is [resumed](Self::resuming) (RFC 9114, section 7.2.4.2).
     pub fn peer_settings(&self) -> PeerSettings
         ensures { result ≡ self.now.peer }
     {
