@@ -19,6 +19,8 @@ mod requests;
 #[cfg(test)]
 mod resets;
 #[cfg(test)]
+mod resumed;
+#[cfg(test)]
 mod same;
 #[cfg(test)]
 mod sessions;

@@ -48,7 +48,7 @@ const OPEN: Row = Row {
 
 /// Streams by the rule that they keep or violate. All of these errors but those of a request that
 /// is not complete end the connection.
-static ROWS: [Row; 19] = [
+static ROWS: [Row; 24] = [
     Row {
         case: "a second control stream (6.2.1)",
         bytes: &[0x00],
@@ -178,6 +178,53 @@ static ROWS: [Row; 19] = [
         id: 1,
         bytes: &[0x40, 0x41, 0x00],
         code: 0x103,
+        ..OPEN
+    },
+    Row {
+        case: "a request that ends in the ID of its session (7.1)",
+        webtransport: true,
+        id: 4,
+        bytes: &[0x40, 0x41, 0x40],
+        fin: true,
+        code: 0x106,
+        ..OPEN
+    },
+    Row {
+        case: "a stream of a server without bytes (6.1)",
+        server: false,
+        id: 1,
+        bytes: &[],
+        fin: true,
+        code: 0x103,
+        ..OPEN
+    },
+    Row {
+        case: "a stream of a server that ends in its first number (6.1)",
+        server: false,
+        id: 1,
+        bytes: &[0x40],
+        fin: true,
+        code: 0x103,
+        ..OPEN
+    },
+    Row {
+        case: "the same with WebTransport",
+        server: false,
+        webtransport: true,
+        id: 1,
+        bytes: &[0x40],
+        fin: true,
+        code: 0x103,
+        ..OPEN
+    },
+    Row {
+        case: "a stream of a server that ends in the ID of its session (7.1)",
+        server: false,
+        webtransport: true,
+        id: 1,
+        bytes: &[0x40, 0x41, 0x80, 0x00],
+        fin: true,
+        code: 0x106,
         ..OPEN
     },
     Row {

@@ -18,9 +18,10 @@ ghost use Rattle.wtp_wire.specs.Settings.{ArePairs, IsCutSetting};
 ghost use Rattle.wtp_connection.specs.declared.fault.Fault.{Fault};
 ghost use Rattle.wtp_connection.specs.declared.fault.Fault.TheVariants as fault;
 ghost use Rattle.wtp_connection.specs.declared.settings.PeerSettings.{PeerSettings};
+ghost use Rattle.wtp_connection.specs.Resumption.{KeepsCapacity, KeepsLimits, after_resumption};
 ghost use Rattle.wtp_connection.specs.declared.stream.Purpose.TheVariants as «for»;
 ghost use Rattle.wtp_connection.specs.declared.stream.Stream.TheVariants.{Uni, Frames, Over};
-ghost use Rattle.wtp_connection.specs.Streams.{connection_of, with_control, with_settings, closed_by, Opened, Configured, Broke, followed, all_given, run_stream, FindsInterim, accepted_all, known_alone, over_if};
+ghost use Rattle.wtp_connection.specs.Streams.{with_control, configured, received_settings, closed_by, Opened, Configured, Broke, followed, all_given, run_stream, FindsInterim, accepted_all, known_alone, over_if};
 ghost use Rattle.wtp_connection.specs.declared.connection.Found.{Found};
 ghost use Rattle.wtp_connection.specs.declared.stream.Stream.{Stream};
 ghost use Rattle.wtp_connection.specs.Receiving.{AreReturned};
@@ -49,20 +50,41 @@ pub fn invalid_settings_are_reported()
         → is_refused ps id value ≡ true → settings_in (front ++ (s ++ more)) ≡ Err fault.Settings }
 {}
 
-/// A control stream that begins with SETTINGS gives what they define, and the connection has it from
-/// then on. If they are not valid the stream gives their error, and nothing after it.
+/// A control stream that begins with SETTINGS gives what they define, whatever came before on other
+/// streams, and the connection has it from then on. If they are not valid the stream gives their error,
+/// and nothing after it.
 pub fn settings_are_found()
-    ensures values { (e : Endpoint) (t more : List ℕ) (f : Frame) (v : PeerSettings)
-        → Encodes 0x00 t → IsFrame 0x04 f → length f.payload ≤ 4096 → settings_in f.payload ≡ Ok v
+    ensures values { (c : Connection) (t more : List ℕ) (f : Frame) (v : PeerSettings)
+        → c.over ≡ false → c.control ≡ false
+        → Encodes 0x00 t → IsFrame 0x04 f → length f.payload ≤ 4096
+        → received_settings c f.payload ≡ Ok v
         → (streamed : Bool) × (idle : ℕ)
-        × (run_stream (connection_of e) Uni (t ++ (written f ++ more))
+        × (run_stream c Uni (t ++ (written f ++ more))
         ≡ followed (Opened «for».Control ∷ Configured v f.payload ∷ [])
-        (run_stream (with_settings e v)
-        (Frames (between e 0 (AfterSettings None None) streamed idle) true) more)) }
-    ensures fault { (e : Endpoint) (t more : List ℕ) (f : Frame) (x : Fault)
-        → Encodes 0x00 t → IsFrame 0x04 f → length f.payload ≤ 4096 → settings_in f.payload ≡ Err x
-        → run_stream (connection_of e) Uni (t ++ (written f ++ more))
-        ≡ all_given (closed_by (with_control e) x) Over (Opened «for».Control ∷ Broke x ∷ []) }
+        (run_stream (configured (with_control c) v)
+        (Frames (between c.endpoint 0 (AfterSettings None None) streamed idle) true) more)) }
+    ensures fault { (c : Connection) (t more : List ℕ) (f : Frame) (x : Fault)
+        → c.over ≡ false → c.control ≡ false
+        → Encodes 0x00 t → IsFrame 0x04 f → length f.payload ≤ 4096
+        → received_settings c f.payload ≡ Err x
+        → run_stream c Uni (t ++ (written f ++ more))
+        ≡ all_given (closed_by (with_control c) x) Over (Opened «for».Control ∷ Broke x ∷ []) }
+{}
+
+/// SETTINGS of a server that accepted 0-RTT are taken exactly if they keep what is remembered of the
+/// resumed session. Another capacity of the dynamic table than a remembered one that is not 0 is
+/// QPACK_DECODER_STREAM_ERROR; anything else that is less is H3_SETTINGS_ERROR.
+pub fn remembered_settings_are_kept()
+    ensures kept { (old new : PeerSettings) → KeepsCapacity old new → KeepsLimits old new
+        → after_resumption old new ≡ Ok new }
+    ensures capacity { (old new : PeerSettings) → (KeepsCapacity old new → ⊥)
+        → after_resumption old new ≡ Err fault.Capacity }
+    ensures limits { (old new : PeerSettings) → KeepsCapacity old new → (KeepsLimits old new → ⊥)
+        → after_resumption old new ≡ Err fault.Settings }
+    ensures capacity_code { code_of fault.Capacity ≡ 0x0202 }
+    ensures settings_code { code_of fault.Settings ≡ 0x0109 }
+    ensures capacity_scope { scope_of fault.Capacity ≡ scope.Connection }
+    ensures settings_scope { scope_of fault.Settings ≡ scope.Connection }
 {}
 
 /// An interim response gives its section, and once the caller says what it is the stream is before the
