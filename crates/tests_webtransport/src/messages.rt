@@ -13,7 +13,7 @@ pub(crate) struct Row {
 }
 
 /// Requests.
-static REQUESTS: [Row; 11] = [
+static REQUESTS: [Row; 20] = [
     Row {
         case: Case::Request,
         bytes: &[0x01, 0x08, 0x00, 0x00, 0xd1, 0xd7, 0xc1, 0x50, 0x01, 0x61],
@@ -44,7 +44,25 @@ static REQUESTS: [Row; 11] = [
             0x01, 0x0b, 0x00, 0x00, 0xd4, 0xd7, 0xc1, 0x50, 0x01, 0x61, 0x54, 0x01, 0x33, 0x00,
             0x04, 0x61, 0x62, 0x63, 0x64,
         ],
-        events: "request 5; data 3; malformed: the content is longer than announced; ",
+        events: "request 5; malformed: the content is longer than announced; ",
+    },
+    // content-length 3, and 2 bytes in each of two DATA frames
+    Row {
+        case: Case::Request,
+        bytes: &[
+            0x01, 0x0b, 0x00, 0x00, 0xd4, 0xd7, 0xc1, 0x50, 0x01, 0x61, 0x54, 0x01, 0x33, 0x00,
+            0x02, 0x61, 0x62, 0x00, 0x02, 0x63, 0x64,
+        ],
+        events: "request 5; data 2; malformed: the content is longer than announced; ",
+    },
+    // content-length 3, and the first byte of a DATA frame of 4
+    Row {
+        case: Case::Request,
+        bytes: &[
+            0x01, 0x0b, 0x00, 0x00, 0xd4, 0xd7, 0xc1, 0x50, 0x01, 0x61, 0x54, 0x01, 0x33, 0x00,
+            0x04, 0x61,
+        ],
+        events: "request 5; malformed: the content is longer than announced; ",
     },
     // content-length 0, and a byte
     Row {
@@ -66,6 +84,49 @@ static REQUESTS: [Row; 11] = [
     Row {
         case: Case::Request,
         bytes: &[0x01, 0x03, 0x00, 0x00, 0x80],
+        events: "connection error 512; ",
+    },
+    // a Required Insert Count of 1
+    Row {
+        case: Case::Request,
+        bytes: &[0x01, 0x08, 0x01, 0x00, 0xd1, 0xd7, 0xc1, 0x50, 0x01, 0x61],
+        events: "connection error 512; ",
+    },
+    // a Sign bit of 1, with a Delta Base of 0 and of 5
+    Row {
+        case: Case::Request,
+        bytes: &[0x01, 0x08, 0x00, 0x80, 0xd1, 0xd7, 0xc1, 0x50, 0x01, 0x61],
+        events: "connection error 512; ",
+    },
+    Row {
+        case: Case::Request,
+        bytes: &[0x01, 0x08, 0x00, 0x85, 0xd1, 0xd7, 0xc1, 0x50, 0x01, 0x61],
+        events: "connection error 512; ",
+    },
+    // a Delta Base of 5 without it
+    Row {
+        case: Case::Request,
+        bytes: &[0x01, 0x08, 0x00, 0x05, 0xd1, 0xd7, 0xc1, 0x50, 0x01, 0x61],
+        events: "request 4; end; ",
+    },
+    // trailers with a Required Insert Count of 1
+    Row {
+        case: Case::Request,
+        bytes: &[
+            0x01, 0x08, 0x00, 0x00, 0xd1, 0xd7, 0xc1, 0x50, 0x01, 0x61, 0x01, 0x06, 0x01, 0x00,
+            0x21, 0x78, 0x01, 0x79,
+        ],
+        events: "request 4; connection error 512; ",
+    },
+    // no prefix, and one that is cut
+    Row {
+        case: Case::Request,
+        bytes: &[0x01, 0x00],
+        events: "connection error 512; ",
+    },
+    Row {
+        case: Case::Request,
+        bytes: &[0x01, 0x01, 0x00],
         events: "connection error 512; ",
     },
     // DATA before HEADERS
@@ -101,7 +162,7 @@ static REQUESTS: [Row; 11] = [
 ];
 
 /// CONNECT a:1 and its answers.
-static TUNNELS: [Row; 5] = [
+static TUNNELS: [Row; 8] = [
     Row {
         case: Case::Request,
         bytes: &[
@@ -125,6 +186,27 @@ static TUNNELS: [Row; 5] = [
             0x06, 0x00, 0x00, 0x21, 0x78, 0x01, 0x79,
         ],
         events: "request 2; data 1; connection error 261; ",
+    },
+    // the head of HEADERS in a tunnel, after an unknown frame
+    Row {
+        case: Case::Answered(200),
+        bytes: &[
+            0x01, 0x08, 0x00, 0x00, 0xcf, 0x50, 0x03, 0x61, 0x3a, 0x31, 0x21, 0x01, 0x00, 0x00,
+            0x01, 0x61, 0x01, 0x40, 0x64,
+        ],
+        events: "request 2; data 1; connection error 261; ",
+    },
+    // the head of PUSH_PROMISE in a tunnel, at a client
+    Row {
+        case: Case::Response(Asked::Connect),
+        bytes: &[0x01, 0x03, 0x00, 0x00, 0xd9, 0x00, 0x01, 0x61, 0x05, 0x03],
+        events: "response 200; data 1; connection error 261; ",
+    },
+    // a DATA frame that is cut in a tunnel
+    Row {
+        case: Case::Response(Asked::Connect),
+        bytes: &[0x01, 0x03, 0x00, 0x00, 0xd9, 0x00, 0x02, 0x61],
+        events: "response 200; data 1; connection error 262; ",
     },
     // trailers after a refusal
     Row {
@@ -205,7 +287,8 @@ static RESPONSES: [Row; 8] = [
 
 /// Compares the events of a row with those wanted, however its bytes are cut.
 pub(crate) fn check<R: Abort>(rt: &R, alloc: Global, row: &Row) {
-    for size in 1..row.bytes.len().saturating_add(2) {
+    let len = row.case.prefix().len().saturating_add(row.bytes.len());
+    for size in 1..len.saturating_add(2) {
         let Ok(events) = play(alloc, row.case, row.bytes, size) else {
             continue;
         };

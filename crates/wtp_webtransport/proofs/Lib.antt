@@ -1,1 +1,3 @@
 pub mod EndingLemmas
+pub mod CapsuleLemmas
+pub mod HalfLemmas

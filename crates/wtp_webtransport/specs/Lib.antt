@@ -1,5 +1,7 @@
 pub mod Fault
 pub mod Close
+pub mod Prefix
+pub mod Capsules
 pub mod Events
 pub mod Streams
 pub mod Sessions
