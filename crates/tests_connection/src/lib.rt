@@ -7,6 +7,8 @@ mod begun;
 #[cfg(test)]
 mod datagrams;
 #[cfg(test)]
+mod holdings;
+#[cfg(test)]
 mod holds;
 #[cfg(test)]
 mod interims;

@@ -11,3 +11,4 @@ pub mod RequestLemmas
 pub mod ResumptionLemmas
 pub mod KnownLemmas
 pub mod ProgressLemmas
+pub mod PurposeLemmas
