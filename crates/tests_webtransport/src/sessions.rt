@@ -12,7 +12,7 @@ use wtp_webtransport::fields::Fields;
 use wtp_webtransport::stream::Stream;
 
 /// What follows a request for a session on its stream.
-static SESSIONS: [Row; 24] = [
+static SESSIONS: [Row; 26] = [
     // the stream ends
     Row {
         case: Case::Session(200),
@@ -51,6 +51,15 @@ static SESSIONS: [Row; 24] = [
         ],
         events: "session requested 5; session closed 1 ab; stream error 270; ",
     },
+    // HEADERS after CLOSE
+    Row {
+        case: Case::Session(200),
+        bytes: &[
+            0x00, 0x07, 0x68, 0x43, 0x04, 0x00, 0x00, 0x00, 0x01, 0x01, 0x06, 0x00, 0x00, 0x21,
+            0x78, 0x01, 0x79,
+        ],
+        events: "session requested 5; session closed 1 ; stream error 270; ",
+    },
     // CLOSE of three bytes
     Row {
         case: Case::Session(200),
@@ -79,6 +88,12 @@ static SESSIONS: [Row; 24] = [
     Row {
         case: Case::Session(200),
         bytes: &[0x00, 0x04, 0x17, 0x02, 0x01, 0x02],
+        events: "session requested 5; session closed 0 ; end; ",
+    },
+    // WT_MAX_DATA of later drafts
+    Row {
+        case: Case::Session(200),
+        bytes: &[0x00, 0x06, 0x99, 0x0b, 0x4d, 0x3d, 0x01, 0x00],
         events: "session requested 5; session closed 0 ; end; ",
     },
     // one of 2^62 - 1 bytes, which the end cuts
@@ -200,7 +215,7 @@ static SESSIONS: [Row; 24] = [
 ];
 
 /// Responses to a request for a session.
-static RESPONSES: [Row; 6] = [
+static RESPONSES: [Row; 9] = [
     // accepted
     Row {
         case: Case::Response(Asked::Session),
@@ -233,6 +248,27 @@ static RESPONSES: [Row; 6] = [
         case: Case::Response(Asked::Session),
         bytes: &[0x01, 0x04, 0x00, 0x00, 0xff, 0x01],
         events: "malformed: the :status does not go with a session; ",
+    },
+    // 206
+    Row {
+        case: Case::Response(Asked::Session),
+        bytes: &[0x01, 0x04, 0x00, 0x00, 0xff, 0x02],
+        events: "malformed: the :status does not go with a session; ",
+    },
+    // a content-type
+    Row {
+        case: Case::Response(Asked::Session),
+        bytes: &[0x01, 0x04, 0x00, 0x00, 0xd9, 0xf4],
+        events: "malformed: a session's message has a field of content; ",
+    },
+    // refused, with trailers
+    Row {
+        case: Case::Response(Asked::Session),
+        bytes: &[
+            0x01, 0x03, 0x00, 0x00, 0xdb, 0x00, 0x01, 0x61, 0x01, 0x06, 0x00, 0x00, 0x21, 0x78,
+            0x01, 0x79,
+        ],
+        events: "rejected 404; data 1; trailers; end; ",
     },
     // no response
     Row {

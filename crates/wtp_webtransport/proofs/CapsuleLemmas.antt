@@ -14,7 +14,7 @@ pub no_pair : pair_at [] ≡ None
 unfolding pair_at number_at
 no_pair = refl
 
-not_none : (x : (ℕ × ℕ) × List ℕ) (o : Option ((ℕ × ℕ) × List ℕ)) → o ≡ None → o ≡ Some x → ⊥
+pub not_none : (x : (ℕ × ℕ) × List ℕ) (o : Option ((ℕ × ℕ) × List ℕ)) → o ≡ None → o ≡ Some x → ⊥
 not_none x o d e = cc
 
 -- two numbers that a byte completes end with it
