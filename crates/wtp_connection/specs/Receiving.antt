@@ -122,8 +122,8 @@ Settled (found.More n) bytes d t =
     ended (run_stream d t (drop n bytes)) ≡ rests d t (drop n bytes)
 Settled other bytes d t = Unit {0}
 
--- Whether the stream ends after these bytes or goes on: its state after an error and after the end is
--- that of a stream that is over, and after anything else the one in which it goes on.
+-- After anything but an error and the end the stream is in the state in which it goes on, also if it ends
+-- after these bytes.
 pub record FoundIs (x : Found) (c : Connection) (s : Stream) (bytes : List ℕ) (fin : Bool)
     (d : Connection) (t : Stream) : Type 0 where
   pub fits : Fits x bytes d t
