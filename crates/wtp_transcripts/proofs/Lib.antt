@@ -1,3 +1,9 @@
 pub mod CallLemmas
 pub mod CutLemmas
+pub mod AlikeLemmas
+pub mod OnceLemmas
+pub mod OrderLemmas
+pub mod OverLemmas
+pub mod IndependentLemmas
 pub mod TranscriptLemmas
+pub mod WaitLemmas

@@ -1,5 +1,5 @@
 -- What happens on a connection of many streams, in any order, and what is found on each of them.
-use Rattle.std.specs.Prelude.{◌≡◌, ℕ, ◌+◌, ◌<◌, ◌==◌, ◌||◌, if◌then◌else◌, Bool, true, false, List, [], ◌∷◌, ◌++◌, map, drop, Option, Some, None}
+use Rattle.std.specs.Prelude.{◌≡◌, ◌⊎◌, ℕ, ◌+◌, ◌<◌, ◌==◌, ◌||◌, if◌then◌else◌, Bool, true, false, List, [], ◌∷◌, ◌++◌, map, drop, Option, Some, None}
 use Rattle.wtp_frames.specs.declared.endpoint.Endpoint.{Endpoint}
 use Rattle.wtp_connection.specs.declared.connection.Connection.{Connection}
 use Rattle.wtp_connection.specs.declared.connection.Found.{Found}
@@ -8,11 +8,12 @@ use Rattle.wtp_connection.specs.declared.connection.Known.{Known}
 use Rattle.wtp_connection.specs.declared.connection.Known.TheVariants as known
 use Rattle.wtp_connection.specs.declared.fault.Fault.{Fault}
 use Rattle.wtp_connection.specs.declared.stream.Purpose.{Purpose}
+use Rattle.wtp_connection.specs.declared.stream.Purpose.TheVariants as «for»
 use Rattle.wtp_connection.specs.declared.stream.Stream.{Stream}
 use Rattle.wtp_connection.specs.declared.stream.Stream.TheVariants.{Joining, Waiting}
-use Rattle.wtp_connection.specs.Opening.{waits_for}
+use Rattle.wtp_connection.specs.Opening.{is_for_critical}
 use Rattle.wtp_connection.specs.Receiving.{seen_of, rest_after, FoundIs}
-use Rattle.wtp_connection.specs.Streams.{connection_of, accepts, Seen, Broke, StreamRun, run_stream, ended, most_waiting, Joined, joins, resets, stops, overflows, abandons}
+use Rattle.wtp_connection.specs.Streams.{connection_of, accepts, Seen, Broke, Ended, StreamRun, rests, run_stream, ended, most_waiting, Joined, joins, resets, stops, overflows, abandons}
 
 -- ---- one stream is read
 
@@ -75,19 +76,31 @@ abbrev pub answered : Option Fault → List Seen
 answered None = []
 answered (Some f) = Broke f ∷ []
 
--- a call changed the connection and the stream, which is read from there on
-abbrev pub changed : Bool → List ℕ → Joined → Outcome
-changed fin left x = after_seen (answered x.2) (outcome_of fin (read fin x.0 x.1 left))
+-- what the call does that tells the connection of an event
+abbrev pub called : Connection → Stream → Event → Joined
+called c s (Came bytes fin) = (c, s, None)
+called c s (Told k) = joins c s k
+called c s Reset = resets c s
+called c s Overflowed = overflows c s
+called c s Abandoned = ((abandons c s).0, (abandons c s).1, None)
 
--- After each event the stream is read until more bytes are needed.
+-- the bytes that are to be read then
+abbrev pub unread : Held → Event → List ℕ
+unread h (Came bytes fin) = h.left ++ bytes
+unread h other = h.left
+
+-- whether the end of the stream comes after them
+abbrev pub ends : Held → Event → Bool
+ends h (Came bytes fin) = h.fin || fin
+ends h other = h.fin
+
+-- the stream is read from there on
+abbrev pub reads_on : Bool → List ℕ → Joined → Outcome
+reads_on fin left x = after_seen (answered x.2) (outcome_of fin (read fin x.0 x.1 left))
+
+-- After the call the stream is read until more bytes are needed.
 abbrev pub happens : Connection → Held → Event → Outcome
-happens c h (Came bytes fin) =
-    outcome_of (h.fin || fin) (read (h.fin || fin) c h.stream (h.left ++ bytes))
-happens c h (Told k) = changed h.fin h.left (joins c h.stream k)
-happens c h Reset = changed h.fin h.left (resets c h.stream)
-happens c h Overflowed = changed h.fin h.left (overflows c h.stream)
-happens c h Abandoned =
-    outcome_of h.fin (read h.fin (abandons c h.stream).0 (abandons c h.stream).1 h.left)
+happens c h e = reads_on (ends h e) (unread h e) (called c h.stream e)
 
 -- events of a stream, one after the other, on a connection that has no other one
 abbrev pub alone : Connection → Held → List Event → Outcome
@@ -95,6 +108,56 @@ alone c h [] = record { seen = []; connection = c; held = h }
 alone c h (e ∷ events) =
     after_seen (happens c h e).seen
     (alone (happens c h e).connection (happens c h e).held events)
+
+-- ---- all bytes of a stream
+
+-- those that come, joined
+abbrev pub bytes_in : List Event → List ℕ
+bytes_in [] = []
+bytes_in (Came bytes fin ∷ events) = bytes ++ bytes_in events
+bytes_in (other ∷ events) = bytes_in events
+
+-- whether its end comes
+abbrev pub end_in : List Event → Bool
+end_in [] = false
+end_in (Came bytes fin ∷ events) = fin || end_in events
+end_in (other ∷ events) = end_in events
+
+-- what is said last of its session, where this was said before
+abbrev pub last_said : Option Known → List Event → Option Known
+last_said o [] = o
+last_said o (Told k ∷ events) = last_said (Some k) events
+last_said o (other ∷ events) = last_said o events
+
+abbrev pub said : Option Known → List Event
+said None = []
+said (Some k) = Told k ∷ []
+
+-- all bytes come at once, with the end if it comes, and then what is said last of the session is said
+abbrev pub at_once : List Event → List Event
+at_once events = Came (bytes_in events) (end_in events) ∷ said (last_said None events)
+
+-- it is to be joined with its session
+abbrev pub IsToJoin : Stream → Type 0
+IsToJoin (Joining s) = Unit {0}
+IsToJoin (Waiting s) = Unit {0}
+IsToJoin other = ⊥
+
+-- Bytes of a stream come, none of them after its end; something is said of its session while it is to be
+-- joined; and nothing else happens to it.
+abbrev pub IsRead : Connection → Held → List Event → Type 0
+IsRead c h [] = Unit {0}
+IsRead c h (Came bytes fin ∷ events) =
+    (h.fin ≡ true → bytes ≡ [])
+    × IsRead (happens c h (Came bytes fin)).connection (happens c h (Came bytes fin)).held events
+IsRead c h (Told k ∷ events) =
+    IsToJoin h.stream × IsRead (happens c h (Told k)).connection (happens c h (Told k)).held events
+IsRead c h (other ∷ events) = ⊥
+
+-- nothing can be found of what is left of a stream, and its end did not come
+pub record IsStill (c : Connection) (h : Held) : Type 0 where
+  pub still : run_stream c h.stream h.left ≡ rests c h.stream h.left
+  pub unended : h.fin ≡ false
 
 -- ---- what happens to a connection
 
@@ -166,13 +229,38 @@ events_of n [] = []
 events_of n (On m e ∷ steps) = if m == n then e ∷ events_of n steps else events_of n steps
 events_of n (other ∷ steps) = events_of n steps
 
--- ---- premises
+-- ---- streams that wait
 
--- no byte of a stream came, and it does not wait
-pub record IsNew (h : Held) : Type 0 where
-  pub none : h.left ≡ []
-  pub unended : h.fin ≡ false
-  pub free : waits_for h.stream ≡ None
+-- the end of a stream, if it comes
+abbrev pub end_seen : Bool → List Seen
+end_seen true = Ended ∷ []
+end_seen false = []
+
+-- how many places for streams that wait it takes
+abbrev pub places : Stream → ℕ
+places (Waiting s) = 1
+places other = 0
+
+-- how many of these streams wait
+abbrev pub waiting_among : List ℕ → Table → ℕ
+waiting_among [] t = 0
+waiting_among (n ∷ ns) t = places (t n).stream + waiting_among ns t
+
+abbrev pub is_among : ℕ → List ℕ → Bool
+is_among n [] = false
+is_among n (m ∷ ns) = n == m || is_among n ns
+
+abbrev pub AreDistinct : List ℕ → Type 0
+AreDistinct [] = Unit {0}
+AreDistinct (n ∷ ns) = (is_among n ns ≡ false) × AreDistinct ns
+
+-- all events are of these streams
+abbrev pub AreOf : List ℕ → Transcript → Type 0
+AreOf ns [] = Unit {0}
+AreOf ns (On n e ∷ steps) = (is_among n ns ≡ true) × AreOf ns steps
+AreOf ns (other ∷ steps) = AreOf ns steps
+
+-- ---- premises
 
 -- a stream whose session is to come has a place to wait
 abbrev pub HasPlace : Connection → Stream → Event → Type 0
@@ -187,3 +275,53 @@ StepHasPlace n x other = Unit {0}
 abbrev pub HasPlaces : ℕ → State → Transcript → Type 0
 HasPlaces n x [] = Unit {0}
 HasPlaces n x (a ∷ steps) = StepHasPlace n x a × HasPlaces n (next x a) steps
+
+-- ---- a peer that keeps the rules
+
+-- whether the peer opened the stream for this purpose, of which it may open one
+abbrev pub is_opened : Connection → Purpose → Bool
+is_opened c «for».Control = c.control
+is_opened c «for».Encoder = c.encoder
+is_opened c «for».Decoder = c.decoder
+is_opened c other = false
+
+-- stream n on a connection that has no other one
+abbrev pub alone_on : Endpoint → Table → ℕ → Transcript → Outcome
+alone_on e t n steps = alone (connection_of e) (t n) (events_of n steps)
+
+-- it asks to stop no stream that may not be closed (RFC 9114, section 6.2.1; RFC 9204, section 4.2)
+abbrev pub StopsNone : Transcript → Type 0
+StopsNone [] = Unit {0}
+StopsNone (Stopped p ∷ steps) = (is_for_critical p ≡ false) × StopsNone steps
+StopsNone (other ∷ steps) = StopsNone steps
+
+-- No stream alone has an error that ends the connection; and of control, encoder and decoder streams
+-- there is at most one each.
+pub record KeepsRules (e : Endpoint) (t : Table) (steps : Transcript) : Type 0 where
+  pub sound : (n : ℕ) → (alone_on e t n steps).connection.over ≡ false
+  pub once : (p : Purpose) (n m : ℕ)
+      → is_opened (alone_on e t n steps).connection p ≡ true
+      → is_opened (alone_on e t m steps).connection p ≡ true → n ≡ m
+  pub stops : StopsNone steps
+
+-- each stream that is to wait has a place
+abbrev pub AllHavePlaces : State → Transcript → Type 0
+AllHavePlaces x steps = (n : ℕ) → HasPlaces n x steps
+
+-- no stream waits at first
+abbrev pub NoneWaits : Table → Type 0
+NoneWaits t = (n : ℕ) → places (t n).stream ≡ 0
+
+-- the same bytes of stream n come, with its end or without it, and the same is said last of its session
+pub record SameBytes (e : Endpoint) (t : Table) (n : ℕ) (first second : Transcript) : Type 0 where
+  pub still : IsStill (connection_of e) (t n)
+  pub read_first : IsRead (connection_of e) (t n) (events_of n first)
+  pub read_second : IsRead (connection_of e) (t n) (events_of n second)
+  pub bytes : bytes_in (events_of n second) ≡ bytes_in (events_of n first)
+  pub end : end_in (events_of n second) ≡ end_in (events_of n first)
+  pub said : last_said None (events_of n second) ≡ last_said None (events_of n first)
+
+-- and if more happens to the stream, the same events do
+abbrev pub SameOn : Endpoint → Table → ℕ → Transcript → Transcript → Type 0
+SameOn e t n first second =
+    (events_of n second ≡ events_of n first) ⊎ SameBytes e t n first second

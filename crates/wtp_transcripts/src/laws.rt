@@ -1,10 +1,14 @@
 //! Laws of the definitions that the contracts of `wtp_connection` cite, about all streams of a
 //! connection. Each function does nothing: its contract is the law.
-ghost use Rattle.std.specs.Prelude.{◌≡◌, ℕ, Bool, false, List, ◌∷◌, ◌++◌};
+ghost use Rattle.std.specs.Prelude.{◌≡◌, ℕ, ◌≤◌, ◌||◌, Bool, true, false, List, [], ◌∷◌, ◌++◌};
+ghost use Rattle.wtp_frames.specs.declared.endpoint.Endpoint.{Endpoint};
 ghost use Rattle.wtp_connection.specs.declared.connection.Connection.{Connection};
 ghost use Rattle.wtp_connection.specs.declared.connection.Found.{Found};
+ghost use Rattle.wtp_connection.specs.declared.connection.Known.TheVariants as known;
 ghost use Rattle.wtp_connection.specs.declared.stream.Stream.{Stream};
-ghost use Rattle.wtp_transcripts.specs.Transcript.{read, AreCalls, seen_by, Came, On, State, Transcript, after, seen_in};
+ghost use Rattle.wtp_connection.specs.declared.stream.Stream.TheVariants.{Waiting};
+ghost use Rattle.wtp_connection.specs.Streams.{connection_of, bytes_seen};
+ghost use Rattle.wtp_transcripts.specs.Transcript.{read, AreCalls, seen_by, Held, Event, Came, Told, happens, alone, Table, On, Transcript, State, begin, after, seen_in, on_stream, events_of, end_seen, places, waiting_among, AreDistinct, AreOf, HasPlaces, IsStill, IsRead, at_once, KeepsRules, AllHavePlaces, NoneWaits, StopsNone, SameOn};
 
 /// A loop of calls that goes on until one returns `More` finds all that is in the bytes, and at the end
 /// of the stream if it comes after them. The connection, the stream and the bytes that are left are
@@ -27,4 +31,94 @@ pub fn pieces_may_be_cut()
         → (x.streams n).fin ≡ false
         → (after x (On n (Came (a ++ b) fin) ∷ steps)).connection
         ≡ (after x (On n (Came a false) ∷ On n (Came b fin) ∷ steps)).connection }
+{}
+
+/// On a connection that no error ends, each stream gives what it gives alone, on a connection that has
+/// no other stream, and the same is held of it; no error ends that connection either. A stream that is
+/// to wait needs a place: at most 16 streams wait.
+pub fn streams_are_independent()
+    ensures seen { (e : Endpoint) (t : Table) (n : ℕ) (steps : Transcript)
+        → places (t n).stream ≡ 0 → (after (begin e t) steps).connection.over ≡ false
+        → HasPlaces n (begin e t) steps
+        → on_stream n (seen_in (begin e t) steps)
+        ≡ (alone (connection_of e) (t n) (events_of n steps)).seen }
+    ensures held { (e : Endpoint) (t : Table) (n : ℕ) (steps : Transcript)
+        → places (t n).stream ≡ 0 → (after (begin e t) steps).connection.over ≡ false
+        → HasPlaces n (begin e t) steps
+        → (after (begin e t) steps).streams n
+        ≡ (alone (connection_of e) (t n) (events_of n steps)).held }
+    ensures over { (e : Endpoint) (t : Table) (n : ℕ) (steps : Transcript)
+        → places (t n).stream ≡ 0 → (after (begin e t) steps).connection.over ≡ false
+        → HasPlaces n (begin e t) steps
+        → (alone (connection_of e) (t n) (events_of n steps)).connection.over ≡ false }
+{}
+
+/// After an error that ends the connection nothing is found on any stream, whatever happens, and the
+/// connection stays so.
+pub fn nothing_is_found_after_an_error()
+    ensures seen { (x : State) (first rest : Transcript) → (after x first).connection.over ≡ true
+        → seen_in x (first ++ rest) ≡ seen_in x first }
+    ensures over { (x : State) (steps : Transcript) → x.connection.over ≡ true
+        → (after x steps).connection.over ≡ true }
+{}
+
+/// The connection counts the streams that wait for sessions, whatever happens, and they are never more
+/// than 16.
+pub fn waiting_streams_are_counted()
+    ensures count { (e : Endpoint) (t : Table) (ns : List ℕ) (steps : Transcript) → AreDistinct ns
+        → AreOf ns steps → waiting_among ns t ≡ 0
+        → (after (begin e t) steps).connection.waiting
+        ≡ waiting_among ns (after (begin e t) steps).streams }
+    ensures few { (e : Endpoint) (t : Table) (ns : List ℕ) (steps : Transcript) → AreDistinct ns
+        → AreOf ns steps → waiting_among ns t ≡ 0
+        → (after (begin e t) steps).connection.waiting ≤ 16 }
+{}
+
+/// A stream that waits keeps all bytes that come, and gives nothing. Once its session is open it gives
+/// all of them, and its end if that came.
+pub fn waiting_streams_lose_nothing()
+    ensures kept { (c : Connection) (s : ℕ) (left bytes : List ℕ) (old fin : Bool) → c.over ≡ false
+        → happens c (record { stream = Waiting s; left = left; fin = old }) (Came bytes fin)
+        ≡ record {
+          seen = [];
+          connection = c;
+          held = record { stream = Waiting s; left = left ++ bytes; fin = old || fin };
+        } }
+    ensures given { (c : Connection) (s : ℕ) (left : List ℕ) (fin : Bool) → c.over ≡ false
+        → (happens c (record { stream = Waiting s; left = left; fin = fin }) (Told known.Open)).seen
+        ≡ bytes_seen left ++ end_seen fin }
+{}
+
+/// However the bytes of a stream are cut, and whenever it is said that its session is open or over, it
+/// gives what it gives if all of its bytes come at once, with its end if that comes, and what is known
+/// of the session is said then.
+pub fn streams_give_their_bytes()
+    ensures alone { (c : Connection) (h : Held) (events : List Event) → IsStill c h → IsRead c h events
+        → (alone c h events).connection.over ≡ false
+        → alone c h events ≡ alone c h (at_once events) }
+    ensures all { (e : Endpoint) (t : Table) (n : ℕ) (steps : Transcript)
+        → places (t n).stream ≡ 0 → (after (begin e t) steps).connection.over ≡ false
+        → HasPlaces n (begin e t) steps → IsStill (connection_of e) (t n)
+        → IsRead (connection_of e) (t n) (events_of n steps)
+        → on_stream n (seen_in (begin e t) steps)
+        ≡ (alone (connection_of e) (t n) (at_once (events_of n steps))).seen }
+{}
+
+/// No error ends a connection whose peer keeps the rules, in whatever order its bytes come.
+pub fn valid_connections_go_on()
+    ensures { (e : Endpoint) (t : Table) (steps : Transcript) → NoneWaits t → KeepsRules e t steps
+        → AllHavePlaces (begin e t) steps → (after (begin e t) steps).connection.over ≡ false }
+{}
+
+/// What the streams of a peer that keeps the rules give does not depend on the order between them: if
+/// the same bytes come on each stream, and the same is known of its session at last, each gives the
+/// same, and no error ends the connection.
+pub fn order_makes_no_difference()
+    ensures seen { (e : Endpoint) (t : Table) (n : ℕ) (first second : Transcript) → NoneWaits t
+        → KeepsRules e t first → ((k : ℕ) → SameOn e t k first second) → StopsNone second
+        → AllHavePlaces (begin e t) first → AllHavePlaces (begin e t) second
+        → on_stream n (seen_in (begin e t) second) ≡ on_stream n (seen_in (begin e t) first) }
+    ensures over { (e : Endpoint) (t : Table) (first second : Transcript) → NoneWaits t
+        → KeepsRules e t first → ((k : ℕ) → SameOn e t k first second) → StopsNone second
+        → AllHavePlaces (begin e t) second → (after (begin e t) second).connection.over ≡ false }
 {}
