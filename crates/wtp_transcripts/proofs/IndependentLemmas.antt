@@ -1,6 +1,7 @@
 -- What a stream gives does not depend on the others.
 use Rattle.std.proofs.Common.{◌≡◌, ℕ, ◌+◌, ◌<◌, ◌≤◌, ◌%◌, ◌/◌, ◌&&◌, not, nat_lt, Bool, true, false, cond, eqb, List, [], ◌∷◌, ◌++◌, map, Option, Some, None, refl, sym, ap, subst, ◌∙◌, arith, inl, inr, ◌⊎◌}
 use Rattle.std.proofs.lemmas.Bool.{cases_Bool, eqb-true, lt-ltb, false≢true}
+use Rattle.std.proofs.lemmas.List.{append-nil}
 use Rattle.wtp_frames.specs.declared.endpoint.Endpoint.{Endpoint}
 use Rattle.wtp_frames.specs.declared.endpoint.Side.{Side}
 use Rattle.wtp_frames.specs.declared.endpoint.Side.TheVariants.{Client, Server}
@@ -20,7 +21,7 @@ use Rattle.wtp_connection.specs.Requests.{with_request}
 use Rattle.wtp_connection.specs.Streams.{connection_of, with_stream, accepts, closed_by, Seen, StreamRun, run_stream, most_waiting, Joined, other_fault, refuses, settles, waits, freed, joins_open, joins, without, reset_answer_at, reset_answer, resets, stops, overflows_open, overflows, abandons}
 use Rattle.wtp_transcripts.specs.Transcript.{read, Held, Event, Came, Told, Reset, Overflowed, Abandoned, Outcome, answered, after_seen, called, unread, ends, reads_on, happens, alone, Table, with_held, Step, Accepted, Stopped, On, Transcript, State, begin, at_stream, next, after, marked, found_by, seen_in, on_stream, events_of, places, HasPlace, StepHasPlace, HasPlaces, is_opened as flag}
 use Rattle.wtp_transcripts.proofs.AlikeLemmas.{Flags, Goes, goes_then, goes_same, closed_goes, closed_over, RunsAlike, AgreesOn, read_alike, opened_first}
-use Rattle.wtp_transcripts.proofs.OverLemmas.{read_from, before_step, before_steps}
+use Rattle.wtp_transcripts.proofs.OverLemmas.{read_from, before_step, before_steps, nothing_seen, seen_append}
 use Rattle.wtp_transcripts.proofs.WaitLemmas.{EventCounts, event_counts}
 
 -- ---- calls
@@ -341,3 +342,15 @@ fresh_within e = record { endpoint = refl; intact = refl; other = refl; flags = 
 
 pub stands_alone : (e : Endpoint) (t : Table) (n : ℕ) (steps : Transcript) → places (t n).stream ≡ 0 → (after (begin e t) steps).connection.over ≡ false → HasPlaces n (begin e t) steps → IsAlone n (begin e t) (connection_of e) steps
 stands_alone e t n steps k o h = stays_alone steps n (begin e t) (connection_of e) (fresh_within e) (sym k) o h
+
+-- up to the first error
+pub first_error : (e : Endpoint) (t : Table) (n : ℕ) (first rest : Transcript) (a : Step) → places (t n).stream ≡ 0 → (after (begin e t) first).connection.over ≡ false → HasPlaces n (begin e t) first → (next (after (begin e t) first) a).connection.over ≡ true → on_stream n (seen_in (begin e t) (first ++ (a ∷ rest))) ≡ (alone (connection_of e) (t n) (events_of n first)).seen ++ on_stream n (found_by (after (begin e t) first) a)
+first_error e t n first rest a k o h over =
+    let x : State = after (begin e t) first in
+    let s : IsAlone n (begin e t) (connection_of e) first = stands_alone e t n first k o h in
+    ap (λ (l : List (ℕ × Seen)). on_stream n l) (
+    seen_append first (a ∷ rest) (begin e t)
+    ∙ ap (λ (l : List (ℕ × Seen)). seen_in (begin e t) first ++ (found_by x a ++ l)) (nothing_seen rest (next x a) over)
+    ∙ ap (λ (l : List (ℕ × Seen)). seen_in (begin e t) first ++ l) (append-nil (found_by x a)))
+    ∙ on_append n (seen_in (begin e t) first) (found_by x a)
+    ∙ ap (λ (l : List Seen). l ++ on_stream n (found_by x a)) s.seen

@@ -1,9 +1,11 @@
+pub mod AlikeLemmas
 pub mod CallLemmas
 pub mod CutLemmas
-pub mod AlikeLemmas
+pub mod IndependentLemmas
 pub mod OnceLemmas
 pub mod OrderLemmas
 pub mod OverLemmas
-pub mod IndependentLemmas
+pub mod PlaceLemmas
+pub mod SessionLemmas
 pub mod TranscriptLemmas
 pub mod WaitLemmas

@@ -1,5 +1,5 @@
 -- After an error of the connection nothing is found.
-use Rattle.std.proofs.Common.{◌≡◌, ℕ, ◌%◌, ◌/◌, ◌&&◌, not, Bool, true, false, cond, eqb, List, [], ◌∷◌, ◌++◌, Option, None, refl, sym, ap, ◌∙◌, inl, inr}
+use Rattle.std.proofs.Common.{◌≡◌, ℕ, ◌%◌, ◌/◌, ◌&&◌, not, Bool, true, false, cond, eqb, List, [], ◌∷◌, ◌++◌, Option, None, refl, sym, ap, ◌∙◌, append_assoc, inl, inr}
 use Rattle.std.proofs.lemmas.Bool.{cases_Bool, false≢true}
 use Rattle.wtp_frames.specs.declared.endpoint.Side.{Side}
 use Rattle.wtp_frames.specs.declared.endpoint.Side.TheVariants.{Client, Server}
@@ -129,3 +129,9 @@ before_steps steps x e = elim (cases_Bool x.connection.over) [
   | inl over ↦ absurd (false≢true (sym e ∙ after_over steps x over))
   | inr intact ↦ intact
 ]
+
+pub seen_append : (first rest : Transcript) (x : State) → seen_in x (first ++ rest) ≡ seen_in x first ++ seen_in (after x first) rest
+seen_append [] rest x = refl
+seen_append (a ∷ first) rest x =
+    ap (λ (l : List (ℕ × Seen)). found_by x a ++ l) (seen_append first rest (next x a))
+    ∙ sym (append_assoc (found_by x a) (seen_in (next x a) first) (seen_in (after (next x a) first) rest))

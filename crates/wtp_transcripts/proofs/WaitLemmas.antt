@@ -36,9 +36,9 @@ use Rattle.wtp_transcripts.specs.Transcript.{read, Held, Event, Came, Told, Rese
 -- ---- runs
 
 -- so many streams wait after a run, and its stream takes so many places
-record WaitsAs (n k : ℕ) (x : StreamRun) : Type 0 where
-  waiting : x.connection.waiting ≡ n
-  places : places x.stream ≡ k
+pub record WaitsAs (n k : ℕ) (x : StreamRun) : Type 0 where
+  pub waiting : x.connection.waiting ≡ n
+  pub places : places x.stream ≡ k
 
 scope_waiting : (s : ErrorScope) (c : Connection) → (closed_in c s).waiting ≡ c.waiting
 scope_waiting scope.Stream c = refl
@@ -125,7 +125,7 @@ ended_waits n k x h =
     let y : WaitsAs x.connection.waiting (places x.stream) (ending x.connection x.stream x.left) = ending_waits x.stream x.left x.connection in
     cond_waits x.connection.over n k x _ h (record { waiting = y.waiting ∙ h.waiting; places = y.places ∙ h.places })
 
-read_waits : (fin : Bool) (s : Stream) (bytes : List ℕ) (c : Connection) → WaitsAs c.waiting (places s) (read fin c s bytes)
+pub read_waits : (fin : Bool) (s : Stream) (bytes : List ℕ) (c : Connection) → WaitsAs c.waiting (places s) (read fin c s bytes)
 read_waits true s bytes c = ended_waits c.waiting (places s) (run_stream c s bytes) (run_waits s bytes c)
 read_waits false s bytes c = run_waits s bytes c
 
@@ -246,19 +246,19 @@ or_false : (a b : Bool) → a ≡ false → (a || b) ≡ true → b ≡ true
 or_false true b f e = absurd (false≢true (sym f))
 or_false false b f e = e
 
-held_at : (n m : ℕ) (h : Held) (t : Table) → eqb n m ≡ true → with_held n h t m ≡ h
+pub held_at : (n m : ℕ) (h : Held) (t : Table) → eqb n m ≡ true → with_held n h t m ≡ h
 held_at n m h t e = rw e refl
 
-held_other : (n m : ℕ) (h : Held) (t : Table) → eqb n m ≡ false → with_held n h t m ≡ t m
+pub held_other : (n m : ℕ) (h : Held) (t : Table) → eqb n m ≡ false → with_held n h t m ≡ t m
 held_other n m h t e = rw e refl
 
-other_waiting : (ns : List ℕ) (n : ℕ) (h : Held) (t : Table) → is_among n ns ≡ false → waiting_among ns (with_held n h t) ≡ waiting_among ns t
+pub other_waiting : (ns : List ℕ) (n : ℕ) (h : Held) (t : Table) → is_among n ns ≡ false → waiting_among ns (with_held n h t) ≡ waiting_among ns t
 other_waiting [] n h t e = refl
 other_waiting (m ∷ ns) n h t e =
     ap (λ (x : Held). places x.stream + waiting_among ns (with_held n h t)) (held_other n m h t (or_first (eqb n m) (is_among n ns) e))
     ∙ ap (λ (k : ℕ). places (t m).stream + k) (other_waiting ns n h t (or_second (eqb n m) (is_among n ns) e))
 
-its_waiting : (ns : List ℕ) (n : ℕ) (h : Held) (t : Table) → AreDistinct ns → is_among n ns ≡ true → waiting_among ns (with_held n h t) + places (t n).stream ≡ waiting_among ns t + places h.stream
+pub its_waiting : (ns : List ℕ) (n : ℕ) (h : Held) (t : Table) → AreDistinct ns → is_among n ns ≡ true → waiting_among ns (with_held n h t) + places (t n).stream ≡ waiting_among ns t + places h.stream
 its_waiting [] n h t d e = absurd (false≢true e)
 its_waiting (m ∷ ns) n h t d e = elim (cases_Bool (eqb n m)) [
   | inl same ↦
@@ -273,7 +273,7 @@ its_waiting (m ∷ ns) n h t d e = elim (cases_Bool (eqb n m)) [
       omega (arith, ap (λ (x : Held). places x.stream) at, rest)
 ]
 
-its_places : (ns : List ℕ) (n : ℕ) (t : Table) → is_among n ns ≡ true → places (t n).stream ≤ waiting_among ns t
+pub its_places : (ns : List ℕ) (n : ℕ) (t : Table) → is_among n ns ≡ true → places (t n).stream ≤ waiting_among ns t
 its_places [] n t e = absurd (false≢true e)
 its_places (m ∷ ns) n t e = elim (cases_Bool (eqb n m)) [
   | inl same ↦ omega (arith, ap (λ (k : ℕ). places (t k).stream) (eqb-true n m same))
@@ -282,7 +282,7 @@ its_places (m ∷ ns) n t e = elim (cases_Bool (eqb n m)) [
 
 -- ---- the whole connection
 
-accepted_waiting : (side : Side) (c : Connection) (n : ℕ) → (with_stream side c n).waiting ≡ c.waiting
+pub accepted_waiting : (side : Side) (c : Connection) (n : ℕ) → (with_stream side c n).waiting ≡ c.waiting
 accepted_waiting Client c n = refl
 accepted_waiting Server c n = begun (eqb (n % 4) 0)
   where
@@ -290,7 +290,7 @@ accepted_waiting Server c n = begun (eqb (n % 4) 0)
     begun true = refl
     begun false = refl
 
-stopped_waiting : (b : Bool) (c : Connection) (f : Fault) (o : Option Fault) → (cond {A = Connection × Option Fault} b (closed_by c f, o) (c, None)).0.waiting ≡ c.waiting
+pub stopped_waiting : (b : Bool) (c : Connection) (f : Fault) (o : Option Fault) → (cond {A = Connection × Option Fault} b (closed_by c f, o) (c, None)).0.waiting ≡ c.waiting
 stopped_waiting true c f o = closed_waiting c f
 stopped_waiting false c f o = refl
 
@@ -334,7 +334,7 @@ pub waits_whole : (c : Connection) (s : ℕ) (left bytes : List ℕ) (old fin : 
 }
 waits_whole c s left bytes old fin e = ap (λ (x : StreamRun). outcome_of (old || fin) x) (keeps_waiting (old || fin) c s (left ++ bytes) e)
 
-open_gives : (fin : Bool) (c : Connection) (s : ℕ) (bytes : List ℕ) → c.over ≡ false → (read fin c (Session s) bytes).seen ≡ bytes_seen bytes ++ end_seen fin
+pub open_gives : (fin : Bool) (c : Connection) (s : ℕ) (bytes : List ℕ) → c.over ≡ false → (read fin c (Session s) bytes).seen ≡ bytes_seen bytes ++ end_seen fin
 open_gives true c s bytes e = rw e refl
 open_gives false c s bytes e = rw e (sym (append-nil (bytes_seen bytes)))
 

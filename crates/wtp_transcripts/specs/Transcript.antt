@@ -260,7 +260,7 @@ AreOf ns [] = Unit {0}
 AreOf ns (On n e ∷ steps) = (is_among n ns ≡ true) × AreOf ns steps
 AreOf ns (other ∷ steps) = AreOf ns steps
 
--- ---- premises
+-- ---- places to wait
 
 -- a stream whose session is to come has a place to wait
 abbrev pub HasPlace : Connection → Stream → Event → Type 0
@@ -307,6 +307,12 @@ pub record KeepsRules (e : Endpoint) (t : Table) (steps : Transcript) : Type 0 w
 -- each stream that is to wait has a place
 abbrev pub AllHavePlaces : State → Transcript → Type 0
 AllHavePlaces x steps = (n : ℕ) → HasPlaces n x steps
+
+-- of no other streams it is said that their session is to come
+abbrev pub WaitAmong : List ℕ → Transcript → Type 0
+WaitAmong ns [] = Unit {0}
+WaitAmong ns (On n (Told known.Coming) ∷ steps) = (is_among n ns ≡ true) × WaitAmong ns steps
+WaitAmong ns (other ∷ steps) = WaitAmong ns steps
 
 -- no stream waits at first
 abbrev pub NoneWaits : Table → Type 0

@@ -1,14 +1,16 @@
 //! Laws of the definitions that the contracts of `wtp_connection` cite, about all streams of a
 //! connection. Each function does nothing: its contract is the law.
-ghost use Rattle.std.specs.Prelude.{◌≡◌, ℕ, ◌≤◌, ◌||◌, Bool, true, false, List, [], ◌∷◌, ◌++◌};
+ghost use Rattle.std.specs.Prelude.{◌≡◌, ℕ, ◌%◌, ◌≤◌, ◌||◌, Bool, true, false, List, [], ◌∷◌, ◌++◌, length, Some, None};
+ghost use Rattle.wtp_core.specs.Varint.{Encodes};
 ghost use Rattle.wtp_frames.specs.declared.endpoint.Endpoint.{Endpoint};
 ghost use Rattle.wtp_connection.specs.declared.connection.Connection.{Connection};
 ghost use Rattle.wtp_connection.specs.declared.connection.Found.{Found};
 ghost use Rattle.wtp_connection.specs.declared.connection.Known.TheVariants as known;
+ghost use Rattle.wtp_connection.specs.declared.stream.Purpose.TheVariants as «for»;
 ghost use Rattle.wtp_connection.specs.declared.stream.Stream.{Stream};
-ghost use Rattle.wtp_connection.specs.declared.stream.Stream.TheVariants.{Waiting};
-ghost use Rattle.wtp_connection.specs.Streams.{connection_of, bytes_seen};
-ghost use Rattle.wtp_transcripts.specs.Transcript.{read, AreCalls, seen_by, Held, Event, Came, Told, happens, alone, Table, On, Transcript, State, begin, after, seen_in, on_stream, events_of, end_seen, places, waiting_among, AreDistinct, AreOf, HasPlaces, IsStill, IsRead, at_once, KeepsRules, AllHavePlaces, NoneWaits, StopsNone, SameOn};
+ghost use Rattle.wtp_connection.specs.declared.stream.Stream.TheVariants.{Uni, Bi, Waiting};
+ghost use Rattle.wtp_connection.specs.Streams.{connection_of, Opened, bytes_seen};
+ghost use Rattle.wtp_transcripts.specs.Transcript.{read, AreCalls, seen_by, Held, Event, Came, Told, happens, alone, bytes_in, end_in, last_said, at_once, IsRead, IsStill, Table, Step, On, Transcript, State, begin, next, after, found_by, seen_in, on_stream, events_of, end_seen, places, waiting_among, AreDistinct, AreOf, HasPlaces, KeepsRules, StopsNone, AllHavePlaces, WaitAmong, NoneWaits, SameOn};
 
 /// A loop of calls that goes on until one returns `More` finds all that is in the bytes, and at the end
 /// of the stream if it comes after them. The connection, the stream and the bytes that are left are
@@ -53,9 +55,16 @@ pub fn streams_are_independent()
         → (alone (connection_of e) (t n) (events_of n steps)).connection.over ≡ false }
 {}
 
-/// After an error that ends the connection nothing is found on any stream, whatever happens, and the
-/// connection stays so.
+/// Up to the first error that ends the connection each stream gives what it gives alone. After it
+/// nothing is found on any stream, whatever happens, and the connection stays so.
 pub fn nothing_is_found_after_an_error()
+    ensures first { (e : Endpoint) (t : Table) (n : ℕ) (first rest : Transcript) (a : Step)
+        → places (t n).stream ≡ 0 → (after (begin e t) first).connection.over ≡ false
+        → HasPlaces n (begin e t) first
+        → (next (after (begin e t) first) a).connection.over ≡ true
+        → on_stream n (seen_in (begin e t) (first ++ (a ∷ rest)))
+        ≡ (alone (connection_of e) (t n) (events_of n first)).seen
+        ++ on_stream n (found_by (after (begin e t) first) a) }
     ensures seen { (x : State) (first rest : Transcript) → (after x first).connection.over ≡ true
         → seen_in x (first ++ rest) ≡ seen_in x first }
     ensures over { (x : State) (steps : Transcript) → x.connection.over ≡ true
@@ -72,6 +81,14 @@ pub fn waiting_streams_are_counted()
     ensures few { (e : Endpoint) (t : Table) (ns : List ℕ) (steps : Transcript) → AreDistinct ns
         → AreOf ns steps → waiting_among ns t ≡ 0
         → (after (begin e t) steps).connection.waiting ≤ 16 }
+{}
+
+/// While it is said of at most 16 streams that their sessions are to come, each of them has a place to
+/// wait, in whatever order they do.
+pub fn sixteen_streams_may_wait()
+    ensures { (e : Endpoint) (t : Table) (ns : List ℕ) (steps : Transcript) → NoneWaits t
+        → AreDistinct ns → length ns ≤ 16 → WaitAmong ns steps
+        → AllHavePlaces (begin e t) steps }
 {}
 
 /// A stream that waits keeps all bytes that come, and gives nothing. Once its session is open it gives
@@ -102,6 +119,30 @@ pub fn streams_give_their_bytes()
         → IsRead (connection_of e) (t n) (events_of n steps)
         → on_stream n (seen_in (begin e t) steps)
         ≡ (alone (connection_of e) (t n) (at_once (events_of n steps))).seen }
+{}
+
+/// A stream of a session that is open at last gives what it is for, exactly its bytes, and its end if
+/// that came, whatever encodings its first numbers have, however early its bytes come, and whatever
+/// happens on other streams.
+pub fn session_streams_are_whole()
+    ensures uni { (e : Endpoint) (t : Table) (n s : ℕ) (steps : Transcript) (a b bytes : List ℕ)
+        → e.webtransport ≡ true → Encodes 0x54 a → Encodes s b → s % 4 ≡ 0
+        → t n ≡ record { stream = Uni; left = []; fin = false }
+        → (after (begin e t) steps).connection.over ≡ false → HasPlaces n (begin e t) steps
+        → IsRead (connection_of e) (t n) (events_of n steps)
+        → bytes_in (events_of n steps) ≡ a ++ (b ++ bytes)
+        → last_said None (events_of n steps) ≡ Some known.Open
+        → on_stream n (seen_in (begin e t) steps)
+        ≡ Opened («for».Session s) ∷ (bytes_seen bytes ++ end_seen (end_in (events_of n steps))) }
+    ensures bi { (e : Endpoint) (t : Table) (n s : ℕ) (steps : Transcript) (a b bytes : List ℕ)
+        → e.webtransport ≡ true → Encodes 0x41 a → Encodes s b → s % 4 ≡ 0
+        → t n ≡ record { stream = Bi; left = []; fin = false }
+        → (after (begin e t) steps).connection.over ≡ false → HasPlaces n (begin e t) steps
+        → IsRead (connection_of e) (t n) (events_of n steps)
+        → bytes_in (events_of n steps) ≡ a ++ (b ++ bytes)
+        → last_said None (events_of n steps) ≡ Some known.Open
+        → on_stream n (seen_in (begin e t) steps)
+        ≡ Opened («for».Session s) ∷ (bytes_seen bytes ++ end_seen (end_in (events_of n steps))) }
 {}
 
 /// No error ends a connection whose peer keeps the rules, in whatever order its bytes come.
