@@ -57,13 +57,13 @@ goes_then c d x y v w f g = record {
 pub goes_same : (c d : Connection) → Goes c d c d
 goes_same c d = record { endpoint = refl; other = refl; flags = λ p. inl (refl, refl) }
 
-peer_flags : (c : Connection) (v : PeerSettings) (p : Purpose) → flag (record c { peer = v }) p ≡ flag c p
+pub peer_flags : (c : Connection) (v : PeerSettings) (p : Purpose) → flag (record c { peer = v }) p ≡ flag c p
 peer_flags c v «for».Control = refl
 peer_flags c v «for».Encoder = refl
 peer_flags c v «for».Decoder = refl
 peer_flags c v other = refl
 
-over_flags : (c : Connection) (p : Purpose) → flag (record c { over = true }) p ≡ flag c p
+pub over_flags : (c : Connection) (p : Purpose) → flag (record c { over = true }) p ≡ flag c p
 over_flags c «for».Control = refl
 over_flags c «for».Encoder = refl
 over_flags c «for».Decoder = refl

@@ -10,7 +10,7 @@ use Rattle.wtp_connection.specs.Streams.{StreamRun, rests, followed, run_stream}
 use Rattle.wtp_transcripts.specs.Transcript.{read, AreCalls, seen_by}
 
 -- what one call finds, and what is found after it
-call_finds : (x : Found) (fin : Bool) (c d : Connection) (s t : Stream) (bytes : List ℕ) → FoundIs x c s bytes fin d t → read fin c s bytes ≡ followed (seen_of x bytes) (read fin d t (rest_after x bytes))
+pub call_finds : (x : Found) (fin : Bool) (c d : Connection) (s t : Stream) (bytes : List ℕ) → FoundIs x c s bytes fin d t → read fin c s bytes ≡ followed (seen_of x bytes) (read fin d t (rest_after x bytes))
 call_finds x true c d s t bytes is = is.finds []
 call_finds x false c d s t bytes is =
     ap (λ (l : List ℕ). run_stream c s l) (sym (append-nil bytes))

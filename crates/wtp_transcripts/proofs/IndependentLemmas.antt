@@ -151,7 +151,7 @@ event_alike e h c d same i p a =
     read_both (ends h e) (unread h e) c d x y k (read_alike (ends h e) x.1 (unread h e) x.0 y.0 (k.goes.other ∙ same ∙ sym k.goes.endpoint) k.over a)
 
 -- what an event does to one connection
-its_place : (c : Connection) (s : Stream) (e : Event) → SamePlace c c s e
+pub its_place : (c : Connection) (s : Stream) (e : Event) → SamePlace c c s e
 its_place c (Joining s) (Told known.Coming) = refl
 its_place c other e = tt
 
@@ -270,7 +270,7 @@ pub record Opens (c e : Connection) : Type 0 where
   pub endpoint : e.endpoint ≡ c.endpoint
   pub flags : (p : Purpose) → flag e p ≡ false → flag c p ≡ false
 
-flags_open : (c x : Connection) (p : Purpose) → Flags c c x x p → flag x p ≡ false → flag c p ≡ false
+pub flags_open : (c x : Connection) (p : Purpose) → Flags c c x x p → flag x p ≡ false → flag c p ≡ false
 flags_open c x p (inl (f, g)) e = sym f ∙ e
 flags_open c x p (inr (f, g)) e = absurd (false≢true (sym e ∙ f))
 

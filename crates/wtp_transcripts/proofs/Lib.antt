@@ -7,5 +7,7 @@ pub mod OrderLemmas
 pub mod OverLemmas
 pub mod PlaceLemmas
 pub mod SessionLemmas
+pub mod ScheduleLemmas
+pub mod ShowLemmas
 pub mod TranscriptLemmas
 pub mod WaitLemmas

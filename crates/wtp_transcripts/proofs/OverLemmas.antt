@@ -62,6 +62,9 @@ call_silent Reset c s o = cond_silent (is_critical s && not c.over) _ _ (and_ove
 call_silent Overflowed c s o = same_silent c.over c s _ o o
 call_silent Abandoned c s o = record { over = abandoned_over (is_critical s) c s _ o; none = refl }
 
+pub call_over : (e : Event) (c : Connection) (s : Stream) → c.over ≡ true → (called c s e).0.over ≡ true
+call_over e c s o = (call_silent e c s o).over
+
 -- nothing is found by an event, and the connection stays over
 record IsQuiet (x : Outcome) : Type 0 where
   none : x.seen ≡ []
@@ -91,7 +94,7 @@ accepted_over Server c n = begun (eqb (n % 4) 0)
     begun true = refl
     begun false = refl
 
-stopped_over : (b over : Bool) (c d : Connection) (f : Option Fault) → over ≡ true → (cond {A = Connection × Option Fault} (b && not over) (d, f) (c, None)).0 ≡ c
+pub stopped_over : (b over : Bool) (c d : Connection) (f : Option Fault) → over ≡ true → (cond {A = Connection × Option Fault} (b && not over) (d, f) (c, None)).0 ≡ c
 stopped_over true over c d f e = rw e refl
 stopped_over false over c d f e = refl
 

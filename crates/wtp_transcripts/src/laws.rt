@@ -8,8 +8,9 @@ ghost use Rattle.wtp_connection.specs.declared.connection.Found.{Found};
 ghost use Rattle.wtp_connection.specs.declared.connection.Known.TheVariants as known;
 ghost use Rattle.wtp_connection.specs.declared.stream.Purpose.TheVariants as «for»;
 ghost use Rattle.wtp_connection.specs.declared.stream.Stream.{Stream};
-ghost use Rattle.wtp_connection.specs.declared.stream.Stream.TheVariants.{Uni, Bi, Waiting};
+ghost use Rattle.wtp_connection.specs.declared.stream.Stream.TheVariants.{Uni, Bi, Waiting, Session};
 ghost use Rattle.wtp_connection.specs.Streams.{connection_of, Opened, bytes_seen};
+ghost use Rattle.wtp_transcripts.specs.Calls.{CallStep, Leads, calls_on, AreReads, arrived, end_arrived, found_in, IsIdle};
 ghost use Rattle.wtp_transcripts.specs.Transcript.{read, AreCalls, seen_by, Held, Event, Came, Told, happens, alone, bytes_in, end_in, last_said, at_once, IsRead, IsStill, Table, Step, On, Transcript, State, begin, next, after, found_by, seen_in, on_stream, events_of, end_seen, places, waiting_among, AreDistinct, AreOf, HasPlaces, KeepsRules, StopsNone, AllHavePlaces, WaitAmong, NoneWaits, SameOn};
 
 /// A loop of calls that goes on until one returns `More` finds all that is in the bytes, and at the end
@@ -20,6 +21,37 @@ pub fn calls_find_everything()
         → AreCalls xs fin c s bytes d t left
         → read fin c s bytes
         ≡ record { seen = seen_by xs bytes; connection = d; stream = t; left = left } }
+{}
+
+/// Calls on many streams may be interleaved in any order, and a stream need not be read to its last byte
+/// before another one is. While no error ends the connection, and nothing but `receive` is called on a
+/// stream, what its calls find is what is in all of its bytes, joined, as the connection was before
+/// them, once they find nothing more. A stream that waits gives nothing and loses no byte; one of an
+/// open session gives exactly its bytes, and its end.
+pub fn calls_may_be_interleaved()
+    ensures seen { (steps : List CallStep) (c d : Connection) (t u : Table) (n : ℕ)
+        → Leads steps c t d u → d.over ≡ false → AreReads (t n).fin (calls_on n steps)
+        → IsIdle d (u n)
+        → found_in (calls_on n steps) (t n).left
+        ≡ (read ((t n).fin || end_arrived (calls_on n steps)) c (t n).stream
+        ((t n).left ++ arrived (calls_on n steps))).seen }
+    ensures stream { (steps : List CallStep) (c d : Connection) (t u : Table) (n : ℕ)
+        → Leads steps c t d u → d.over ≡ false → AreReads (t n).fin (calls_on n steps)
+        → IsIdle d (u n)
+        → (u n).stream
+        ≡ (read ((t n).fin || end_arrived (calls_on n steps)) c (t n).stream
+        ((t n).left ++ arrived (calls_on n steps))).stream }
+    ensures waiting { (steps : List CallStep) (c d : Connection) (t u : Table) (n s : ℕ)
+        → Leads steps c t d u → d.over ≡ false → AreReads (t n).fin (calls_on n steps)
+        → IsIdle d (u n) → (t n).stream ≡ Waiting s
+        → (found_in (calls_on n steps) (t n).left ≡ [])
+        × ((u n).left ≡ (t n).left ++ arrived (calls_on n steps)) }
+    ensures session { (steps : List CallStep) (c d : Connection) (t u : Table) (n s : ℕ)
+        → Leads steps c t d u → d.over ≡ false → AreReads (t n).fin (calls_on n steps)
+        → IsIdle d (u n) → (t n).stream ≡ Session s
+        → found_in (calls_on n steps) (t n).left
+        ≡ bytes_seen ((t n).left ++ arrived (calls_on n steps))
+        ++ end_seen ((t n).fin || end_arrived (calls_on n steps)) }
 {}
 
 /// A piece of a stream may be cut in two anywhere: what is found from then on, on all streams, is the
