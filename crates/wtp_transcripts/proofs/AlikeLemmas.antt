@@ -1,5 +1,5 @@
 -- What a stream gives is the same under two connections, if neither has opened what the other has not.
-use Rattle.std.proofs.Common.{◌≡◌, ℕ, ◌&&◌, ◌||◌, Bool, true, false, cond, List, [], ◌∷◌, ◌++◌, length, Option, Some, None, Result, Ok, Err, refl, sym, ap, subst, ◌∙◌, inl, inr, ◌⊎◌}
+use Rattle.std.proofs.Common.{◌≡◌, ℕ, ◌||◌, Bool, true, false, cond, List, [], ◌∷◌, ◌++◌, length, Option, Some, None, Result, Ok, Err, refl, sym, ap, subst, ◌∙◌, inl, inr, ◌⊎◌}
 use Rattle.std.proofs.lemmas.Bool.{cases_Bool, false≢true}
 use Rattle.std.specs.List.{list_all}
 use Rattle.wtp_core.specs.declared.error.scope.ErrorScope.{ErrorScope}
@@ -7,8 +7,7 @@ use Rattle.wtp_core.specs.declared.error.scope.ErrorScope.TheVariants as scope
 use Rattle.wtp_frames.specs.declared.endpoint.Endpoint.{Endpoint}
 use Rattle.wtp_frames.specs.declared.fault.Fault.{Fault as StreamFault}
 use Rattle.wtp_frames.specs.declared.frame_type.FrameType.TheVariants as kind
-use Rattle.wtp_frames.specs.declared.reader.Reader.{Reader}
-use Rattle.wtp_frames.specs.Item.{Item, Whole, Byte, TooLarge, Broken}
+use Rattle.wtp_frames.specs.Item.{Item, Whole, Broken}
 use Rattle.wtp_frames.specs.Run.{Run, run}
 use Rattle.wtp_frames.specs.Start.{message_reader, control_reader}
 use Rattle.wtp_connection.specs.declared.connection.Connection.{Connection}
@@ -25,7 +24,7 @@ use Rattle.wtp_connection.specs.Instructions.{sets_zero, after_bytes}
 use Rattle.wtp_connection.specs.Opening.{uni_at, bi_at}
 use Rattle.wtp_connection.specs.Receiving.{opening_of}
 use Rattle.wtp_connection.specs.Settings.{settings_in}
-use Rattle.wtp_connection.specs.Streams.{opens, opens_once, push_fault, closed_in, closed_by, Seen, Opened, Configured, Gave, Broke, Ended, StreamRun, rests, followed, all_given, breaks, by_settings, by_item, of_items, has_frames, of_frames, bytes_seen, by_capacity, by_place, run_open, by_purpose, by_opening, run_intact, run_stream, by_fault, end_of, ending, ended}
+use Rattle.wtp_connection.specs.Streams.{opens, opens_once, push_fault, closed_in, closed_by, Seen, Opened, Configured, Gave, Broke, Ended, StreamRun, rests, followed, all_given, breaks, by_settings, of_items, has_frames, bytes_seen, by_capacity, by_place, run_open, by_purpose, by_opening, run_intact, run_stream, by_fault, end_of, ending, ended}
 use Rattle.wtp_connection.proofs.StreamLemmas.{over_run}
 use Rattle.wtp_transcripts.specs.Transcript.{read, is_opened as flag}
 

@@ -1,5 +1,5 @@
 -- Calls of `receive` until more bytes are needed.
-use Rattle.std.proofs.Common.{◌≡◌, ℕ, Bool, true, false, List, [], ◌∷◌, ◌++◌, drop, refl, sym, ap, ◌∙◌}
+use Rattle.std.proofs.Common.{◌≡◌, ℕ, Bool, true, false, List, [], ◌∷◌, drop, refl, sym, ap, ◌∙◌}
 use Rattle.std.proofs.lemmas.List.{append-nil}
 use Rattle.wtp_connection.specs.declared.connection.Connection.{Connection}
 use Rattle.wtp_connection.specs.declared.connection.Found.{Found}

@@ -1,5 +1,5 @@
 -- A stream is cut anywhere, under any state of the connection.
-use Rattle.std.proofs.Common.{◌≡◌, ℕ, ◌&&◌, ◌||◌, Bool, true, false, List, [], ◌∷◌, ◌++◌, map, Option, Some, None, Result, Ok, Err, refl, sym, ap, subst, ◌∙◌, append_assoc, inl, inr}
+use Rattle.std.proofs.Common.{◌≡◌, ℕ, ◌&&◌, ◌||◌, Bool, true, false, List, [], ◌∷◌, ◌++◌, map, Option, Some, None, Result, Ok, Err, refl, sym, ap, subst, ◌∙◌, inl, inr}
 use Rattle.std.proofs.lemmas.Bool.{cases_Bool, false≢true}
 use Rattle.std.proofs.lemmas.List.{append-nil, map-append}
 use Rattle.std.proofs.lemmas.List.Folds.{list_all-append}
@@ -19,11 +19,11 @@ use Rattle.wtp_connection.specs.declared.settings.PeerSettings.{PeerSettings}
 use Rattle.wtp_connection.specs.declared.stream.Purpose.{Purpose}
 use Rattle.wtp_connection.specs.declared.stream.Purpose.TheVariants as «for»
 use Rattle.wtp_connection.specs.declared.stream.Stream.{Stream}
-use Rattle.wtp_connection.specs.declared.stream.Stream.TheVariants.{Uni, Bi, Frames, Joining, Waiting, Session, Encoder, Decoder, Ignored, Over}
+use Rattle.wtp_connection.specs.declared.stream.Stream.TheVariants.{Uni, Bi, Frames, Joining, Waiting, Session, Encoder, Decoder, Ignored}
 use Rattle.wtp_connection.specs.Instructions.{sets_zero, then_bytes, after_bytes}
 use Rattle.wtp_connection.specs.Settings.{settings_in}
 use Rattle.wtp_connection.specs.Receiving.{opening_of}
-use Rattle.wtp_connection.specs.Streams.{opens, opens_once, closed_by, Seen, Opened, Configured, Gave, Broke, Ended, StreamRun, rests, followed, all_given, breaks, by_settings, by_item, of_items, has_frames, of_frames, bytes_seen, by_capacity, by_place as by_decoder, run_open, by_purpose, by_opening, run_intact, run_stream, by_fault, end_of, ending, ended}
+use Rattle.wtp_connection.specs.Streams.{opens, opens_once, closed_by, Seen, Opened, Configured, Gave, Broke, StreamRun, rests, followed, all_given, breaks, by_settings, by_item, of_items, has_frames, of_frames, bytes_seen, by_capacity, by_place as by_decoder, run_open, by_purpose, by_opening, run_intact, run_stream, ended}
 use Rattle.wtp_connection.proofs.InstructionLemmas.{after_append}
 use Rattle.wtp_connection.proofs.OpeningLemmas.{opening_more}
 use Rattle.wtp_connection.proofs.StreamLemmas.{over_run, frames_run, over_given, or_true}

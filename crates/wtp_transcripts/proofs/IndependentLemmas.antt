@@ -1,5 +1,5 @@
 -- What a stream gives does not depend on the others.
-use Rattle.std.proofs.Common.{◌≡◌, ℕ, ◌+◌, ◌<◌, ◌≤◌, ◌%◌, ◌/◌, ◌&&◌, not, nat_lt, Bool, true, false, cond, eqb, List, [], ◌∷◌, ◌++◌, map, Option, Some, None, refl, sym, ap, subst, ◌∙◌, arith, inl, inr, ◌⊎◌}
+use Rattle.std.proofs.Common.{◌≡◌, ℕ, ◌+◌, ◌%◌, ◌/◌, ◌&&◌, not, nat_lt, Bool, true, false, cond, eqb, List, [], ◌∷◌, ◌++◌, Option, Some, None, refl, sym, ap, subst, ◌∙◌, arith, inl, inr}
 use Rattle.std.proofs.lemmas.Bool.{cases_Bool, eqb-true, lt-ltb, false≢true}
 use Rattle.std.proofs.lemmas.List.{append-nil}
 use Rattle.wtp_frames.specs.declared.endpoint.Endpoint.{Endpoint}
@@ -18,10 +18,10 @@ use Rattle.wtp_connection.specs.declared.stream.Stream.{Stream}
 use Rattle.wtp_connection.specs.declared.stream.Stream.TheVariants.{Joining, Waiting, Session, Over}
 use Rattle.wtp_connection.specs.Opening.{is_critical, is_for_critical, has_no_headers}
 use Rattle.wtp_connection.specs.Requests.{with_request}
-use Rattle.wtp_connection.specs.Streams.{connection_of, with_stream, accepts, closed_by, Seen, StreamRun, run_stream, most_waiting, Joined, other_fault, refuses, settles, waits, freed, joins_open, joins, without, reset_answer_at, reset_answer, resets, stops, overflows_open, overflows, abandons}
-use Rattle.wtp_transcripts.specs.Transcript.{read, Held, Event, Came, Told, Reset, Overflowed, Abandoned, Outcome, answered, after_seen, called, unread, ends, reads_on, happens, alone, Table, with_held, Step, Accepted, Stopped, On, Transcript, State, begin, at_stream, next, after, marked, found_by, seen_in, on_stream, events_of, places, HasPlace, StepHasPlace, HasPlaces, is_opened as flag}
+use Rattle.wtp_connection.specs.Streams.{connection_of, with_stream, closed_by, Seen, StreamRun, most_waiting, Joined, other_fault, refuses, settles, waits, freed, joins_open, without, reset_answer_at, reset_answer, overflows_open}
+use Rattle.wtp_transcripts.specs.Transcript.{read, Held, Event, Came, Told, Reset, Overflowed, Abandoned, Outcome, answered, called, unread, ends, reads_on, happens, alone, Table, with_held, Step, Accepted, Stopped, On, Transcript, State, begin, at_stream, next, after, marked, found_by, seen_in, on_stream, events_of, places, HasPlace, HasPlaces, is_opened as flag}
 use Rattle.wtp_transcripts.proofs.AlikeLemmas.{Flags, Goes, goes_then, goes_same, closed_goes, closed_over, RunsAlike, AgreesOn, read_alike, opened_first}
-use Rattle.wtp_transcripts.proofs.OverLemmas.{read_from, before_step, before_steps, nothing_seen, seen_append}
+use Rattle.wtp_transcripts.proofs.OverLemmas.{read_from, before_steps, nothing_seen, seen_append}
 use Rattle.wtp_transcripts.proofs.WaitLemmas.{EventCounts, event_counts}
 
 -- ---- calls
@@ -186,8 +186,8 @@ event_within e h c d w p o =
     let i : x.0.over ≡ false = read_from (ends h e) x.0 x.1 (unread h e) o in
     let v : Within x.0 y.0 = within_goes c d x.0 y.0 w k.goes i k.over in
     event_alike e h c d w.endpoint (w.other ∙ sym w.intact) p (λ q rest is.
-        let first : flag x.0 q ≡ false = opened_first (ends h e) x.1 (unread h e) x.0 q rest i o is in
-        v.flags q first ∙ sym first)
+    let first : flag x.0 q ≡ false = opened_first (ends h e) x.1 (unread h e) x.0 q rest i o is in
+    v.flags q first ∙ sym first)
 
 -- ---- what is found on one stream
 

@@ -1,5 +1,5 @@
 -- The events of one stream, as if all of its bytes came at once.
-use Rattle.std.proofs.Common.{◌≡◌, ℕ, ◌+◌, ◌-◌, ◌<◌, ◌||◌, nat_lt, Bool, true, false, cond, List, [], ◌∷◌, ◌++◌, length, Option, Some, None, Result, Ok, Err, refl, sym, ap, subst, ◌∙◌, append_assoc, arith, inl, inr, ◌⊎◌}
+use Rattle.std.proofs.Common.{◌≡◌, ℕ, ◌+◌, ◌<◌, ◌||◌, Bool, true, false, cond, List, [], ◌∷◌, ◌++◌, length, Option, Some, None, Result, Ok, Err, refl, sym, ap, subst, ◌∙◌, append_assoc, arith, inl, inr, ◌⊎◌}
 use Rattle.std.proofs.lemmas.Bool.{cases_Bool, cases_lt, lt-ltb, le-ltb, false≢true}
 use Rattle.std.proofs.lemmas.List.{append-nil}
 use Rattle.wtp_frames.specs.declared.fault.Fault.{Fault as StreamFault}
@@ -7,15 +7,14 @@ use Rattle.wtp_frames.specs.declared.fault.Fault.TheVariants as stream
 use Rattle.wtp_connection.specs.declared.connection.Connection.{Connection}
 use Rattle.wtp_connection.specs.declared.connection.Known.{Known}
 use Rattle.wtp_connection.specs.declared.connection.Known.TheVariants as known
-use Rattle.wtp_connection.specs.declared.fault.Fault.{Fault}
 use Rattle.wtp_connection.specs.declared.fault.Fault.TheVariants as fault
 use Rattle.wtp_connection.specs.declared.stream.Stream.{Stream}
 use Rattle.wtp_connection.specs.declared.stream.Stream.TheVariants.{Joining, Waiting, Session, Over}
-use Rattle.wtp_connection.specs.Streams.{closed_by, Seen, Broke, Ended, StreamRun, rests, followed, all_given, breaks, bytes_seen, run_stream, by_fault, end_of, ending, ended, most_waiting, Joined, refuses, settles, waits, freed, joins_open, joins}
-use Rattle.wtp_connection.proofs.StreamLemmas.{over_run, over_given}
-use Rattle.wtp_transcripts.specs.Transcript.{read, Held, Event, Came, Told, Reset, Overflowed, Abandoned, Outcome, outcome_of, after_seen, answered, called, unread, ends, reads_on, happens, alone, bytes_in, end_in, last_said, said, at_once, IsToJoin, IsRead, IsStill}
+use Rattle.wtp_connection.specs.Streams.{closed_by, Seen, StreamRun, rests, followed, all_given, bytes_seen, run_stream, by_fault, end_of, ending, ended, Joined, refuses, settles, freed, joins_open, joins}
+use Rattle.wtp_connection.proofs.StreamLemmas.{over_given}
+use Rattle.wtp_transcripts.specs.Transcript.{read, Held, Event, Came, Told, Reset, Overflowed, Abandoned, Outcome, outcome_of, after_seen, answered, reads_on, happens, alone, bytes_in, end_in, last_said, said, at_once, IsToJoin, IsRead, IsStill}
 use Rattle.wtp_transcripts.proofs.CutLemmas.{read_cut, run_still}
-use Rattle.wtp_transcripts.proofs.OverLemmas.{over_read, event_over, read_from}
+use Rattle.wtp_transcripts.proofs.OverLemmas.{over_read, event_over}
 use Rattle.wtp_transcripts.proofs.TranscriptLemmas.{and_then}
 use Rattle.wtp_transcripts.proofs.WaitLemmas.{keeps_waiting}
 
@@ -156,12 +155,12 @@ placed k c n i l = intact_joins (record c { waiting = c.waiting + 1 }) (Waiting 
 retold_joining : (k j : Known) (c : Connection) (n : ℕ) → c.over ≡ false → Retold c (Joining n) k j
 retold_joining known.Coming j c n i = elim (cases_lt c.waiting 16) [
   | inl less ↦ inl (record {
-      id = n;
-      connection = record c { waiting = c.waiting + 1 };
-      waits = intact_joins c (Joining n) known.Coming i ∙ rw (lt-ltb c.waiting 16 less) refl;
-      intact = i;
-      same = placed j c n i less;
-    })
+    id = n;
+    connection = record c { waiting = c.waiting + 1 };
+    waits = intact_joins c (Joining n) known.Coming i ∙ rw (lt-ltb c.waiting 16 less) refl;
+    intact = i;
+    same = placed j c n i less;
+  })
   | inr full ↦
       let same : joins c (Joining n) known.Coming ≡ refuses c stream.BufferedStreamRejected = intact_joins c (Joining n) known.Coming i ∙ rw (le-ltb c.waiting 16 full) refl in
       inr (subst (λ (x : Joined). IsJoined x.1) (sym same) tt)

@@ -1,5 +1,5 @@
 -- A peer that keeps the rules is not refused, in whatever order its bytes come.
-use Rattle.std.proofs.Common.{◌≡◌, ℕ, ◌%◌, ◌/◌, ◌&&◌, not, Bool, true, false, cond, eqb, List, [], ◌∷◌, ◌++◌, Option, Some, None, refl, sym, ap, subst, ◌∙◌, eq-eqb, inl, inr, ◌⊎◌}
+use Rattle.std.proofs.Common.{◌≡◌, ℕ, ◌%◌, ◌/◌, ◌&&◌, not, Bool, true, false, cond, eqb, List, [], ◌∷◌, Option, Some, None, refl, sym, ap, subst, ◌∙◌, eq-eqb, inl, inr}
 use Rattle.std.proofs.lemmas.Bool.{cases_Bool, eqb-true, false≢true}
 use Rattle.wtp_frames.specs.declared.endpoint.Endpoint.{Endpoint}
 use Rattle.wtp_frames.specs.declared.endpoint.Side.{Side}
@@ -15,9 +15,9 @@ use Rattle.wtp_connection.specs.declared.stream.Stream.{Stream}
 use Rattle.wtp_connection.specs.Opening.{is_for_critical}
 use Rattle.wtp_connection.specs.Receiving.{opening_of}
 use Rattle.wtp_connection.specs.Requests.{with_request}
-use Rattle.wtp_connection.specs.Streams.{connection_of, with_stream, closed_by, Seen, Joined, stops}
-use Rattle.wtp_transcripts.specs.Transcript.{read, Held, Event, Came, Told, Outcome, after_seen, called, unread, ends, happens, alone, bytes_in, end_in, last_said, said, at_once, IsRead, IsStill, Table, with_held, Step, Accepted, Stopped, On, Transcript, State, begin, at_stream, next, after, seen_in, on_stream, events_of, places, HasPlace, HasPlaces, is_opened as flag, alone_on, StopsNone, KeepsRules, AllHavePlaces, NoneWaits, SameBytes, SameOn}
-use Rattle.wtp_transcripts.proofs.AlikeLemmas.{Flags, Goes, opened_first, opened_then}
+use Rattle.wtp_connection.specs.Streams.{connection_of, with_stream, closed_by, Joined, stops}
+use Rattle.wtp_transcripts.specs.Transcript.{Held, Event, Came, Outcome, called, unread, ends, happens, alone, bytes_in, end_in, last_said, said, at_once, IsRead, IsStill, Table, Accepted, Stopped, On, Transcript, State, begin, at_stream, next, after, seen_in, on_stream, events_of, places, HasPlace, HasPlaces, is_opened as flag, alone_on, StopsNone, KeepsRules, AllHavePlaces, NoneWaits, SameBytes, SameOn}
+use Rattle.wtp_transcripts.proofs.AlikeLemmas.{Flags, opened_first, opened_then}
 use Rattle.wtp_transcripts.proofs.OverLemmas.{read_from, accepted_over}
 use Rattle.wtp_transcripts.proofs.OnceLemmas.{alone_from, once, once_back}
 use Rattle.wtp_transcripts.proofs.IndependentLemmas.{SamePlace, CallsAlike, call_alike, EventsAlike, event_alike, event_goes, AgreesAt, with_same, with_other, both_places, still_counted, begun_flags, accepted_opens, IsAlone, stands_alone}
@@ -142,11 +142,13 @@ allowed_event x d m e steps w h =
   where
     opened_by : (p : Purpose) → flag (at_stream x m e).connection p ≡ true → Flags x.connection (d m) (at_stream x m e).connection (happens (d m) (x.streams m) e).connection p → (k : ℕ) × (flag (alone_after x d m e k) p ≡ true)
     opened_by p f (inl (h, g)) =
-        let j : (i : ℕ) × (flag (d i) p ≡ true) = w.opened p (sym h ∙ f) in
-        (j.0, elim (cases_Bool (eqb m j.0)) [
-          | inl same ↦ ap (λ (c : Connection). flag c p) (same_alone j.0 m (happens (d m) (x.streams m) e).connection d same) ∙ g ∙ ap (λ (i : ℕ). flag (d i) p) (eqb-true m j.0 same) ∙ j.1
-          | inr other ↦ ap (λ (c : Connection). flag c p) (other_alone j.0 m (happens (d m) (x.streams m) e).connection d other) ∙ j.1
-        ])
+        let j : (i : ℕ) × (flag (d i) p ≡ true) = w.opened p (sym h ∙ f) in (
+          j.0,
+          elim (cases_Bool (eqb m j.0)) [
+            | inl same ↦ ap (λ (c : Connection). flag c p) (same_alone j.0 m (happens (d m) (x.streams m) e).connection d same) ∙ g ∙ ap (λ (i : ℕ). flag (d i) p) (eqb-true m j.0 same) ∙ j.1
+            | inr other ↦ ap (λ (c : Connection). flag c p) (other_alone j.0 m (happens (d m) (x.streams m) e).connection d other) ∙ j.1
+          ],
+        )
     opened_by p f (inr (h, g)) = (m, ap (λ (c : Connection). flag c p) (same_alone m m (happens (d m) (x.streams m) e).connection d (eq-eqb m m refl)) ∙ g)
 
 -- ---- other steps

@@ -5,14 +5,13 @@ use Rattle.wtp_frames.specs.declared.endpoint.Side.{Side}
 use Rattle.wtp_frames.specs.declared.endpoint.Side.TheVariants.{Client, Server}
 use Rattle.wtp_connection.specs.declared.connection.Connection.{Connection}
 use Rattle.wtp_connection.specs.declared.fault.Fault.{Fault}
-use Rattle.wtp_connection.specs.declared.stream.Purpose.{Purpose}
 use Rattle.wtp_connection.specs.declared.stream.Stream.{Stream}
 use Rattle.wtp_connection.specs.declared.stream.Stream.TheVariants.{Waiting}
 use Rattle.wtp_connection.specs.Opening.{is_critical, is_for_critical, has_no_headers}
 use Rattle.wtp_connection.specs.Requests.{with_request}
-use Rattle.wtp_connection.specs.Streams.{with_stream, accepts, Seen, StreamRun, all_given, run_stream, ended, Joined, without, reset_answer_at, resets, stops, abandons}
+use Rattle.wtp_connection.specs.Streams.{with_stream, Seen, StreamRun, all_given, ended, Joined, without, reset_answer_at}
 use Rattle.wtp_connection.proofs.StreamLemmas.{over_run}
-use Rattle.wtp_transcripts.specs.Transcript.{read, Held, Event, Came, Told, Reset, Overflowed, Abandoned, Outcome, answered, called, unread, ends, reads_on, happens, Table, Step, Accepted, Stopped, On, Transcript, State, at_stream, next, after, marked, found_by, seen_in}
+use Rattle.wtp_transcripts.specs.Transcript.{read, Held, Event, Came, Told, Reset, Overflowed, Abandoned, Outcome, answered, called, unread, ends, reads_on, happens, Step, Accepted, Stopped, On, Transcript, State, next, after, marked, found_by, seen_in}
 
 pub over_read : (fin : Bool) (c : Connection) (s : Stream) (bytes : List ℕ) → c.over ≡ true → read fin c s bytes ≡ all_given c s []
 over_read true c s bytes e = ap (λ (x : StreamRun). ended x) (over_run c s bytes e) ∙ rw e refl

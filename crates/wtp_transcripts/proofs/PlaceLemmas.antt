@@ -1,5 +1,5 @@
 -- Streams that are not too many have places to wait.
-use Rattle.std.proofs.Common.{◌≡◌, ℕ, suc, ◌+◌, ◌<◌, ◌≤◌, ◌&&◌, ◌||◌, not, Bool, true, false, cond, eqb, List, [], ◌∷◌, length, Option, Some, None, refl, sym, ap, subst, ◌∙◌, arith, inl, inr, ◌⊎◌}
+use Rattle.std.proofs.Common.{◌≡◌, ℕ, ◌<◌, ◌≤◌, ◌&&◌, ◌||◌, not, Bool, true, false, cond, eqb, List, [], ◌∷◌, length, Some, None, refl, sym, ap, ◌∙◌, arith, inl, inr, ◌⊎◌}
 use Rattle.std.proofs.lemmas.Bool.{cases_Bool, eqb-true, false≢true}
 use Rattle.wtp_frames.specs.declared.endpoint.Endpoint.{Endpoint}
 use Rattle.wtp_frames.specs.declared.fault.Fault.TheVariants as stream
@@ -10,9 +10,9 @@ use Rattle.wtp_connection.specs.declared.fault.Fault.TheVariants as fault
 use Rattle.wtp_connection.specs.declared.stream.Stream.{Stream}
 use Rattle.wtp_connection.specs.declared.stream.Stream.TheVariants.{Joining, Waiting, Session, Over}
 use Rattle.wtp_connection.specs.Opening.{is_critical, is_for_critical}
-use Rattle.wtp_connection.specs.Streams.{connection_of, most_waiting, Joined, settles, joins_open, overflows_open, without}
-use Rattle.wtp_transcripts.specs.Transcript.{read, Held, Event, Came, Told, Reset, Overflowed, Abandoned, Outcome, called, unread, ends, happens, Table, with_held, Step, Accepted, Stopped, On, Transcript, State, begin, at_stream, next, after, places, waiting_among, is_among, AreDistinct, HasPlace, StepHasPlace, HasPlaces, AllHavePlaces, WaitAmong, NoneWaits}
-use Rattle.wtp_transcripts.proofs.WaitLemmas.{WaitsAs, read_waits, EventCounts, event_counts, held_at, held_other, other_waiting, its_waiting, its_places, accepted_waiting, stopped_waiting}
+use Rattle.wtp_connection.specs.Streams.{most_waiting, Joined, settles, joins_open, overflows_open, without}
+use Rattle.wtp_transcripts.specs.Transcript.{Held, Event, Came, Told, Reset, Overflowed, Abandoned, called, unread, ends, happens, Table, Accepted, Stopped, On, Transcript, State, begin, at_stream, next, places, waiting_among, is_among, AreDistinct, HasPlace, HasPlaces, AllHavePlaces, WaitAmong, NoneWaits}
+use Rattle.wtp_transcripts.proofs.WaitLemmas.{read_waits, EventCounts, event_counts, held_at, held_other, other_waiting, its_waiting, its_places, accepted_waiting, stopped_waiting}
 
 -- it is not said that the session is to come
 abbrev NotComing : Event → Type 0

@@ -8,7 +8,6 @@ use Rattle.wtp_frames.specs.declared.reader.Reader.{Reader}
 use Rattle.wtp_frames.specs.Interim.{after_interim}
 use Rattle.wtp_connection.specs.declared.connection.Connection.{Connection}
 use Rattle.wtp_connection.specs.declared.connection.Found.{Found}
-use Rattle.wtp_connection.specs.declared.fault.Fault.{Fault}
 use Rattle.wtp_connection.specs.declared.fault.Fault.TheVariants as fault
 use Rattle.wtp_connection.specs.declared.stream.Purpose.{Purpose}
 use Rattle.wtp_connection.specs.declared.stream.Stream.{Stream}
@@ -17,13 +16,13 @@ use Rattle.wtp_connection.specs.Opening.{is_for_critical}
 use Rattle.wtp_connection.specs.Receiving.{seen_of, rest_after, FoundIs}
 use Rattle.wtp_connection.specs.Streams.{accepts, closed_by, Seen, bytes_seen, StreamRun, rests, followed, run_stream, ended, Joined, by_interim, tells_open, tells_interim, stops}
 use Rattle.wtp_connection.proofs.FinishLemmas.{ended_followed}
-use Rattle.wtp_transcripts.specs.Transcript.{read, Held, Event, called, end_seen, Table, with_held, is_opened as flag}
+use Rattle.wtp_transcripts.specs.Transcript.{read, Held, called, end_seen, Table, with_held, is_opened as flag}
 use Rattle.wtp_transcripts.specs.Calls.{Call, Arrived, Returned, Interim, Made, CallIs, CallStep, Accepts, Stops, At, Leads, calls_on, AreReads, arrived, end_arrived, found_in, IsIdle}
 use Rattle.wtp_transcripts.proofs.AlikeLemmas.{Goes, goes_same, closed_goes, RunsAlike, read_alike, opened_first}
 use Rattle.wtp_transcripts.proofs.CallLemmas.{call_finds}
 use Rattle.wtp_transcripts.proofs.IndependentLemmas.{call_alike, its_place, flags_open, Opens, accepted_opens, stopped_opens, with_same, with_other}
 use Rattle.wtp_transcripts.proofs.OverLemmas.{over_read, read_from, call_over, accepted_over, stopped_over}
-use Rattle.wtp_transcripts.proofs.ShowLemmas.{has_broke, has_opening, opening_later, Shows, Hides, read_shows, read_hides}
+use Rattle.wtp_transcripts.proofs.ShowLemmas.{has_broke, has_opening, opening_later, read_shows, read_hides}
 use Rattle.wtp_transcripts.proofs.WaitLemmas.{keeps_waiting, open_gives}
 
 -- ---- what any call does to the connection
@@ -68,6 +67,7 @@ found_follows x c d s t bytes fin is =
           let over_then : (read fin d t (rest_after x bytes)).connection.over ≡ true = ap (λ (y : StreamRun). y.connection.over) (sym same ∙ over_read fin c s bytes over) ∙ over in
           absurd (false≢true (ap (λ (l : List Seen). has_broke l) (sym nothing) ∙ (read_shows fin t (rest_after x bytes) d).over over_then o))
     ]
+
     its_flags : (p : Purpose) → flag d p ≡ false → read fin c s bytes ≡ followed (seen_of x bytes) (read fin d t (rest_after x bytes)) → flag c p ≡ false
     its_flags p f same = elim (cases_Bool (flag c p)) [
       | inr none ↦ none
@@ -132,8 +132,8 @@ reads_before c d h calls k f r =
     let l : List ℕ = h.left ++ arrived calls in
     let intact : d.over ≡ false = read_from (h.fin || end_arrived calls) d h.stream (h.left ++ arrived calls) r.over in
     let a : RunsAlike d c (total d h calls) (total c h calls) = read_alike (h.fin || end_arrived calls) h.stream (h.left ++ arrived calls) d c (sym f.endpoint) (f.intact intact ∙ sym intact) (λ p rest is.
-        let first : flag d p ≡ false = opened_first fin h.stream l d p rest intact r.over is in
-        f.flags intact p first ∙ sym first) in
+    let first : flag d p ≡ false = opened_first fin h.stream l d p rest intact r.over is in
+    f.flags intact p first ∙ sym first) in
     record {
       seen = a.seen ∙ r.seen;
       stream = a.stream ∙ r.stream;
@@ -236,8 +236,8 @@ interleaved (At m x ∷ steps) c d t u n (e, k, is, l) o a i = elim (cases_Bool 
       let held : with_held m k t n ≡ k = with_same n m k t same in
       subst (λ (z : List Call). ReadsAs c (t n) z (u n)) (sym calls) (
       reads_its x c e (t n) k (calls_on n steps) (u n) (subst (λ (j : ℕ). CallIs x c (t j) e k) one is) (subst (λ (z : List Call). AreReads (t n).fin z) calls a) (λ b.
-          subst (λ (z : Held). ReadsAs e z (calls_on n steps) (u n)) held (
-          interleaved steps e d (with_held m k t) u n l o (subst (λ (z : Held). AreReads z.fin (calls_on n steps)) (sym held) b) i)))
+      subst (λ (z : Held). ReadsAs e z (calls_on n steps) (u n)) held (
+      interleaved steps e d (with_held m k t) u n l o (subst (λ (z : Held). AreReads z.fin (calls_on n steps)) (sym held) b) i)))
   | inr other ↦
       let calls : calls_on n (At m x ∷ steps) ≡ calls_on n steps = rw other refl in
       let held : with_held m k t n ≡ t n = with_other n m k t other in

@@ -1,10 +1,9 @@
 -- A stream of a session, from its first byte to its end.
-use Rattle.std.proofs.Common.{◌≡◌, ℕ, ◌%◌, ◌==◌, ◌&&◌, Bool, true, false, cond, List, [], ◌∷◌, ◌++◌, Option, Some, None, refl, sym, ap, subst, ◌∙◌, eq-eqb}
+use Rattle.std.proofs.Common.{◌≡◌, ℕ, ◌%◌, Bool, true, false, List, [], ◌∷◌, ◌++◌, Option, Some, None, refl, sym, ap, subst, ◌∙◌, eq-eqb}
 use Rattle.std.proofs.lemmas.List.{append-nil}
 use Rattle.wtp_core.specs.Varint.{Encodes, number_at}
 use Rattle.wtp_core.proofs.EncodingLemmas.{number_at-encoding}
 use Rattle.wtp_frames.specs.declared.endpoint.Endpoint.{Endpoint}
-use Rattle.wtp_connection.specs.declared.connection.Connection.{Connection}
 use Rattle.wtp_connection.specs.declared.connection.Known.{Known}
 use Rattle.wtp_connection.specs.declared.connection.Known.TheVariants as known
 use Rattle.wtp_connection.specs.declared.stream.Purpose.{Purpose}
@@ -13,7 +12,7 @@ use Rattle.wtp_connection.specs.declared.stream.Stream.{Stream}
 use Rattle.wtp_connection.specs.declared.stream.Stream.TheVariants.{Uni, Bi, Joining, Session}
 use Rattle.wtp_connection.specs.Opening.{with_session, uni_by, uni_at, bi_by, bi_at}
 use Rattle.wtp_connection.specs.Streams.{connection_of, Seen, Opened, StreamRun, rests, followed, bytes_seen, by_opening, run_stream, ended}
-use Rattle.wtp_transcripts.specs.Transcript.{read, Held, Event, Came, Told, Outcome, outcome_of, after_seen, happens, alone, bytes_in, end_in, last_said, said, at_once, end_seen, IsRead, IsStill, Table, Transcript, begin, after, seen_in, on_stream, events_of, places, HasPlaces}
+use Rattle.wtp_transcripts.specs.Transcript.{read, Held, Came, Told, after_seen, alone, bytes_in, end_in, last_said, said, at_once, end_seen, IsRead, IsStill, Table, Transcript, begin, after, seen_in, on_stream, events_of, places, HasPlaces}
 use Rattle.wtp_transcripts.proofs.OrderLemmas.{all_once}
 use Rattle.wtp_transcripts.proofs.WaitLemmas.{open_gives}
 

@@ -6,8 +6,8 @@ use Rattle.wtp_core.specs.declared.error.scope.ErrorScope.{ErrorScope}
 use Rattle.wtp_core.specs.declared.error.scope.ErrorScope.TheVariants as scope
 use Rattle.wtp_frames.specs.declared.fault.Fault.{Fault as StreamFault}
 use Rattle.wtp_frames.specs.declared.frame_type.FrameType.TheVariants as kind
-use Rattle.wtp_frames.specs.Item.{Item, Whole, Byte, TooLarge, Broken}
-use Rattle.wtp_frames.specs.Run.{Run, run}
+use Rattle.wtp_frames.specs.Item.{Item, Whole, Broken}
+use Rattle.wtp_frames.specs.Run.{run}
 use Rattle.wtp_frames.specs.Start.{message_reader, control_reader}
 use Rattle.wtp_connection.specs.declared.connection.Connection.{Connection}
 use Rattle.wtp_connection.specs.declared.fault.Fault.{Fault}
@@ -22,7 +22,7 @@ use Rattle.wtp_connection.specs.Fault.{scope_of}
 use Rattle.wtp_connection.specs.Instructions.{sets_zero, after_bytes}
 use Rattle.wtp_connection.specs.Opening.{uni_at, bi_at}
 use Rattle.wtp_connection.specs.Settings.{settings_in}
-use Rattle.wtp_connection.specs.Streams.{opens, opens_once, closed_in, closed_by, Seen, Opened, Configured, Gave, Broke, Ended, StreamRun, rests, followed, all_given, breaks, by_settings, of_items, has_frames, bytes_seen, by_capacity, by_place, run_open, by_purpose, by_opening, run_intact, run_stream, by_fault, end_of, ending, ended}
+use Rattle.wtp_connection.specs.Streams.{opens, opens_once, closed_in, closed_by, Seen, Opened, Configured, Gave, Broke, StreamRun, rests, followed, all_given, breaks, by_settings, of_items, has_frames, bytes_seen, by_capacity, by_place, run_open, by_purpose, by_opening, run_intact, run_stream, by_fault, end_of, ending, ended}
 use Rattle.wtp_transcripts.specs.Transcript.{read, is_opened as flag}
 use Rattle.wtp_transcripts.proofs.AlikeLemmas.{over_flags, peer_flags}
 
@@ -77,6 +77,7 @@ opening_none p (i ∷ xs) ys e f = or_neither (is_opening p i) (has_opening p (x
     first : (a b : Bool) → (a || b) ≡ false → a ≡ false
     first true b e = absurd (false≢true (sym e))
     first false b e = refl
+
     rest : (a b : Bool) → (a || b) ≡ false → b ≡ false
     rest true b e = absurd (false≢true (sym e))
     rest false b e = e

@@ -1,9 +1,9 @@
 -- What happens on all streams, in any order and in any pieces.
-use Rattle.std.proofs.Common.{◌≡◌, ℕ, ◌||◌, Bool, true, false, cond, eqb, List, [], ◌∷◌, ◌++◌, map, refl, sym, ap, ◌∙◌, append_assoc, eq-eqb}
+use Rattle.std.proofs.Common.{◌≡◌, ℕ, Bool, true, false, cond, eqb, List, [], ◌∷◌, ◌++◌, refl, sym, ap, ◌∙◌, append_assoc, eq-eqb}
 use Rattle.std.proofs.lemmas.List.{map-append}
 use Rattle.wtp_connection.specs.declared.connection.Connection.{Connection}
-use Rattle.wtp_connection.specs.Streams.{Seen, StreamRun, run_stream}
-use Rattle.wtp_transcripts.specs.Transcript.{read, Held, Event, Came, Outcome, outcome_of, after_seen, happens, Table, with_held, Step, Accepted, Stopped, On, Transcript, State, at_stream, next, after, marked, found_by, seen_in}
+use Rattle.wtp_connection.specs.Streams.{Seen, StreamRun}
+use Rattle.wtp_transcripts.specs.Transcript.{read, Held, Event, Came, Outcome, outcome_of, after_seen, happens, Table, with_held, Accepted, Stopped, On, Transcript, State, at_stream, next, after, marked, seen_in}
 use Rattle.wtp_transcripts.proofs.CutLemmas.{read_cut}
 
 -- ---- tables that agree

@@ -1,5 +1,5 @@
 -- How many streams wait.
-use Rattle.std.proofs.Common.{◌≡◌, ℕ, ◌+◌, ◌-◌, ◌<◌, ◌≤◌, ◌%◌, ◌/◌, ◌&&◌, ◌||◌, not, nat_lt, Bool, true, false, cond, eqb, List, [], ◌∷◌, ◌++◌, length, Option, Some, None, Result, Ok, Err, refl, sym, ap, subst, ◌∙◌, arith, inl, inr}
+use Rattle.std.proofs.Common.{◌≡◌, ℕ, ◌+◌, ◌≤◌, ◌%◌, ◌/◌, ◌&&◌, ◌||◌, not, Bool, true, false, cond, eqb, List, [], ◌∷◌, ◌++◌, length, Option, Some, None, Result, Ok, Err, refl, sym, ap, ◌∙◌, arith, inl, inr}
 use Rattle.std.proofs.lemmas.Bool.{cases_Bool, cases_lt, lt-ltb, le-ltb, false≢true, eqb-true}
 use Rattle.std.proofs.lemmas.List.{append-nil}
 use Rattle.std.specs.List.{list_all}
@@ -10,8 +10,8 @@ use Rattle.wtp_frames.specs.declared.endpoint.Side.TheVariants.{Client, Server}
 use Rattle.wtp_frames.specs.declared.fault.Fault.{Fault as StreamFault}
 use Rattle.wtp_frames.specs.declared.fault.Fault.TheVariants as stream
 use Rattle.wtp_frames.specs.declared.frame_type.FrameType.TheVariants as kind
-use Rattle.wtp_frames.specs.Item.{Item, Whole, Byte, TooLarge, Broken}
-use Rattle.wtp_frames.specs.Run.{Run, run}
+use Rattle.wtp_frames.specs.Item.{Item, Whole, Broken}
+use Rattle.wtp_frames.specs.Run.{run}
 use Rattle.wtp_frames.specs.Start.{message_reader}
 use Rattle.wtp_connection.specs.declared.connection.Connection.{Connection}
 use Rattle.wtp_connection.specs.declared.connection.Known.{Known}
@@ -29,9 +29,8 @@ use Rattle.wtp_connection.specs.Instructions.{sets_zero, after_bytes}
 use Rattle.wtp_connection.specs.Opening.{uni_at, bi_at, is_critical, is_for_critical}
 use Rattle.wtp_connection.specs.Requests.{with_request}
 use Rattle.wtp_connection.specs.Settings.{settings_in}
-use Rattle.wtp_connection.specs.Streams.{with_stream, opens, opens_once, closed_in, closed_by, Seen, Opened, Configured, Gave, Broke, Ended, StreamRun, rests, followed, all_given, breaks, by_settings, of_items, has_frames, bytes_seen, by_capacity, by_place, run_open, by_purpose, by_opening, run_intact, run_stream, by_fault, end_of, ending, ended, most_waiting, Joined, refuses, settles, waits, freed, joins_open, joins, without, resets, overflows_open, overflows, abandons}
-use Rattle.wtp_connection.proofs.StreamLemmas.{over_run}
-use Rattle.wtp_transcripts.specs.Transcript.{read, Held, Event, Came, Told, Reset, Overflowed, Abandoned, Outcome, outcome_of, called, unread, ends, reads_on, happens, end_seen, Table, with_held, Step, Accepted, Stopped, On, Transcript, State, at_stream, next, after, places, waiting_among, is_among, AreDistinct, AreOf}
+use Rattle.wtp_connection.specs.Streams.{with_stream, opens, opens_once, closed_in, closed_by, StreamRun, rests, all_given, breaks, by_settings, of_items, has_frames, bytes_seen, by_capacity, by_place, run_open, by_purpose, by_opening, run_intact, run_stream, by_fault, end_of, ending, ended, most_waiting, Joined, refuses, settles, waits, freed, joins_open, joins, without, overflows_open}
+use Rattle.wtp_transcripts.specs.Transcript.{read, Held, Event, Came, Told, Reset, Overflowed, Abandoned, Outcome, outcome_of, called, unread, ends, reads_on, happens, end_seen, Table, with_held, Accepted, Stopped, On, Transcript, State, at_stream, next, after, places, waiting_among, is_among, AreDistinct, AreOf}
 
 -- ---- runs
 
