@@ -32,7 +32,7 @@ AreCalls (x ∷ xs) fin c s bytes d t left =
     × FoundIs x c s bytes fin e u
     × AreCalls xs fin e u (rest_after x bytes) d t left
 
--- what they find
+-- what calls find, where these bytes are left at first
 abbrev pub seen_by : List Found → List ℕ → List Seen
 seen_by [] bytes = []
 seen_by (x ∷ xs) bytes = seen_of x bytes ++ seen_by xs (rest_after x bytes)
@@ -45,8 +45,8 @@ pub record Held : Type 0 where
   pub left : List ℕ
   pub fin : Bool
 
--- bytes of it come, which may be its last; it is said what is known of its session; the peer resets it;
--- more of its bytes are left than the caller holds; or the application reads it no further
+-- bytes of a stream come, which may be its last; it is said what is known of its session; the peer resets
+-- it; more of its bytes are left than the caller holds; or the application reads it no further
 pub data Event : Type 0 where
   Came : List ℕ → Bool → Event
   Told : Known → Event
@@ -98,7 +98,7 @@ ends h other = h.fin
 abbrev pub reads_on : Bool → List ℕ → Joined → Outcome
 reads_on fin left x = after_seen (answered x.2) (outcome_of fin (read fin x.0 x.1 left))
 
--- After the call the stream is read until more bytes are needed.
+-- What an event of a stream does: after its call the stream is read until more bytes are needed.
 abbrev pub happens : Connection → Held → Event → Outcome
 happens c h e = reads_on (ends h e) (unread h e) (called c h.stream e)
 
@@ -111,13 +111,13 @@ alone c h (e ∷ events) =
 
 -- ---- all bytes of a stream
 
--- those that come, joined
+-- all bytes that come, joined
 abbrev pub bytes_in : List Event → List ℕ
 bytes_in [] = []
 bytes_in (Came bytes fin ∷ events) = bytes ++ bytes_in events
 bytes_in (other ∷ events) = bytes_in events
 
--- whether its end comes
+-- whether the end of a stream comes
 abbrev pub end_in : List Event → Bool
 end_in [] = false
 end_in (Came bytes fin ∷ events) = fin || end_in events
@@ -178,6 +178,7 @@ pub data Step : Type 0 where
 abbrev pub Transcript : Type 0
 Transcript = List Step
 
+-- a connection, and the caller's streams
 pub record State : Type 0 where
   pub connection : Connection
   pub streams : Table
@@ -190,6 +191,7 @@ begin e t = record { connection = connection_of e; streams = t }
 abbrev pub at_stream : State → ℕ → Event → Outcome
 at_stream x n e = happens x.connection (x.streams n) e
 
+-- the state after a step
 abbrev pub next : State → Step → State
 next x (Accepted n) =
     record { connection = (accepts x.connection n).0; streams = x.streams }
@@ -200,6 +202,7 @@ next x (On n e) = record {
   streams = with_held n (at_stream x n e).held x.streams;
 }
 
+-- the state after all steps
 abbrev pub after : State → Transcript → State
 after x [] = x
 after x (a ∷ steps) = after (next x a) steps
@@ -209,6 +212,7 @@ after x (a ∷ steps) = after (next x a) steps
 abbrev pub marked : ℕ → List Seen → List (ℕ × Seen)
 marked n seen = map (λ i. (n, i)) seen
 
+-- what is found by a step, each with its stream
 abbrev pub found_by : State → Step → List (ℕ × Seen)
 found_by x (On n e) = marked n (at_stream x n e).seen
 found_by x other = []
@@ -218,7 +222,7 @@ abbrev pub seen_in : State → Transcript → List (ℕ × Seen)
 seen_in x [] = []
 seen_in x (a ∷ steps) = found_by x a ++ seen_in (next x a) steps
 
--- what is found on stream n
+-- what is found on stream n, in its order
 abbrev pub on_stream : ℕ → List (ℕ × Seen) → List Seen
 on_stream n [] = []
 on_stream n (x ∷ seen) = if x.0 == n then x.1 ∷ on_stream n seen else on_stream n seen
@@ -236,7 +240,7 @@ abbrev pub end_seen : Bool → List Seen
 end_seen true = Ended ∷ []
 end_seen false = []
 
--- how many places for streams that wait it takes
+-- how many of the 16 places to wait a stream takes
 abbrev pub places : Stream → ℕ
 places (Waiting s) = 1
 places other = 0
@@ -250,11 +254,12 @@ abbrev pub is_among : ℕ → List ℕ → Bool
 is_among n [] = false
 is_among n (m ∷ ns) = n == m || is_among n ns
 
+-- no ID comes twice
 abbrev pub AreDistinct : List ℕ → Type 0
 AreDistinct [] = Unit {0}
 AreDistinct (n ∷ ns) = (is_among n ns ≡ false) × AreDistinct ns
 
--- all events are of these streams
+-- all events are of streams with these IDs
 abbrev pub AreOf : List ℕ → Transcript → Type 0
 AreOf ns [] = Unit {0}
 AreOf ns (On n e ∷ steps) = (is_among n ns ≡ true) × AreOf ns steps
@@ -289,7 +294,8 @@ is_opened c other = false
 abbrev pub alone_on : Endpoint → Table → ℕ → Transcript → Outcome
 alone_on e t n steps = alone (connection_of e) (t n) (events_of n steps)
 
--- it asks to stop no stream that may not be closed (RFC 9114, section 6.2.1; RFC 9204, section 4.2)
+-- the peer asks to stop no own stream that may not be closed (RFC 9114, section 6.2.1; RFC 9204,
+-- section 4.2)
 abbrev pub StopsNone : Transcript → Type 0
 StopsNone [] = Unit {0}
 StopsNone (Stopped p ∷ steps) = (is_for_critical p ≡ false) × StopsNone steps
@@ -304,11 +310,11 @@ pub record KeepsRules (e : Endpoint) (t : Table) (steps : Transcript) : Type 0 w
       → is_opened (alone_on e t m steps).connection p ≡ true → n ≡ m
   pub stops : StopsNone steps
 
--- each stream that is to wait has a place
+-- each stream has a place whenever it is to wait
 abbrev pub AllHavePlaces : State → Transcript → Type 0
 AllHavePlaces x steps = (n : ℕ) → HasPlaces n x steps
 
--- of no other streams it is said that their session is to come
+-- it is said of no streams but these that their session is to come
 abbrev pub WaitAmong : List ℕ → Transcript → Type 0
 WaitAmong ns [] = Unit {0}
 WaitAmong ns (On n (Told known.Coming) ∷ steps) = (is_among n ns ≡ true) × WaitAmong ns steps
@@ -327,7 +333,8 @@ pub record SameBytes (e : Endpoint) (t : Table) (n : ℕ) (first second : Transc
   pub end : end_in (events_of n second) ≡ end_in (events_of n first)
   pub said : last_said None (events_of n second) ≡ last_said None (events_of n first)
 
--- and if more happens to the stream, the same events do
+-- The same bytes of stream n come, with its end or without it, and the same is said last of its session;
+-- or the same events of it happen.
 abbrev pub SameOn : Endpoint → Table → ℕ → Transcript → Transcript → Type 0
 SameOn e t n first second =
     (events_of n second ≡ events_of n first) ⊎ SameBytes e t n first second
