@@ -128,6 +128,8 @@ ROWS = [
     Row("a stream of a server (6.1)", 1, b"\x40\x41\0", STREAM_CREATION, client=True, plain=True),
     Row("a request of a server (6.1)", 1, HEADERS, STREAM_CREATION, client=True),
     Row("a stream of a server without bytes", 1, b"", STREAM_CREATION, client=True, end=True),
+    Row("a server's stream in its first byte", 1, b"\x40", STREAM_CREATION, client=True, end=True),
+    Row("a server's stream in an ID (7.1)", 1, b"\x40\x41\x40", FRAME, client=True, end=True),
     Row("0x54 without WebTransport (9)", OTHER, b"\x40\x54\x01abc", plain=True, end=True),
     Row("0x41 without WebTransport (9)", REQUEST, b"\x40\x41\x01a" + HEADERS, plain=True, end=True),
     Row("a session of a unidirectional stream", OTHER, b"\x40\x54\x02", ID),

@@ -3,8 +3,10 @@
 use crate::reading::{connection_of, read};
 use crate::same::assert_same;
 use std::process::Abort;
-use wtp_connection::connection::Known;
+use wtp_connection::connection::{Connection, Known};
 use wtp_connection::requests::{Beginning, Begun};
+use wtp_connection::stream::Stream;
+use wtp_frames::endpoint::{Endpoint, Side};
 
 /// Requests that began, and a session.
 struct Row {
@@ -152,89 +154,161 @@ fn sessions_without_a_stream_are_known(rt: HostRuntime) {
     }
 }
 
-/// A stream with the ID of a session, after these bytes of it, and whether they are its last ones.
+/// What happens to a stream after its bytes.
+#[derive(Clone, Copy)]
+enum Then {
+    GoesOn,
+    Ends,
+    IsReset,
+    IsAbandoned,
+}
+
+/// A stream with the ID of a session, after these bytes of it.
 struct StreamRow {
     case: &'static str,
     id: u64,
     bytes: &'static [u8],
-    fin: bool,
+    then: Then,
     /// What is known of the session.
     known: &'static str,
 }
 
 /// The rows: streams of a client, at a server.
-static STREAMS: [StreamRow; 9] = [
+static STREAMS: [StreamRow; 16] = [
     StreamRow {
         case: "a request before its first byte",
         id: 0,
         bytes: &[],
-        fin: false,
+        then: Then::GoesOn,
         known: "coming",
     },
     StreamRow {
         case: "a request before its HEADERS",
         id: 4,
         bytes: &[0x21, 0x00],
-        fin: false,
+        then: Then::GoesOn,
         known: "coming",
     },
     StreamRow {
         case: "a request without an answer",
         id: 4,
         bytes: &[0x01, 0x01, 0xd1],
-        fin: false,
+        then: Then::GoesOn,
         known: "coming",
     },
     StreamRow {
         case: "a request that ended",
         id: 4,
         bytes: &[0x01, 0x01, 0xd1],
-        fin: true,
+        then: Then::Ends,
+        known: "over",
+    },
+    StreamRow {
+        case: "a request without bytes that ended",
+        id: 4,
+        bytes: &[],
+        then: Then::Ends,
+        known: "refused",
+    },
+    StreamRow {
+        case: "a request that ended before its HEADERS",
+        id: 4,
+        bytes: &[0x21, 0x00],
+        then: Then::Ends,
+        known: "refused",
+    },
+    StreamRow {
+        case: "a request that was reset before its first byte",
+        id: 4,
+        bytes: &[],
+        then: Then::IsReset,
+        known: "refused",
+    },
+    StreamRow {
+        case: "a request that was reset within its HEADERS",
+        id: 4,
+        bytes: &[0x01, 0x02, 0xd1],
+        then: Then::IsReset,
+        known: "refused",
+    },
+    StreamRow {
+        case: "a request that was reset after its HEADERS",
+        id: 4,
+        bytes: &[0x01, 0x01, 0xd1],
+        then: Then::IsReset,
+        known: "over",
+    },
+    StreamRow {
+        case: "a request that was not read before its HEADERS",
+        id: 4,
+        bytes: &[0x21, 0x00],
+        then: Then::IsAbandoned,
+        known: "refused",
+    },
+    StreamRow {
+        case: "a request that was not read after its HEADERS",
+        id: 4,
+        bytes: &[0x01, 0x01, 0xd1],
+        then: Then::IsAbandoned,
         known: "over",
     },
     StreamRow {
         case: "a stream of a session",
         id: 8,
         bytes: &[0x40, 0x41, 0x00],
-        fin: false,
+        then: Then::GoesOn,
         known: "impossible",
     },
     StreamRow {
         case: "a stream that names itself",
         id: 8,
         bytes: &[0x40, 0x41, 0x08],
-        fin: false,
+        then: Then::GoesOn,
         known: "impossible",
     },
     StreamRow {
         case: "a control stream, whose ID is no session's",
         id: 2,
         bytes: &[0x00, 0x04, 0x00],
-        fin: false,
+        then: Then::GoesOn,
         known: "impossible",
     },
     StreamRow {
         case: "an encoder stream",
         id: 6,
         bytes: &[0x02],
-        fin: false,
+        then: Then::GoesOn,
         known: "impossible",
     },
     StreamRow {
         case: "a unidirectional stream that is over",
         id: 6,
         bytes: &[0x21],
-        fin: true,
+        then: Then::Ends,
         known: "impossible",
     },
 ];
+
+/// Lets a stream be reset or abandoned, if it is to be.
+fn leave(connection: &mut Connection, stream: &mut Stream, then: Then) {
+    match then {
+        Then::GoesOn | Then::Ends => {}
+        Then::IsReset => {
+            connection.reset(stream);
+        }
+        Then::IsAbandoned => connection.abandon(stream),
+    }
+}
 
 #[test]
 fn sessions_with_a_stream_are_known(rt: HostRuntime) {
     for row in &STREAMS {
         let mut connection = connection_of(true, true);
         let mut stream = connection.accept(row.id);
-        read(&mut connection, &mut stream, row.bytes, 64, row.fin);
+        let fin = matches!(row.then, Then::Ends);
+        read(&mut connection, &mut stream, row.bytes, 64, fin);
+        leave(&mut connection, &mut stream, row.then);
+        leave(&mut connection, &mut stream, row.then);
         let came = name_of(connection.known(row.id, Some(&stream)));
         assert_same(&rt, came, row.known, row.case);
         let other = name_of(connection.known(row.id + 5, Some(&stream)));
@@ -242,6 +316,17 @@ fn sessions_with_a_stream_are_known(rt: HostRuntime) {
         let alone = name_of(connection.known(16, None));
         assert_same(&rt, alone, "coming", row.case);
     }
+    let mut connection = connection_of(false, true);
+    let mut response = Stream::of_request(Endpoint::new(Side::Client));
+    let before = name_of(connection.known(0, Some(&response)));
+    connection.reset(&mut response);
+    let after = name_of(connection.known(0, Some(&response)));
+    assert_same(
+        &rt,
+        (before, after),
+        ("coming", "refused"),
+        "a client's request that was reset before the response",
+    );
 }
 
 #[test]

@@ -2,11 +2,13 @@
 use crate::reading::{connection_of, read};
 use crate::same::assert_same;
 use std::process::Abort;
-use wtp_connection::connection::Connection;
+use wtp_connection::connection::{Connection, Found};
 use wtp_connection::fault::Fault;
+use wtp_connection::fields::Fields;
 use wtp_connection::stream::Stream;
 use wtp_core::error::ErrorScope;
 use wtp_frames::endpoint::{Endpoint, Side};
+use wtp_frames::frame_type::FrameType;
 
 /// A response after interim ones.
 struct Row {
@@ -120,6 +122,30 @@ fn responses_come_after_interim_ones(rt: HostRuntime) {
             );
         }
     }
+}
+
+#[test]
+fn the_last_response_may_not_be_an_interim_one(rt: HostRuntime) {
+    let headers = [0x01, 0x02, 0xd8, 0xd1];
+    let mut connection = connection_of(false, true);
+    let mut fields = Fields::new();
+    let mut stream = Stream::of_request(Endpoint::new(Side::Client));
+    let found = connection.receive(&mut stream, &headers, true, &mut fields);
+    let is_section = matches!(found, Found::Frame(FrameType::Headers, 2, 4));
+    let is_told = connection.interim(&mut stream).is_none();
+    assert_same(
+        &rt,
+        (is_section, is_told),
+        (true, true),
+        "HEADERS with the end of the stream",
+    );
+    let end = read(&mut connection, &mut stream, &[], 1, true);
+    assert_same(
+        &rt,
+        (end.code, end.ends_connection, end.ends),
+        (0x10e, false, 0),
+        "no final response (4.1.2)",
+    );
 }
 
 #[test]

@@ -7,6 +7,8 @@ mod begun;
 #[cfg(test)]
 mod datagrams;
 #[cfg(test)]
+mod holdings;
+#[cfg(test)]
 mod holds;
 #[cfg(test)]
 mod interims;
@@ -18,6 +20,8 @@ mod reading;
 mod requests;
 #[cfg(test)]
 mod resets;
+#[cfg(test)]
+mod resumed;
 #[cfg(test)]
 mod same;
 #[cfg(test)]

@@ -21,7 +21,7 @@ struct Row {
 }
 
 /// Streams of a client, by what they are for.
-static ROWS: [Row; 11] = [
+static ROWS: [Row; 12] = [
     Row {
         case: "a control stream before SETTINGS (6.2.1)",
         id: 2,
@@ -56,6 +56,12 @@ static ROWS: [Row; 11] = [
         case: "a stream before its type (6.2)",
         id: 2,
         bytes: &[],
+        code: 0,
+    },
+    Row {
+        case: "a stream before its session (6.2)",
+        id: 2,
+        bytes: &[0x40, 0x54],
         code: 0,
     },
     Row {

@@ -257,7 +257,7 @@ fn told(bytes: &[u8]) -> Connection {
 }
 
 /// The numbers of settings: of 0x01, 0x06, 0x07, 0xc671706a and 0x14e9cd29.
-fn numbers(settings: PeerSettings) -> (u64, Option<u64>, u64, u64, u64) {
+pub(crate) fn numbers(settings: PeerSettings) -> (u64, Option<u64>, u64, u64, u64) {
     (
         settings.qpack_max_table_capacity,
         settings.max_field_section_size,
@@ -268,7 +268,7 @@ fn numbers(settings: PeerSettings) -> (u64, Option<u64>, u64, u64, u64) {
 }
 
 /// Whether 0x08, 0x33 and 0x2b603742 are 1.
-fn flags(settings: PeerSettings) -> (bool, bool, bool) {
+pub(crate) fn flags(settings: PeerSettings) -> (bool, bool, bool) {
     (
         settings.enable_connect_protocol,
         settings.h3_datagram,

@@ -48,7 +48,7 @@ const OPEN: Row = Row {
 
 /// Streams by the rule that they keep or violate. All of these errors but those of a request that
 /// is not complete end the connection.
-static ROWS: [Row; 19] = [
+static ROWS: [Row; 29] = [
     Row {
         case: "a second control stream (6.2.1)",
         bytes: &[0x00],
@@ -139,6 +139,46 @@ static ROWS: [Row; 19] = [
         ..OPEN
     },
     Row {
+        case: "an encoder stream that ends (RFC 9204, 4.2)",
+        bytes: &[0x02],
+        fin: true,
+        code: 0x104,
+        ..OPEN
+    },
+    Row {
+        case: "0x41 of a session that was not joined",
+        webtransport: true,
+        id: 4,
+        bytes: &[0x40, 0x41, 0x08, 0x61, 0x62],
+        left: 2,
+        ..OPEN
+    },
+    Row {
+        case: "0x41 of a session that cannot be",
+        webtransport: true,
+        id: 4,
+        bytes: &[0x40, 0x41, 0x02],
+        code: 0x108,
+        ..OPEN
+    },
+    Row {
+        case: "0x41 of a server's stream",
+        server: false,
+        webtransport: true,
+        id: 1,
+        bytes: &[0x40, 0x41, 0x40, 0x04, 0x61],
+        left: 1,
+        ..OPEN
+    },
+    Row {
+        case: "0x41 before a request, without WebTransport (9)",
+        id: 4,
+        bytes: &[0x40, 0x41, 0x01, 0x61, 0x01, 0x01, 0xd1],
+        fin: true,
+        frames: 1,
+        ..OPEN
+    },
+    Row {
         case: "a decoder stream that ends (RFC 9204, 4.2)",
         before: &[0x02],
         bytes: &[0x03],
@@ -178,6 +218,53 @@ static ROWS: [Row; 19] = [
         id: 1,
         bytes: &[0x40, 0x41, 0x00],
         code: 0x103,
+        ..OPEN
+    },
+    Row {
+        case: "a request that ends in the ID of its session (7.1)",
+        webtransport: true,
+        id: 4,
+        bytes: &[0x40, 0x41, 0x40],
+        fin: true,
+        code: 0x106,
+        ..OPEN
+    },
+    Row {
+        case: "a stream of a server without bytes (6.1)",
+        server: false,
+        id: 1,
+        bytes: &[],
+        fin: true,
+        code: 0x103,
+        ..OPEN
+    },
+    Row {
+        case: "a stream of a server that ends in its first number (6.1)",
+        server: false,
+        id: 1,
+        bytes: &[0x40],
+        fin: true,
+        code: 0x103,
+        ..OPEN
+    },
+    Row {
+        case: "the same with WebTransport",
+        server: false,
+        webtransport: true,
+        id: 1,
+        bytes: &[0x40],
+        fin: true,
+        code: 0x103,
+        ..OPEN
+    },
+    Row {
+        case: "a stream of a server that ends in the ID of its session (7.1)",
+        server: false,
+        webtransport: true,
+        id: 1,
+        bytes: &[0x40, 0x41, 0x80, 0x00],
+        fin: true,
+        code: 0x106,
         ..OPEN
     },
     Row {

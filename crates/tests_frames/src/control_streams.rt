@@ -2,7 +2,7 @@
 use crate::reading::{CONTROL, Row, check_rows};
 
 /// Control streams by the rule of RFC 9114 that they violate. Each ends, which is an error too.
-static CONTROL_STREAMS: [Row; 24] = [
+static CONTROL_STREAMS: [Row; 32] = [
     Row {
         case: "GOAWAY before SETTINGS (6.2.1)",
         bytes: &[0x07, 0x01, 0x00],
@@ -62,6 +62,67 @@ static CONTROL_STREAMS: [Row; 24] = [
         bytes: &[0x04, 0x00, 0x09, 0x00],
         frames: 1,
         code: 0x105,
+        ..CONTROL
+    },
+    Row {
+        case: "PRIORITY of HTTP/2 on a control stream (7.2.8)",
+        bytes: &[0x04, 0x00, 0x02, 0x00],
+        frames: 1,
+        code: 0x105,
+        ..CONTROL
+    },
+    Row {
+        case: "PING of HTTP/2 on a control stream (7.2.8)",
+        bytes: &[0x04, 0x00, 0x06, 0x00],
+        frames: 1,
+        code: 0x105,
+        ..CONTROL
+    },
+    Row {
+        case: "WINDOW_UPDATE of HTTP/2 on a control stream (7.2.8)",
+        bytes: &[0x04, 0x00, 0x08, 0x00],
+        frames: 1,
+        code: 0x105,
+        ..CONTROL
+    },
+    Row {
+        case: "HEADERS before SETTINGS (6.2.1)",
+        bytes: &[0x01, 0x01, 0xd1],
+        code: 0x10a,
+        ..CONTROL
+    },
+    Row {
+        case: "0x41 is an unknown frame without WebTransport (9)",
+        bytes: &[0x04, 0x00, 0x40, 0x41, 0x02, 0xaa, 0xbb, 0x07, 0x01, 0x00],
+        frames: 2,
+        whole: 1,
+        code: 0x104,
+        ..CONTROL
+    },
+    Row {
+        case: "ORIGIN, ACCEPT_CH and two of PRIORITY_UPDATE are unknown frames (9)",
+        bytes: &[
+            0x04, 0x00, 0x0c, 0x01, 0xaa, 0x40, 0x89, 0x00, 0x80, 0x0f, 0x07, 0x00, 0x01, 0x00,
+            0x80, 0x0f, 0x07, 0x01, 0x02, 0x00, 0x75, 0x07, 0x01, 0x00,
+        ],
+        frames: 2,
+        whole: 1,
+        code: 0x104,
+        ..CONTROL
+    },
+    Row {
+        case: "GOAWAY of a unidirectional stream (7.2.6)",
+        server: false,
+        bytes: &[0x04, 0x00, 0x07, 0x01, 0x02],
+        frames: 1,
+        code: 0x108,
+        ..CONTROL
+    },
+    Row {
+        case: "MAX_PUSH_ID with more than an ID (7.1)",
+        bytes: &[0x04, 0x00, 0x0d, 0x02, 0x05, 0x00],
+        frames: 1,
+        code: 0x106,
         ..CONTROL
     },
     Row {

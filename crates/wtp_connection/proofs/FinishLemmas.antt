@@ -1,17 +1,19 @@
 -- What a call finds where the stream ends.
-use Rattle.std.proofs.Common.{◌≡◌, ℕ, ◌-◌, Bool, true, false, cond, List, [], ◌∷◌, ◌++◌, length, drop, Some, None, Result, Ok, Err, refl, sym, ap, subst, ◌∙◌, append_assoc, length-drop, inl, inr}
+use Rattle.std.proofs.Common.{◌≡◌, ℕ, ◌≤◌, Bool, true, false, cond, List, [], ◌∷◌, ◌++◌, length, drop, Some, None, Result, Ok, Err, refl, sym, ap, subst, ◌∙◌, append_assoc, inl, inr}
 use Rattle.std.proofs.lemmas.Bool.{cases_Bool}
 use Rattle.std.proofs.lemmas.List.{append-nil}
 use Rattle.wtp_frames.specs.declared.fault.Fault.{Fault as StreamFault}
+use Rattle.wtp_frames.specs.declared.fault.Fault.TheVariants as stream
+use Rattle.wtp_connection.specs.Opening.{over_by}
 use Rattle.wtp_connection.specs.declared.fault.Fault.TheVariants as fault
 use Rattle.wtp_connection.specs.declared.stream.Stream.{Stream}
-use Rattle.wtp_connection.specs.declared.stream.Stream.TheVariants.{Uni, Bi, Frames, Joining, Waiting, Session, Encoder, Decoder, Ignored, Over}
+use Rattle.wtp_connection.specs.declared.stream.Stream.TheVariants.{Uni, Bi, Frames, Joining, Waiting, Session, Encoder, Decoder, Ignored, Incomplete, Over}
 use Rattle.wtp_connection.specs.declared.connection.Connection.{Connection}
 use Rattle.wtp_connection.specs.declared.connection.Found.{Found}
 use Rattle.wtp_connection.specs.declared.connection.Found.TheVariants as found
 use Rattle.wtp_connection.specs.Streams.{closed_by, Seen, Broke, Ended, StreamRun, rests, followed, all_given, run_stream, end_of, by_fault, ending, ended}
 use Rattle.wtp_connection.specs.Receiving.{seen_of, rest_after, Idle, StepIsFound, Settled, FoundIs, more_in, finish_by, finish_open, finish_of}
-use Rattle.wtp_connection.proofs.StreamLemmas.{over_given}
+use Rattle.wtp_connection.proofs.StreamLemmas.{over_given, incomplete_given}
 
 followed_twice : (xs ys : List Seen) (y : StreamRun) → followed (xs ++ ys) y ≡ followed xs (followed ys y)
 followed_twice xs ys y = ap (λ (l : List Seen). record { seen = l; connection = y.connection; stream = y.stream; left = y.left }) (append_assoc xs ys y.seen)
@@ -45,6 +47,7 @@ pub found_open : (x : Found) (c : Connection) (s : Stream) (bytes : List ℕ) (f
 found_open x c s bytes fin d t e h = record {
   fits = h.fits;
   finds = λ more. rw e (h.finds more);
+  goes = λ l. h.finds;
   settled = λ is. absurd (cc (sym e ∙ is));
 }
 
@@ -53,6 +56,7 @@ pub found_before : (x : Found) (c : Connection) (s : Stream) (bytes : List ℕ) 
 found_before x c s bytes fin d t e none h = record {
   fits = h.fits;
   finds = λ more. rw e (ended_finds x c s bytes d t h);
+  goes = λ l. h.finds;
   settled = λ is. settled_none x bytes d t none;
 }
 
@@ -63,6 +67,14 @@ all_over d s e = ap (λ (y : StreamRun). ended y) e
 
 ended_over : (d : Connection) → ended (run_stream d Over []) ≡ all_given d Over []
 ended_over d = ap (λ (y : StreamRun). ended y) (over_given d []) ∙ (elim d.over as (λ b. cond b (all_given d Over []) (all_given d Over []) ≡ all_given d Over []) [ true ↦ refl | false ↦ refl ])
+
+ended_incomplete : (d : Connection) → ended (run_stream d Incomplete []) ≡ all_given d Incomplete []
+ended_incomplete d = ap (λ (y : StreamRun). ended y) (incomplete_given d []) ∙ (elim d.over as (λ b. cond b (all_given d Incomplete []) (all_given d Incomplete []) ≡ all_given d Incomplete []) [ true ↦ refl | false ↦ refl ])
+
+-- after the error of an end nothing follows
+ended_by : (f : StreamFault) (d : Connection) → ended (run_stream d (over_by f) []) ≡ all_given d (over_by f) []
+ended_by stream.RequestIncomplete d = ended_incomplete d
+ended_by other d = ended_over d
 
 cond_left : {A : Type 0} (b : Bool) (x y : A) → b ≡ true → cond b x y ≡ x
 cond_left true x y e = refl
@@ -80,6 +92,7 @@ stays_found : (n : ℕ) (c : Connection) (s : Stream) (bytes : List ℕ) (fin : 
 stays_found n c s bytes fin d t e h is = record {
   fits = h.fits;
   finds = λ more. rw e (ended_finds (found.More n) c s bytes d t h);
+  goes = λ l. h.finds;
   settled = λ x. is;
 }
 
@@ -91,6 +104,7 @@ end_found n c s bytes fin d t (Ok u) e h is = record {
       ended_finds (found.More n) c s bytes d t h
       ∙ is
       ∙ ap (λ (y : StreamRun). followed (Ended ∷ []) y) (sym (ended_over d)));
+  goes = λ l. absurd l;
   settled = λ x. tt;
 }
 end_found n c s bytes fin d t (Err f) e h is = record {
@@ -98,50 +112,69 @@ end_found n c s bytes fin d t (Err f) e h is = record {
   finds = λ more. rw e (
       ended_finds (found.More n) c s bytes d t h
       ∙ is
-      ∙ ap (λ (y : StreamRun). followed (Broke (fault.Stream f) ∷ []) y) (sym (ended_over (closed_by d (fault.Stream f)))));
+      ∙ ap (λ (y : StreamRun). followed (Broke (fault.Stream f) ∷ []) y) (sym (ended_by f (closed_by d (fault.Stream f)))));
+  goes = λ l. absurd l;
   settled = λ x. tt;
 }
 
 -- by the stream that ends
-end_open : (n left : ℕ) (c : Connection) (s : Stream) (bytes : List ℕ) (fin : Bool) (d : Connection) (t : Stream) → fin ≡ true → d.over ≡ false → left ≡ length (drop n bytes) → StepIsFound (found.More n) c s bytes d t → ended (run_stream d t (drop n bytes)) ≡ ending d t (drop n bytes) → FoundIs (finish_open d t left n).0 c s bytes fin (finish_open d t left n).1 (finish_open d t left n).2
+end_open : (n : ℕ) (left : List ℕ) (c : Connection) (s : Stream) (bytes : List ℕ) (fin : Bool) (d : Connection) (t : Stream) → fin ≡ true → d.over ≡ false → left ≡ drop n bytes → StepIsFound (found.More n) c s bytes d t → ended (run_stream d t (drop n bytes)) ≡ ending d t (drop n bytes) → FoundIs (finish_open d t left n).0 c s bytes fin (finish_open d t left n).1 (finish_open d t left n).2
 end_open n left c s bytes fin d Uni e i l h is = end_found n c s bytes fin d Uni (Ok tt) e h is
-end_open n left c s bytes fin d Bi e i l h is = rw l (end_found n c s bytes fin d Bi (end_of d Bi (length (drop n bytes))) e h is)
-end_open n left c s bytes fin d (Frames r g) e i l h is = rw l (end_found n c s bytes fin d (Frames r g) (end_of d (Frames r g) (length (drop n bytes))) e h is)
+end_open n left c s bytes fin d Bi e i l h is = rw l (end_found n c s bytes fin d Bi (end_of d Bi (drop n bytes)) e h is)
+end_open n left c s bytes fin d (Frames r g) e i l h is = rw l (end_found n c s bytes fin d (Frames r g) (end_of d (Frames r g) (drop n bytes)) e h is)
 end_open n left c s bytes fin d (Joining k) e i l h is = stays_found n c s bytes fin d (Joining k) e h is
 end_open n left c s bytes fin d (Waiting k) e i l h is = stays_found n c s bytes fin d (Waiting k) e h is
 end_open n left c s bytes fin d (Session k) e i l h is = end_found n c s bytes fin d (Session k) (Ok tt) e h is
 end_open n left c s bytes fin d Encoder e i l h is = end_found n c s bytes fin d Encoder (end_of d Encoder left) e h is
 end_open n left c s bytes fin d (Decoder place) e i l h is = end_found n c s bytes fin d (Decoder place) (end_of d (Decoder place) left) e h is
 end_open n left c s bytes fin d Ignored e i l h is = end_found n c s bytes fin d Ignored (Ok tt) e h is
+end_open n left c s bytes fin d Incomplete e i l h is = stays_found n c s bytes fin d Incomplete e h (is ∙ ap (λ (k : List ℕ). rests d Incomplete k) (no_rest h.fits.1))
+  where
+    no_rest : Idle d Incomplete (drop n bytes) → [] ≡ drop n bytes
+    no_rest w = ap (λ (y : StreamRun). y.left) (sym (incomplete_given d (drop n bytes)) ∙ w.idle)
 end_open n left c s bytes fin d Over e i l h is = stays_found n c s bytes fin d Over e h (is ∙ ap (λ (k : List ℕ). rests d Over k) (over_rest h.fits.1))
   where
     over_rest : Idle d Over (drop n bytes) → [] ≡ drop n bytes
     over_rest w = ap (λ (y : StreamRun). y.left) (sym (over_given d (drop n bytes)) ∙ w.idle)
 
-pub found_end : (x : Found) (n : ℕ) (c : Connection) (s : Stream) (bytes : List ℕ) (fin : Bool) (d e : Connection) (t u : Stream) (y : Found) → fin ≡ true → more_in x ≡ Some n → StepIsFound x c s bytes d t → (y, e, u) ≡ finish_of d t (length bytes - n) n → FoundIs y c s bytes fin e u
-found_end (found.Opened p k) n c s bytes fin d e t u y f m h is = absurd (cc)
-found_end found.End n c s bytes fin d e t u y f m h is = absurd (cc)
-found_end (found.Settings v start end) n c s bytes fin d e t u y f m h is = absurd (cc)
-found_end (found.Frame kind start end) n c s bytes fin d e t u y f m h is = absurd (cc)
-found_end (found.Data start end) n c s bytes fin d e t u y f m h is = absurd (cc)
-found_end (found.TooLarge size k) n c s bytes fin d e t u y f m h is = absurd (cc)
-found_end (found.Fault k) n c s bytes fin d e t u y f m h is = absurd (cc)
-found_end (found.More k) n c s bytes fin d e t u y f m h is =
+pub found_end : (x : Found) (n : ℕ) (c : Connection) (s : Stream) (bytes : List ℕ) (fin : Bool) (d e : Connection) (t u : Stream) (y : Found) (left : List ℕ) → fin ≡ true → more_in x ≡ Some n → StepIsFound x c s bytes d t → left ≡ drop n bytes → (y, e, u) ≡ finish_of d t left n → FoundIs y c s bytes fin e u
+found_end (found.Opened p k) n c s bytes fin d e t u y left f m h at is = absurd (cc)
+found_end found.End n c s bytes fin d e t u y left f m h at is = absurd (cc)
+found_end (found.Settings v start end) n c s bytes fin d e t u y left f m h at is = absurd (cc)
+found_end (found.Frame kind start end) n c s bytes fin d e t u y left f m h at is = absurd (cc)
+found_end (found.Data start end) n c s bytes fin d e t u y left f m h at is = absurd (cc)
+found_end (found.TooLarge size k) n c s bytes fin d e t u y left f m h at is = absurd (cc)
+found_end (found.Fault k) n c s bytes fin d e t u y left f m h at is = absurd (cc)
+found_end (found.More k) n c s bytes fin d e t u y left f m h at is =
     let same : k ≡ n = some_is k n m in
     elim (cases_Bool d.over) [
       | inl over ↦
-          let at : (y, e, u) ≡ (found.More n, d, t) = is ∙ cond_left {A = Found × Connection × Stream} d.over (found.More n, d, t) (finish_open d t (length bytes - n) n) over in
-          subst (λ (z : Found × Connection × Stream). FoundIs z.0 c s bytes fin z.1 z.2) (sym at) (
+          let out : (y, e, u) ≡ (found.More n, d, t) = is ∙ cond_left {A = Found × Connection × Stream} d.over (found.More n, d, t) (finish_open d t left n) over in
+          subst (λ (z : Found × Connection × Stream). FoundIs z.0 c s bytes fin z.1 z.2) (sym out) (
           subst (λ (i : ℕ). FoundIs (found.More i) c s bytes fin d t) same (
           stays_found k c s bytes fin d t f h (
           ap (λ (z : StreamRun). ended z) h.fits.1.idle
           ∙ cond_left d.over (rests d t (drop k bytes)) (ending d t (drop k bytes)) over)))
       | inr intact ↦
-          let at : (y, e, u) ≡ finish_open d t (length bytes - n) n = is ∙ cond_right {A = Found × Connection × Stream} d.over (found.More n, d, t) (finish_open d t (length bytes - n) n) intact in
-          subst (λ (z : Found × Connection × Stream). FoundIs z.0 c s bytes fin z.1 z.2) (sym at) (
-          subst (λ (i : ℕ). FoundIs (finish_open d t (length bytes - i) i).0 c s bytes fin (finish_open d t (length bytes - i) i).1 (finish_open d t (length bytes - i) i).2) same (
-          end_open k (length bytes - k) c s bytes fin d t f intact (sym (length-drop k bytes)) h (idle_end d t (drop k bytes) intact h.fits.1.idle)))
+          let out : (y, e, u) ≡ finish_open d t left n = is ∙ cond_right {A = Found × Connection × Stream} d.over (found.More n, d, t) (finish_open d t left n) intact in
+          subst (λ (z : Found × Connection × Stream). FoundIs z.0 c s bytes fin z.1 z.2) (sym out) (
+          subst (λ (i : ℕ). FoundIs (finish_open d t left i).0 c s bytes fin (finish_open d t left i).1 (finish_open d t left i).2) same (
+          end_open k left c s bytes fin d t f intact (at ∙ ap (λ (i : ℕ). drop i bytes) (sym same)) h (idle_end d t (drop k bytes) intact h.fits.1.idle)))
     ]
   where
     some_is : (a b : ℕ) → Some a ≡ Some b → a ≡ b
     some_is a b e = cc
+
+-- More leaves bytes of those that came
+pub more_within : (x : Found) (n : ℕ) (c : Connection) (s : Stream) (bytes : List ℕ) (d : Connection) (t : Stream) → more_in x ≡ Some n → StepIsFound x c s bytes d t → n ≤ length bytes
+more_within (found.More k) n c s bytes d t m h = subst (λ (i : ℕ). i ≤ length bytes) (some_same k n m) h.fits.0
+  where
+    some_same : (a b : ℕ) → Some a ≡ Some b → a ≡ b
+    some_same a b e = cc
+more_within (found.Opened p k) n c s bytes d t m h = absurd (cc)
+more_within (found.Settings v start end) n c s bytes d t m h = absurd (cc)
+more_within (found.Frame kind start end) n c s bytes d t m h = absurd (cc)
+more_within (found.Data start end) n c s bytes d t m h = absurd (cc)
+more_within (found.TooLarge size k) n c s bytes d t m h = absurd (cc)
+more_within (found.Fault k) n c s bytes d t m h = absurd (cc)
+more_within found.End n c s bytes d t m h = absurd (cc)

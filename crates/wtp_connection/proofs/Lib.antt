@@ -8,5 +8,7 @@ pub mod SettingLemmas
 pub mod StreamLemmas
 pub mod InterimLemmas
 pub mod RequestLemmas
+pub mod ResumptionLemmas
 pub mod KnownLemmas
 pub mod ProgressLemmas
+pub mod PurposeLemmas

@@ -1,15 +1,19 @@
 -- What a stream is for stays the same when bytes follow.
-use Rattle.std.proofs.Common.{◌≡◌, ℕ, ◌+◌, ◌%◌, ◌<◌, ◌≤◌, ◌==◌, ◌&&◌, Bool, true, false, cond, eqb, List, ◌++◌, length, drop, Option, Some, None, refl, sym, ap, ◌∙◌, arith}
+use Rattle.std.proofs.Common.{◌≡◌, ℕ, suc, ◌+◌, ◌%◌, ◌<◌, ◌≤◌, ◌==◌, ◌&&◌, Bool, true, false, cond, eqb, List, [], ◌∷◌, ◌++◌, length, drop, Option, Some, None, refl, sym, ap, ◌∙◌, arith}
+use Rattle.std.proofs.lemmas.Bool.{ne_eqb}
 use Rattle.std.proofs.lemmas.List.{drop-drop}
 use Rattle.wtp_core.specs.Varint.{number_at}
 use Rattle.wtp_core.proofs.EncodingLemmas.{number_at-more}
 use Rattle.wtp_frames.specs.declared.endpoint.Endpoint.{Endpoint}
+use Rattle.wtp_frames.specs.declared.endpoint.Side.{Side}
+use Rattle.wtp_frames.specs.declared.endpoint.Side.TheVariants.{Client, Server}
+use Rattle.wtp_frames.specs.declared.fault.Fault.TheVariants as fault
 use Rattle.wtp_frames.proofs.HeadLemmas.{number_none, number_size}
 use Rattle.wtp_connection.specs.declared.stream.Purpose.{Purpose}
 use Rattle.wtp_connection.specs.declared.stream.Purpose.TheVariants as «for»
 use Rattle.wtp_connection.specs.declared.stream.Stream.{Stream}
 use Rattle.wtp_connection.specs.declared.stream.Stream.TheVariants.{Uni, Bi}
-use Rattle.wtp_connection.specs.Opening.{with_session, type_purpose, uni_by, uni_at, frames_purpose, bi_by, bi_at}
+use Rattle.wtp_connection.specs.Opening.{with_session, type_purpose, uni_by, uni_at, frames_purpose, bi_by, bi_at, end_by_number, end_unopened}
 use Rattle.wtp_connection.specs.Receiving.{IsFirst, opening_of, AreFew}
 
 abbrev pub extended : List ℕ → Option (Purpose × List ℕ) → Option (Purpose × List ℕ)
@@ -60,6 +64,25 @@ pub session_missing : (bytes mid : List ℕ) (a : ℕ) → mid ≡ drop a bytes 
 session_missing bytes mid a m e = ap with_session (ap number_at (sym m) ∙ e)
 
 pub ruleset sessions = (session_found, session_missing)
+
+-- ---- an end before it is known what the stream is for
+
+pub unopened_whole : (side : Side) (left rest : List ℕ) (n : ℕ) → number_at left ≡ Some (n, rest) → end_unopened side left ≡ fault.Frame
+unopened_whole side left rest n e = ap (λ (o : Option (ℕ × List ℕ)). end_by_number side left o) e
+
+pub unopened_client : (left : List ℕ) → number_at left ≡ None → end_unopened Client left ≡ fault.StreamCreation
+unopened_client left e = ap (λ (o : Option (ℕ × List ℕ)). end_by_number Client left o) e
+
+pub unopened_server : (left : List ℕ) → number_at left ≡ None → end_unopened Server left ≡ cond (length left == 0) fault.RequestIncomplete fault.Frame
+unopened_server left e = ap (λ (o : Option (ℕ × List ℕ)). end_by_number Server left o) e ∙ by_length left
+  where
+    by_length : (left : List ℕ) → end_by_number Server left None ≡ cond (length left == 0) fault.RequestIncomplete fault.Frame
+    by_length [] = refl
+    by_length (b ∷ left) =
+        let some : (suc (length left) == 0) ≡ false = ne_eqb (suc (length left)) 0 (λ e. omega (arith, e)) in
+        ap (λ (x : Bool). cond x fault.RequestIncomplete fault.Frame) (sym some)
+
+pub ruleset unopened = (unopened_whole, unopened_client, unopened_server)
 
 -- ---- too few first bytes
 

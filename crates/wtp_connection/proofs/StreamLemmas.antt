@@ -21,24 +21,23 @@ use Rattle.wtp_connection.specs.declared.fault.Fault.{Fault}
 use Rattle.wtp_connection.specs.declared.fault.Fault.TheVariants as fault
 use Rattle.wtp_connection.specs.declared.settings.PeerSettings.{PeerSettings}
 use Rattle.wtp_connection.specs.declared.instructions.DecoderPlace.{DecoderPlace}
-use Rattle.wtp_connection.specs.Settings.{settings_in}
 use Rattle.wtp_connection.specs.Instructions.{sets_zero, then_bytes, after_bytes}
 use Rattle.wtp_connection.proofs.InstructionLemmas.{after_append}
 use Rattle.wtp_frames.proofs.RunLemmas.{run_failed}
 use Rattle.wtp_connection.specs.declared.stream.Purpose.{Purpose}
 use Rattle.wtp_connection.specs.declared.stream.Purpose.TheVariants as «for»
 use Rattle.wtp_connection.specs.declared.stream.Stream.{Stream}
-use Rattle.wtp_connection.specs.declared.stream.Stream.TheVariants.{Uni, Bi, Frames, Joining, Waiting, Session, Encoder, Decoder, Ignored, Over}
+use Rattle.wtp_connection.specs.declared.stream.Stream.TheVariants.{Uni, Bi, Frames, Joining, Waiting, Session, Encoder, Decoder, Ignored, Incomplete, Over}
 use Rattle.wtp_connection.specs.declared.connection.Connection.{Connection}
 use Rattle.wtp_connection.specs.declared.connection.Found.{Found}
 use Rattle.wtp_connection.specs.declared.connection.Found.TheVariants as found
-use Rattle.wtp_connection.specs.Streams.{opens, opens_once, closed_by, Seen, Opened, Configured, Gave, Broke, StreamRun, rests, followed, all_given, by_settings, by_item, of_items, has_frames, of_frames, bytes_seen, by_capacity, by_place, breaks, run_open, by_purpose, by_opening, run_intact, run_stream}
+use Rattle.wtp_connection.specs.Streams.{opens, opens_once, configured, received_settings, closed_by, Seen, Opened, Configured, Gave, Broke, StreamRun, rests, followed, all_given, by_settings, by_item, of_items, has_frames, of_frames, bytes_seen, by_capacity, by_place, breaks, run_open, by_purpose, by_opening, run_intact, run_stream}
 use Rattle.wtp_connection.specs.Receiving.{IsFirst, opening_of, AreFew, IsBetween, StepIsFound, Outcome, has_frame, IsInside, fails, settings_found, frame_found, step_found, with_capacity, encoder_found, decoder_found}
 use Rattle.wtp_connection.proofs.OpeningLemmas.{opening_more, opening_few}
 
 -- ---- a connection that an error did not end, and one that is over
 
-intact_run : (c : Connection) (s : Stream) (bytes : List ℕ) → c.over ≡ false → run_stream c s bytes ≡ run_intact c s bytes
+pub intact_run : (c : Connection) (s : Stream) (bytes : List ℕ) → c.over ≡ false → run_stream c s bytes ≡ run_intact c s bytes
 intact_run c s bytes e = rw e refl
 
 pub over_run : (c : Connection) (s : Stream) (bytes : List ℕ) → c.over ≡ true → run_stream c s bytes ≡ all_given c s []
@@ -61,6 +60,7 @@ few_none (Session n) = omega arith
 few_none Encoder = omega arith
 few_none (Decoder place) = omega arith
 few_none Ignored = omega arith
+few_none Incomplete = omega arith
 few_none Over = omega arith
 
 -- a stream whose bytes are all consumed, and give nothing
@@ -84,6 +84,9 @@ ignored_found c bytes e = discards c Ignored bytes (λ more. intact_run c Ignore
 
 pub ended_found : (c : Connection) (bytes : List ℕ) → c.over ≡ false → StepIsFound (found.More (length bytes)) c Over bytes c Over
 ended_found c bytes e = discards c Over bytes (λ more. intact_run c Over more e)
+
+pub incomplete_found : (c : Connection) (bytes : List ℕ) → c.over ≡ false → StepIsFound (found.More (length bytes)) c Incomplete bytes c Incomplete
+incomplete_found c bytes e = discards c Incomplete bytes (λ more. intact_run c Incomplete more e)
 
 -- a stream whose bytes wait
 pub joining_found : (c : Connection) (n : ℕ) (bytes : List ℕ) → c.over ≡ false → StepIsFound (found.More 0) c (Joining n) bytes c (Joining n)
@@ -124,10 +127,10 @@ pub frames_run : (c : Connection) (r : Reader) (g : Bool) (bytes : List ℕ) →
 frames_run c r g bytes e = intact_run c (Frames r g) bytes e
 
 item_same : (i : Item) (c : Connection) (f g : Connection → StreamRun) → ((d : Connection) → f d ≡ g d) → by_item c f i ≡ by_item c g i
-item_same (Whole kind.Settings payload) c f g h = settings_same (settings_in payload) c payload f g h
+item_same (Whole kind.Settings payload) c f g h = settings_same (received_settings c payload) c payload f g h
   where
     settings_same : (o : Result PeerSettings Fault) (c : Connection) (payload : List ℕ) (f g : Connection → StreamRun) → ((d : Connection) → f d ≡ g d) → by_settings c payload f o ≡ by_settings c payload g o
-    settings_same (Ok v) c payload f g h = ap (λ (x : StreamRun). followed (Configured v payload ∷ []) x) (h (record c { peer = v }))
+    settings_same (Ok v) c payload f g h = ap (λ (x : StreamRun). followed (Configured v payload ∷ []) x) (h (configured c v))
     settings_same (Err x) c payload f g h = refl
 item_same (Broken x) c f g h = ap (λ (y : StreamRun). followed (Broke (fault.Stream x) ∷ []) y) (h (closed_by c (fault.Stream x)))
 item_same other c f g h = ap (λ (y : StreamRun). followed (Gave other ∷ []) y) (h c)
@@ -184,17 +187,23 @@ over_given d more = elim (cases_Bool d.over) [
   | inr intact ↦ intact_run d Over more intact
 ]
 
+pub incomplete_given : (d : Connection) (more : List ℕ) → run_stream d Incomplete more ≡ all_given d Incomplete []
+incomplete_given d more = elim (cases_Bool d.over) [
+  | inl over ↦ over_run d Incomplete more over
+  | inr intact ↦ intact_run d Incomplete more intact
+]
+
 -- what a step is for the connection
 abbrev IsOutcome : Outcome → Connection → Stream → List ℕ → Type 0
 IsOutcome o c s bytes = StepIsFound o.0 c s bytes o.1 o.2
 
-settings_case : (o : Result PeerSettings Fault) (start end : ℕ) (c : Connection) (old new : Reader) (g : Bool) (bytes : List ℕ) → settings_in (slice start end bytes) ≡ o → c.over ≡ false → StepIs (step.Frame kind.Settings start end) old bytes new → IsOutcome (settings_found c (Frames new true) start end o) c (Frames old g) bytes
+settings_case : (o : Result PeerSettings Fault) (start end : ℕ) (c : Connection) (old new : Reader) (g : Bool) (bytes : List ℕ) → received_settings c (slice start end bytes) ≡ o → c.over ≡ false → StepIs (step.Frame kind.Settings start end) old bytes new → IsOutcome (settings_found c (Frames new true) start end o) c (Frames old g) bytes
 settings_case (Ok v) start end c old new g bytes is e h = record {
   fits = (h.within.0, h.within.1, h.within.2, refl);
   finds = λ more.
       frames_step (step.Frame kind.Settings start end) c old new g bytes more e h
       ∙ ap (λ (o : Result PeerSettings Fault). by_settings c (slice start end bytes) (λ d. of_frames d true (run new (drop end bytes ++ more))) o) is
-      ∙ ap (λ (y : StreamRun). followed (Configured v (slice start end bytes) ∷ []) y) (sym (frames_run (record c { peer = v }) new true (drop end bytes ++ more) e));
+      ∙ ap (λ (y : StreamRun). followed (Configured v (slice start end bytes) ∷ []) y) (sym (frames_run (configured c v) new true (drop end bytes ++ more) e));
 }
 settings_case (Err x) start end c old new g bytes is e h = record {
   fits = tt;
@@ -224,7 +233,7 @@ other_case k start end c old new g bytes is e h = record {
 }
 
 frame_case : (k : FrameType) (start end : ℕ) (c : Connection) (old new : Reader) (g : Bool) (bytes : List ℕ) → c.over ≡ false → StepIs (step.Frame k start end) old bytes new → IsOutcome (frame_found c (Frames new true) k start end (slice start end bytes)) c (Frames old g) bytes
-frame_case kind.Settings start end c old new g bytes e h = settings_case (settings_in (slice start end bytes)) start end c old new g bytes refl e h
+frame_case kind.Settings start end c old new g bytes e h = settings_case (received_settings c (slice start end bytes)) start end c old new g bytes refl e h
 frame_case other start end c old new g bytes e h = other_case other start end c old new g bytes (λ f. refl) e h
 
 pub frames_found : (x : Step) (c : Connection) (old new : Reader) (g : Bool) (bytes : List ℕ) → c.over ≡ false → StepIs x old bytes new → IsOutcome (step_found c (Frames new (has_frame x || g)) x bytes) c (Frames old g) bytes
@@ -328,6 +337,7 @@ first_run c (Session n) bytes e f = absurd f
 first_run c Encoder bytes e f = absurd f
 first_run c (Decoder place) bytes e f = absurd f
 first_run c Ignored bytes e f = absurd f
+first_run c Incomplete bytes e f = absurd f
 first_run c Over bytes e f = absurd f
 
 abbrev ok_to : Connection × Stream → Result (Connection × Stream) Fault
@@ -374,6 +384,7 @@ opened_run c (Session n) bytes e o = intact_run c (Session n) bytes e
 opened_run c Encoder bytes e o = intact_run c Encoder bytes e
 opened_run c (Decoder place) bytes e o = intact_run c (Decoder place) bytes e
 opened_run c Ignored bytes e o = intact_run c Ignored bytes e
+opened_run c Incomplete bytes e o = intact_run c Incomplete bytes e
 opened_run c Over bytes e o = intact_run c Over bytes e
 
 opening_run : (c : Connection) (s : Stream) (bytes more : List ℕ) (p : Purpose) (n : ℕ) (o : Result (Connection × Stream) Fault) → c.over ≡ false → IsFirst s → opening_of c.endpoint s bytes ≡ Some (p, drop n bytes) → opens c p ≡ o → run_stream c s (bytes ++ more) ≡ by_purpose c p (drop n bytes ++ more) o

@@ -10,6 +10,7 @@ use Rattle.wtp_connection.specs.declared.fault.Fault.TheVariants as fault
 abbrev pub code_of : Fault → ℕ
 code_of (fault.Stream f) = stream_code f
 code_of fault.Settings = 0x0109
+code_of fault.Capacity = 0x0202
 code_of fault.EncoderStream = 0x0201
 code_of fault.DecoderStream = 0x0202
 code_of fault.Datagram = 0x0033

@@ -1,5 +1,6 @@
 pub mod Fault
 pub mod Settings
+pub mod Resumption
 pub mod Instructions
 pub mod Opening
 pub mod Streams

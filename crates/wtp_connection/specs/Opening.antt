@@ -1,6 +1,6 @@
 -- What a stream of the peer is for, by its first bytes (RFC 9114, sections 6.1 and 6.2;
 -- draft-ietf-webtrans-http3-02, sections 4.1 and 4.2).
-use Rattle.std.specs.Prelude.{ℕ, ◌%◌, nat_le, ◌==◌, ◌&&◌, if◌then◌else◌, List, Bool, true, false, Option, Some, None, Result, Err}
+use Rattle.std.specs.Prelude.{ℕ, ◌%◌, nat_le, ◌==◌, ◌&&◌, if◌then◌else◌, List, [], ◌∷◌, Bool, true, false, Option, Some, None, Result, Err}
 use Rattle.wtp_core.specs.Varint.{number_at}
 use Rattle.wtp_frames.specs.declared.endpoint.Endpoint.{Endpoint}
 use Rattle.wtp_frames.specs.declared.endpoint.Side.{Side}
@@ -12,7 +12,7 @@ use Rattle.wtp_frames.specs.declared.reader.Place.TheVariants.{BeforeSettings, A
 use Rattle.wtp_connection.specs.declared.stream.Purpose.{Purpose}
 use Rattle.wtp_connection.specs.declared.stream.Purpose.TheVariants as «for»
 use Rattle.wtp_connection.specs.declared.stream.Stream.{Stream}
-use Rattle.wtp_connection.specs.declared.stream.Stream.TheVariants.{Uni, Bi, Frames, Waiting, Encoder, Decoder}
+use Rattle.wtp_connection.specs.declared.stream.Stream.TheVariants.{Uni, Bi, Frames, Waiting, Encoder, Decoder, Incomplete, Over}
 
 -- the second bit of an ID says that the stream is unidirectional (RFC 9000, section 2.1)
 abbrev pub stream_of : ℕ → Stream
@@ -49,6 +49,32 @@ abbrev pub has_no_headers : Stream → Bool
 has_no_headers Bi = true
 has_no_headers (Frames r false) = true
 has_no_headers other = false
+
+-- The state of a stream that is over. Of a message of which no HEADERS came it stays known that they
+-- will not.
+abbrev pub over_from : Stream → Stream
+over_from Bi = Incomplete
+over_from (Frames r false) = Incomplete
+over_from Incomplete = Incomplete
+over_from other = Over
+
+-- the same after this error at its end
+abbrev pub over_by : Fault → Stream
+over_by fault.RequestIncomplete = Incomplete
+over_by other = Over
+
+-- A bidirectional stream that ends before it is known what it is for. Within the ID of a session it is
+-- a frame that is not complete (RFC 9114, section 7.1). Before its first number is whole, one of a
+-- server is none that it may open (section 6.1), and one of a client is a request without HEADERS
+-- (section 4.1) or part of a frame.
+abbrev pub end_by_number : Side → List ℕ → Option (ℕ × List ℕ) → Fault
+end_by_number side left (Some x) = fault.Frame
+end_by_number Client left None = fault.StreamCreation
+end_by_number Server [] None = fault.RequestIncomplete
+end_by_number Server (b ∷ left) None = fault.Frame
+
+abbrev pub end_unopened : Side → List ℕ → Fault
+end_unopened side left = end_by_number side left (number_at left)
 
 -- whether the error of an end says that the stream is a critical one
 abbrev pub is_closed : Result (Unit {0}) Fault → Bool

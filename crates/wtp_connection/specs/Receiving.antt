@@ -15,15 +15,14 @@ use Rattle.wtp_connection.specs.declared.fault.Fault.TheVariants as fault
 use Rattle.wtp_connection.specs.declared.settings.PeerSettings.{PeerSettings}
 use Rattle.wtp_connection.specs.declared.stream.Purpose.{Purpose}
 use Rattle.wtp_connection.specs.declared.stream.Stream.{Stream}
-use Rattle.wtp_connection.specs.declared.stream.Stream.TheVariants.{Uni, Bi, Frames, Joining, Waiting, Decoder, Over}
+use Rattle.wtp_connection.specs.declared.stream.Stream.TheVariants.{Uni, Bi, Frames, Joining, Waiting, Decoder, Incomplete, Over}
 use Rattle.wtp_connection.specs.declared.instructions.DecoderPlace.{DecoderPlace}
 use Rattle.wtp_connection.specs.declared.connection.Connection.{Connection}
 use Rattle.wtp_connection.specs.declared.connection.Found.{Found}
 use Rattle.wtp_connection.specs.declared.connection.Found.TheVariants as found
-use Rattle.wtp_connection.specs.Settings.{settings_in}
 use Rattle.wtp_connection.specs.Instructions.{sets_zero}
-use Rattle.wtp_connection.specs.Opening.{uni_at, bi_at}
-use Rattle.wtp_connection.specs.Streams.{Seen, Opened, Configured, Gave, Broke, Ended, StreamRun, rests, followed, bytes_seen, run_stream, ended, closed_by, end_of}
+use Rattle.wtp_connection.specs.Opening.{uni_at, bi_at, over_by}
+use Rattle.wtp_connection.specs.Streams.{Seen, Opened, Configured, Gave, Broke, Ended, StreamRun, rests, followed, bytes_seen, run_stream, ended, configured, received_settings, closed_by, end_of}
 
 -- ---- a stream whose purpose is not known yet
 
@@ -111,17 +110,26 @@ abbrev pub all_found : Bool → Connection → Stream → List ℕ → List ℕ 
 all_found fin c s bytes more =
     if fin then ended (run_stream c s bytes) else run_stream c s (bytes ++ more)
 
+-- it is neither an error nor the end
+abbrev pub LeavesOpen : Found → Type 0
+LeavesOpen (found.Fault f) = ⊥
+LeavesOpen found.End = ⊥
+LeavesOpen other = Unit {0}
+
 -- nothing is found at the end either
 abbrev pub Settled : Found → List ℕ → Connection → Stream → Type 0
 Settled (found.More n) bytes d t =
     ended (run_stream d t (drop n bytes)) ≡ rests d t (drop n bytes)
 Settled other bytes d t = Unit {0}
 
+-- After anything but an error and the end the stream is in the state in which it goes on, also if it ends
+-- after these bytes.
 pub record FoundIs (x : Found) (c : Connection) (s : Stream) (bytes : List ℕ) (fin : Bool)
     (d : Connection) (t : Stream) : Type 0 where
   pub fits : Fits x bytes d t
   pub finds : (more : List ℕ) → all_found fin c s bytes more
       ≡ followed (seen_of x bytes) (all_found fin d t (rest_after x bytes) more)
+  pub goes : LeavesOpen x → Finds c s bytes (seen_of x bytes) d t (rest_after x bytes)
   pub settled : fin ≡ true → Settled x bytes d t
 
 -- ---- how many calls a stream takes
@@ -130,6 +138,7 @@ pub record FoundIs (x : Found) (c : Connection) (s : Stream) (bytes : List ℕ) 
 abbrev pub free_calls : Stream → ℕ
 free_calls Uni = 2
 free_calls Bi = 2
+free_calls Incomplete = 0
 free_calls Over = 0
 free_calls other = 1
 
@@ -173,12 +182,12 @@ abbrev pub fails : Connection → Fault → Outcome
 fails c f = (found.Fault f, closed_by c f, Over)
 
 abbrev pub settings_found : Connection → Stream → ℕ → ℕ → Result PeerSettings Fault → Outcome
-settings_found c s start end (Ok v) = (found.Settings v start end, record c { peer = v }, s)
+settings_found c s start end (Ok v) = (found.Settings v start end, configured c v, s)
 settings_found c s start end (Err f) = fails c f
 
 abbrev pub frame_found : Connection → Stream → FrameType → ℕ → ℕ → List ℕ → Outcome
 frame_found c s kind.Settings start end payload =
-    settings_found c s start end (settings_in payload)
+    settings_found c s start end (received_settings c payload)
 frame_found c s k start end payload = (found.Frame k start end, c, s)
 
 abbrev pub step_found : Connection → Stream → Step → List ℕ → Outcome
@@ -219,19 +228,21 @@ abbrev pub more_in : Found → Option ℕ
 more_in (found.More n) = Some n
 more_in other = None
 
--- ---- the end of a stream that is idle, with so many bytes left over after those consumed
+-- ---- the end of a stream that is idle, with these bytes left over after those consumed
 
 abbrev pub finish_by : Connection → Result (Unit {0}) StreamFault → Outcome
 finish_by c (Ok u) = (found.End, c, Over)
-finish_by c (Err f) = fails c (fault.Stream f)
+finish_by c (Err f) =
+    (found.Fault (fault.Stream f), closed_by c (fault.Stream f), over_by f)
 
-abbrev pub finish_open : Connection → Stream → ℕ → ℕ → Outcome
+abbrev pub finish_open : Connection → Stream → List ℕ → ℕ → Outcome
 finish_open c (Joining s) left consumed = (found.More consumed, c, Joining s)
 finish_open c (Waiting s) left consumed = (found.More consumed, c, Waiting s)
+finish_open c Incomplete left consumed = (found.More consumed, c, Incomplete)
 finish_open c Over left consumed = (found.More consumed, c, Over)
 finish_open c other left consumed = finish_by c (end_of c other left)
 
-abbrev pub finish_of : Connection → Stream → ℕ → ℕ → Outcome
+abbrev pub finish_of : Connection → Stream → List ℕ → ℕ → Outcome
 finish_of c s left consumed =
     if c.over
     then (found.More consumed, c, s)

@@ -15,12 +15,12 @@ use Rattle.wtp_frames.specs.Run.{Run, run}
 use Rattle.wtp_frames.specs.declared.reader.Reader.{Reader}
 use Rattle.wtp_frames.specs.Grammar.{Interim, interim_bytes, interim_section}
 use Rattle.wtp_frames.specs.Interim.{after_interim}
-use Rattle.wtp_frames.specs.Reading.{by_missing, by_end}
+use Rattle.wtp_frames.specs.Reading.{by_end}
 use Rattle.wtp_frames.specs.Start.{message_reader, control_reader}
 use Rattle.wtp_connection.specs.declared.stream.Purpose.{Purpose}
 use Rattle.wtp_connection.specs.declared.stream.Purpose.TheVariants as «for»
 use Rattle.wtp_connection.specs.declared.stream.Stream.{Stream}
-use Rattle.wtp_connection.specs.declared.stream.Stream.TheVariants.{Uni, Bi, Frames, Joining, Waiting, Session, Encoder, Decoder, Ignored, Over}
+use Rattle.wtp_connection.specs.declared.stream.Stream.TheVariants.{Uni, Bi, Frames, Joining, Waiting, Session, Encoder, Decoder, Ignored, Incomplete, Over}
 use Rattle.wtp_connection.specs.declared.fault.Fault.{Fault}
 use Rattle.wtp_connection.specs.declared.fault.Fault.TheVariants as fault
 use Rattle.wtp_connection.specs.declared.settings.PeerSettings.{PeerSettings}
@@ -31,8 +31,9 @@ use Rattle.wtp_connection.specs.declared.connection.Known.{Known}
 use Rattle.wtp_connection.specs.declared.connection.Known.TheVariants as known
 use Rattle.wtp_connection.specs.Fault.{scope_of}
 use Rattle.wtp_connection.specs.Settings.{values_of, with_defaults, settings_in}
+use Rattle.wtp_connection.specs.Resumption.{accepted_if}
 use Rattle.wtp_connection.specs.Instructions.{sets_zero, after_bytes}
-use Rattle.wtp_connection.specs.Opening.{stream_of, uni_at, bi_at, is_control, is_critical, is_for_critical, has_no_headers}
+use Rattle.wtp_connection.specs.Opening.{stream_of, uni_at, bi_at, is_control, is_critical, is_for_critical, has_no_headers, over_from, over_by, end_unopened}
 use Rattle.wtp_connection.specs.declared.requests.Begun.{Begun}
 use Rattle.wtp_connection.specs.declared.requests.Beginning.{Beginning}
 use Rattle.wtp_connection.specs.declared.requests.Beginning.TheVariants as beginning
@@ -48,17 +49,40 @@ connection_of e = record {
   decoder = false;
   waiting = 0;
   peer = with_defaults (values_of []);
+  resumed = false;
   begun = none_begun;
   over = false;
 }
 
--- its control stream was opened
-abbrev pub with_control : Endpoint → Connection
-with_control e = record (connection_of e) { control = true }
+-- A connection of a client that resumes a session and sends 0-RTT data: until SETTINGS come the settings
+-- of the server are those of that session. A client's settings are not remembered (RFC 9114, section
+-- 7.2.4.2).
+abbrev pub resuming_at : Side → Endpoint → PeerSettings → Connection
+resuming_at Client e v = record (connection_of e) { peer = v; resumed = true }
+resuming_at Server e v = connection_of e
+
+abbrev pub resuming_of : Endpoint → PeerSettings → Connection
+resuming_of e v = resuming_at e.side e v
+
+-- the server did not accept 0-RTT: what is remembered counts no more
+abbrev pub without_resumption : Connection → Connection
+without_resumption c =
+    if c.resumed
+    then record c { peer = with_defaults (values_of []); resumed = false }
+    else c
+
+-- the peer's control stream was opened
+abbrev pub with_control : Connection → Connection
+with_control c = record c { control = true }
 
 -- SETTINGS came on it
-abbrev pub with_settings : Endpoint → PeerSettings → Connection
-with_settings e v = record (connection_of e) { control = true; peer = v }
+abbrev pub configured : Connection → PeerSettings → Connection
+configured c v = record c { peer = v; resumed = false }
+
+-- What the payload of SETTINGS is, or its error. If a session is resumed, it must keep what is
+-- remembered.
+abbrev pub received_settings : Connection → List ℕ → Result PeerSettings Fault
+received_settings c payload = accepted_if c.resumed c.peer (settings_in payload)
 
 -- ---- the streams that the peer opens
 
@@ -91,7 +115,7 @@ push_fault Server = (fault.Stream stream.StreamCreation)
 
 abbrev pub opens : Connection → Purpose → Result (Connection × Stream) Fault
 opens c «for».Control =
-    opens_once c.control (record c { control = true }) (Frames (control_reader c.endpoint) false)
+    opens_once c.control (with_control c) (Frames (control_reader c.endpoint) false)
 opens c «for».Encoder = opens_once c.encoder (record c { encoder = true }) Encoder
 opens c «for».Decoder =
     opens_once c.decoder (record c { decoder = true }) (Decoder Between)
@@ -157,12 +181,13 @@ breaks c f = all_given (closed_by c f) Over (Broke f ∷ [])
 -- SETTINGS, by what they define: the connection has it from then on
 abbrev pub by_settings : Connection → List ℕ → (Connection → StreamRun) → Result PeerSettings Fault → StreamRun
 by_settings c payload more (Ok v) =
-    followed (Configured v payload ∷ []) (more (record c { peer = v }))
+    followed (Configured v payload ∷ []) (more (configured c v))
 by_settings c payload more (Err f) = breaks c f
 
 -- an item, and what follows it
 abbrev pub by_item : Connection → (Connection → StreamRun) → Item → StreamRun
-by_item c more (Whole kind.Settings payload) = by_settings c payload more (settings_in payload)
+by_item c more (Whole kind.Settings payload) =
+    by_settings c payload more (received_settings c payload)
 by_item c more (Broken f) =
     followed (Broke (fault.Stream f) ∷ []) (more (closed_by c (fault.Stream f)))
 by_item c more other = followed (Gave other ∷ []) (more c)
@@ -226,29 +251,27 @@ run_stream c s bytes = if c.over then all_given c s [] else run_intact c s bytes
 
 -- ---- the end of a stream
 
--- a bidirectional stream without a number (RFC 9114, sections 4.1, 6.1 and 7.1)
-abbrev pub no_number : Side → StreamFault
-no_number Client = stream.StreamCreation
-no_number Server = stream.RequestIncomplete
-
--- what it means that a stream ends, with so many bytes left
-abbrev pub end_of : Connection → Stream → ℕ → Result (Unit {0}) StreamFault
-end_of c Bi n = by_missing n (Err (no_number c.endpoint.side))
-end_of c (Frames r given) n = by_end r.endpoint.side r.place (r.remaining + n)
-end_of c Encoder n = Err stream.ClosedCriticalStream
-end_of c (Decoder place) n = Err stream.ClosedCriticalStream
-end_of c other n = Ok tt
+-- what it means that a stream ends, with these bytes left
+abbrev pub end_of : Connection → Stream → List ℕ → Result (Unit {0}) StreamFault
+end_of c Bi left = Err (end_unopened c.endpoint.side left)
+end_of c (Frames r given) left =
+    by_end r.endpoint.side r.place (r.remaining + length left)
+end_of c Encoder left = Err stream.ClosedCriticalStream
+end_of c (Decoder place) left = Err stream.ClosedCriticalStream
+end_of c other left = Ok tt
 
 abbrev pub by_fault : Connection → Result (Unit {0}) StreamFault → StreamRun
 by_fault c (Ok u) = all_given c Over (Ended ∷ [])
-by_fault c (Err f) = breaks c (fault.Stream f)
+by_fault c (Err f) =
+    all_given (closed_by c (fault.Stream f)) (over_by f) (Broke (fault.Stream f) ∷ [])
 
 -- the end of a stream that waits for its session waits too; one that is over has no other
 abbrev pub ending : Connection → Stream → List ℕ → StreamRun
 ending c (Joining s) left = rests c (Joining s) left
 ending c (Waiting s) left = rests c (Waiting s) left
+ending c Incomplete left = all_given c Incomplete []
 ending c Over left = all_given c Over []
-ending c other left = by_fault c (end_of c other (length left))
+ending c other left = by_fault c (end_of c other left)
 
 -- what follows the bytes of a run, where the stream ends
 abbrev pub ended : StreamRun → StreamRun
@@ -283,10 +306,12 @@ abbrev pub known_alone : Connection → ℕ → Known
 known_alone c s = known_at c.endpoint.side c.begun s
 
 -- what a stream with the ID of a session says of it: a request that goes on may be that of the
--- session; a stream of a session can never be one
+-- session; one that was over before its HEADERS was none that could be answered; a stream of a session
+-- can never be one
 abbrev pub known_by_stream : Stream → Known
 known_by_stream Bi = known.Coming
 known_by_stream (Frames r given) = if is_control r.place then known.Impossible else known.Coming
+known_by_stream Incomplete = known.Refused
 known_by_stream Over = known.Over
 known_by_stream other = known.Impossible
 
@@ -384,7 +409,7 @@ abbrev pub resets : Connection → Stream → Joined
 resets c s =
     if is_critical s && not c.over
     then refuses c stream.ClosedCriticalStream
-    else (without c s, Over, reset_answer c s)
+    else (without c s, over_from s, reset_answer c s)
 
 -- the peer asks to stop an own stream for this purpose: an error if it is a critical one and the
 -- connection goes on
@@ -403,6 +428,7 @@ stops c p =
 abbrev pub overflows_open : Connection → Stream → Joined
 overflows_open c (Joining s) = refuses c stream.BufferedStreamRejected
 overflows_open c (Waiting s) = refuses (freed c) stream.BufferedStreamRejected
+overflows_open c Incomplete = (c, Incomplete, None)
 overflows_open c Over = (c, Over, None)
 overflows_open c other = refuses c stream.ExcessiveLoad
 
@@ -411,4 +437,4 @@ overflows c s = if c.over then (c, s, None) else overflows_open c s
 
 -- the application reads a stream no further; a critical one is always read
 abbrev pub abandons : Connection → Stream → Connection × Stream
-abandons c s = if is_critical s then (c, s) else (without c s, Over)
+abandons c s = if is_critical s then (c, s) else (without c s, over_from s)

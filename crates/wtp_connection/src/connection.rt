@@ -1,9 +1,10 @@
 //! What the streams of a connection have in common. It holds no bytes and no table of streams.
 ghost use Rattle.std.specs.Prelude.{◌≡◌, ◌≤◌, ◌||◌, length, drop, true, false, None, Some, MatchOption, IfSome, IfErr};
-ghost use Rattle.wtp_connection.specs.Streams.{connection_of, opens, opening_result, closed_by, accepts, no_number as no_number_is};
+ghost use Rattle.wtp_connection.specs.Streams.{connection_of, opens, opening_result, closed_by, accepts};
 ghost use Rattle.wtp_connection.specs.Receiving.{FoundIs, StepIsFound, IsNearer, IsFirst, IsInside, opening_of, has_frame, step_found, encoder_found, decoder_found, fails, more_in, finish_of};
 
 pub mod datagrams;
+mod resumption;
 mod sessions;
 
 use crate::fault::Fault;
@@ -11,7 +12,7 @@ use crate::fields::Fields;
 use crate::instructions::{DecoderPlace, sets_nothing};
 use crate::requests::Begun;
 use crate::settings::PeerSettings;
-use crate::stream::{Purpose, Stream, bi_opening, uni_opening};
+use crate::stream::{Purpose, Stream, bi_opening, uni_opening, unopened_end};
 use wtp_core::error::ErrorScope;
 use wtp_frames::endpoint::{Endpoint, Side};
 use wtp_frames::fault::Fault as StreamFault;
@@ -33,6 +34,8 @@ pub struct Connection {
     waiting: u32,
     /// The settings of the peer.
     peer: PeerSettings,
+    /// Whether these are remembered of a session that is resumed.
+    resumed: bool,
     /// At a server, which requests of the client have begun.
     begun: Begun,
     /// Whether an error ended the connection.
@@ -93,6 +96,7 @@ impl Connection {
             decoder: false,
             waiting: 0,
             peer: PeerSettings::new(),
+            resumed: false,
             begun: Begun::new(),
             over: false,
         }
@@ -135,7 +139,7 @@ impl Connection {
         let found = self.step(stream, bytes);
         if fin {
             return match consumed_by_more(found) {
-                Some(n) => self.finish(stream, bytes.len() - n, n),
+                Some(n) => self.finish(stream, bytes.split_at(n).1, n),
                 None => found,
             };
         }
@@ -179,7 +183,7 @@ impl Connection {
                 let next = place.after(bytes);
                 self.go_on(stream, next, bytes.len())
             }
-            Stream::Ignored | Stream::Over => Found::More(bytes.len()),
+            Stream::Ignored | Stream::Incomplete | Stream::Over => Found::More(bytes.len()),
         }
     }
 
@@ -190,11 +194,8 @@ impl Connection {
     {
         match step {
             Step::Frame(FrameType::Settings, start, end) => {
-                match PeerSettings::read(&bytes[start..end]) {
-                    Ok(settings) => {
-                        self.peer = settings;
-                        Found::Settings(settings, start, end)
-                    }
+                match self.configure(&bytes[start..end]) {
+                    Ok(settings) => Found::Settings(settings, start, end),
                     Err(fault) => self.fail(stream, fault),
                 }
             }
@@ -318,25 +319,19 @@ impl Connection {
         }
     }
 
-    // Returns what the end of a stream is, with `left` bytes left over after `consumed`.
-    fn finish(&mut self, stream: &mut Stream, left: usize, consumed: usize) -> Found
-        ensures { (result, self.new, stream.new) ≡ finish_of self.old stream.old left consumed }
+    // Returns what the end of a stream is, with these bytes left over after `consumed`.
+    fn finish(&mut self, stream: &mut Stream, left: &[u8], consumed: usize) -> Found
+        ensures { (result, self.new, stream.new) ≡ finish_of self.old stream.old left.now consumed }
     {
         if self.over {
             return Found::More(consumed);
         }
         let end = match stream {
-            Stream::Joining(_) | Stream::Waiting(_) | Stream::Over => {
+            Stream::Joining(_) | Stream::Waiting(_) | Stream::Incomplete | Stream::Over => {
                 return Found::More(consumed);
             }
-            Stream::Bi => {
-                if left > 0 {
-                    Err(StreamFault::Frame)
-                } else {
-                    Err(no_number(self.endpoint.side))
-                }
-            }
-            Stream::Frames(reader, _) => reader.finish(left),
+            Stream::Bi => Err(unopened_end(self.endpoint.side, left)),
+            Stream::Frames(reader, _) => reader.finish(left.len()),
             Stream::Encoder | Stream::Decoder(_) => Err(StreamFault::ClosedCriticalStream),
             Stream::Uni | Stream::Session(_) | Stream::Ignored => Ok(()),
         };
@@ -345,12 +340,16 @@ impl Connection {
                 *stream = Stream::Over;
                 Found::End
             }
-            Err(fault) => self.fail(stream, Fault::Stream(fault)),
+            Err(fault) => {
+                self.close(Fault::Stream(fault));
+                *stream = Stream::ended_by(fault);
+                Found::Fault(Fault::Stream(fault))
+            }
         }
     }
 
-    /// Returns the settings of the peer. Until its SETTINGS come each one has its default (RFC 9114,
-    /// section 7.2.4.2).
+    /// Returns the settings of the peer. Until its SETTINGS come each one has its default, or the value
+    /// that is remembered of the session that is [resumed](Self::resuming) (RFC 9114, section 7.2.4.2).
     pub fn peer_settings(&self) -> PeerSettings
         ensures { result ≡ self.now.peer }
     {
@@ -362,16 +361,6 @@ impl Connection {
         ensures { result ≡ self.now.waiting }
     {
         self.waiting
-    }
-}
-
-// Returns the error of a bidirectional stream that ends before its first number.
-fn no_number(side: Side) -> StreamFault
-    ensures { result ≡ no_number_is side }
-{
-    match side {
-        Side::Client => StreamFault::StreamCreation,
-        Side::Server => StreamFault::RequestIncomplete,
     }
 }
 

@@ -11,8 +11,12 @@ use wtp_frames::fault::Fault as StreamFault;
 pub enum Fault {
     /// An error of what a stream is for, of its frames or of its end.
     Stream(StreamFault),
-    /// A setting is invalid (RFC 9114, sections 7.2.4 and 7.2.4.1).
+    /// A setting is invalid (RFC 9114, sections 7.2.4 and 7.2.4.1), or less than what is remembered of
+    /// a resumed session (section 7.2.4.2).
     Settings,
+    /// A server that accepted 0-RTT has another capacity of its dynamic table than the one that is
+    /// remembered of the resumed session, which was not 0 (RFC 9204, section 3.2.3).
+    Capacity,
     /// The encoder stream of QPACK has an instruction that the own settings exclude (RFC 9204,
     /// sections 3.2.3 and 4.3).
     EncoderStream,
@@ -32,6 +36,7 @@ impl Fault {
         match self {
             Fault::Stream(fault) => fault.code(),
             Fault::Settings => Code::H3_SETTINGS_ERROR,
+            Fault::Capacity => Code::QPACK_DECODER_STREAM_ERROR,
             Fault::EncoderStream => Code::QPACK_ENCODER_STREAM_ERROR,
             Fault::DecoderStream => Code::QPACK_DECODER_STREAM_ERROR,
             Fault::Datagram => Code::H3_DATAGRAM_ERROR,

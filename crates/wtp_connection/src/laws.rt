@@ -7,7 +7,7 @@ ghost use Rattle.wtp_frames.specs.declared.fault.Fault.TheVariants as stream;
 ghost use Rattle.wtp_frames.specs.declared.reader.Place.TheVariants.{AfterSettings};
 ghost use Rattle.wtp_frames.specs.declared.endpoint.Side.TheVariants.{Client, Server};
 ghost use Rattle.wtp_frames.specs.Grammar.{Frame, written, IsFrame, Interim, ValidInterim};
-ghost use Rattle.wtp_frames.specs.Start.{between, awaiting};
+ghost use Rattle.wtp_frames.specs.Start.{between, awaiting, message_reader};
 ghost use Rattle.wtp_core.specs.declared.error.scope.ErrorScope.TheVariants as scope;
 ghost use Rattle.wtp_connection.specs.declared.connection.Connection.{Connection};
 ghost use Rattle.wtp_connection.specs.declared.connection.Known.TheVariants as known;
@@ -18,9 +18,10 @@ ghost use Rattle.wtp_wire.specs.Settings.{ArePairs, IsCutSetting};
 ghost use Rattle.wtp_connection.specs.declared.fault.Fault.{Fault};
 ghost use Rattle.wtp_connection.specs.declared.fault.Fault.TheVariants as fault;
 ghost use Rattle.wtp_connection.specs.declared.settings.PeerSettings.{PeerSettings};
+ghost use Rattle.wtp_connection.specs.Resumption.{KeepsCapacity, KeepsLimits, after_resumption};
 ghost use Rattle.wtp_connection.specs.declared.stream.Purpose.TheVariants as «for»;
-ghost use Rattle.wtp_connection.specs.declared.stream.Stream.TheVariants.{Uni, Frames, Over};
-ghost use Rattle.wtp_connection.specs.Streams.{connection_of, with_control, with_settings, closed_by, Opened, Configured, Broke, followed, all_given, run_stream, FindsInterim, accepted_all, known_alone, over_if};
+ghost use Rattle.wtp_connection.specs.declared.stream.Stream.TheVariants.{Uni, Bi, Frames, Joining, Ignored, Over};
+ghost use Rattle.wtp_connection.specs.Streams.{with_control, configured, received_settings, closed_by, breaks, Opened, Configured, Broke, followed, all_given, run_stream, FindsInterim, accepted_all, known_alone, over_if};
 ghost use Rattle.wtp_connection.specs.declared.connection.Found.{Found};
 ghost use Rattle.wtp_connection.specs.declared.stream.Stream.{Stream};
 ghost use Rattle.wtp_connection.specs.Receiving.{AreReturned};
@@ -49,20 +50,105 @@ pub fn invalid_settings_are_reported()
         → is_refused ps id value ≡ true → settings_in (front ++ (s ++ more)) ≡ Err fault.Settings }
 {}
 
-/// A control stream that begins with SETTINGS gives what they define, and the connection has it from
-/// then on. If they are not valid the stream gives their error, and nothing after it.
+/// A control stream that begins with SETTINGS gives what they define, whatever came before on other
+/// streams, and the connection has it from then on. If they are not valid the stream gives their error,
+/// and nothing after it.
 pub fn settings_are_found()
-    ensures values { (e : Endpoint) (t more : List ℕ) (f : Frame) (v : PeerSettings)
-        → Encodes 0x00 t → IsFrame 0x04 f → length f.payload ≤ 4096 → settings_in f.payload ≡ Ok v
+    ensures values { (c : Connection) (t more : List ℕ) (f : Frame) (v : PeerSettings)
+        → c.over ≡ false → c.control ≡ false
+        → Encodes 0x00 t → IsFrame 0x04 f → length f.payload ≤ 4096
+        → received_settings c f.payload ≡ Ok v
         → (streamed : Bool) × (idle : ℕ)
-        × (run_stream (connection_of e) Uni (t ++ (written f ++ more))
+        × (run_stream c Uni (t ++ (written f ++ more))
         ≡ followed (Opened «for».Control ∷ Configured v f.payload ∷ [])
-        (run_stream (with_settings e v)
-        (Frames (between e 0 (AfterSettings None None) streamed idle) true) more)) }
-    ensures fault { (e : Endpoint) (t more : List ℕ) (f : Frame) (x : Fault)
-        → Encodes 0x00 t → IsFrame 0x04 f → length f.payload ≤ 4096 → settings_in f.payload ≡ Err x
-        → run_stream (connection_of e) Uni (t ++ (written f ++ more))
-        ≡ all_given (closed_by (with_control e) x) Over (Opened «for».Control ∷ Broke x ∷ []) }
+        (run_stream (configured (with_control c) v)
+        (Frames (between c.endpoint 0 (AfterSettings None None) streamed idle) true) more)) }
+    ensures fault { (c : Connection) (t more : List ℕ) (f : Frame) (x : Fault)
+        → c.over ≡ false → c.control ≡ false
+        → Encodes 0x00 t → IsFrame 0x04 f → length f.payload ≤ 4096
+        → received_settings c f.payload ≡ Err x
+        → run_stream c Uni (t ++ (written f ++ more))
+        ≡ all_given (closed_by (with_control c) x) Over (Opened «for».Control ∷ Broke x ∷ []) }
+{}
+
+/// SETTINGS of a server that accepted 0-RTT are taken exactly if they keep what is remembered of the
+/// resumed session. Another capacity of the dynamic table than a remembered one that is not 0 is
+/// QPACK_DECODER_STREAM_ERROR; anything else that is less is H3_SETTINGS_ERROR.
+pub fn remembered_settings_are_kept()
+    ensures kept { (old new : PeerSettings) → KeepsCapacity old new → KeepsLimits old new
+        → after_resumption old new ≡ Ok new }
+    ensures capacity { (old new : PeerSettings) → (KeepsCapacity old new → ⊥)
+        → after_resumption old new ≡ Err fault.Capacity }
+    ensures limits { (old new : PeerSettings) → KeepsCapacity old new → (KeepsLimits old new → ⊥)
+        → after_resumption old new ≡ Err fault.Settings }
+    ensures capacity_code { code_of fault.Capacity ≡ 0x0202 }
+    ensures settings_code { code_of fault.Settings ≡ 0x0109 }
+    ensures capacity_scope { scope_of fault.Capacity ≡ scope.Connection }
+    ensures settings_scope { scope_of fault.Settings ≡ scope.Connection }
+{}
+
+/// What a stream is for is found by its first number, whatever encoding it has, and of a stream of a
+/// session by the ID after it (RFC 9114, sections 6.1 and 6.2; draft-ietf-webtrans-http3-02, sections
+/// 4.1 and 4.2).
+pub fn purposes_are_found()
+    ensures session { (c : Connection) (t u more : List ℕ) (s : ℕ)
+        → c.over ≡ false → c.endpoint.webtransport ≡ true
+        → Encodes 0x54 t → Encodes s u → s % 4 ≡ 0
+        → run_stream c Uni (t ++ (u ++ more))
+        ≡ followed (Opened («for».Session s) ∷ []) (run_stream c (Joining s) more) }
+    ensures bidirectional { (c : Connection) (t u more : List ℕ) (s : ℕ)
+        → c.over ≡ false → c.endpoint.webtransport ≡ true
+        → Encodes 0x41 t → Encodes s u → s % 4 ≡ 0
+        → run_stream c Bi (t ++ (u ++ more))
+        ≡ followed (Opened («for».Session s) ∷ []) (run_stream c (Joining s) more) }
+    ensures request { (c : Connection) (t more : List ℕ) (n : ℕ)
+        → c.over ≡ false → c.endpoint.side ≡ Server → Encodes n t
+        → (n ≡ 0x41 → c.endpoint.webtransport ≡ false)
+        → run_stream c Bi (t ++ more)
+        ≡ followed (Opened «for».Message ∷ [])
+        (run_stream c (Frames (message_reader c.endpoint) false) (t ++ more)) }
+    ensures unknown { (c : Connection) (t more : List ℕ) (n : ℕ)
+        → c.over ≡ false → Encodes n t → 3 < n
+        → (n ≡ 0x54 → c.endpoint.webtransport ≡ false)
+        → run_stream c Uni (t ++ more)
+        ≡ followed (Opened «for».Ignored ∷ []) (run_stream c Ignored more) }
+{}
+
+/// Streams that the peer may not open end the connection: with H3_ID_ERROR those with an invalid session
+/// ID, and a push to a client; with H3_STREAM_CREATION_ERROR a push to a server, a second control stream
+/// or stream of QPACK, and a bidirectional stream of a server that is none of a session.
+pub fn forbidden_streams_are_reported()
+    ensures session { (c : Connection) (t u more : List ℕ) (s : ℕ)
+        → c.over ≡ false → c.endpoint.webtransport ≡ true
+        → Encodes 0x54 t → Encodes s u → (s % 4 ≡ 0 → ⊥)
+        → run_stream c Uni (t ++ (u ++ more)) ≡ breaks c (fault.Stream stream.Id) }
+    ensures bidirectional { (c : Connection) (t u more : List ℕ) (s : ℕ)
+        → c.over ≡ false → c.endpoint.webtransport ≡ true
+        → Encodes 0x41 t → Encodes s u → (s % 4 ≡ 0 → ⊥)
+        → run_stream c Bi (t ++ (u ++ more)) ≡ breaks c (fault.Stream stream.Id) }
+    ensures push_to_client { (c : Connection) (t more : List ℕ)
+        → c.over ≡ false → c.endpoint.side ≡ Client → Encodes 0x01 t
+        → run_stream c Uni (t ++ more) ≡ breaks c (fault.Stream stream.Id) }
+    ensures push_to_server { (c : Connection) (t more : List ℕ)
+        → c.over ≡ false → c.endpoint.side ≡ Server → Encodes 0x01 t
+        → run_stream c Uni (t ++ more) ≡ breaks c (fault.Stream stream.StreamCreation) }
+    ensures control { (c : Connection) (t more : List ℕ)
+        → c.over ≡ false → c.control ≡ true → Encodes 0x00 t
+        → run_stream c Uni (t ++ more) ≡ breaks c (fault.Stream stream.StreamCreation) }
+    ensures encoder { (c : Connection) (t more : List ℕ)
+        → c.over ≡ false → c.encoder ≡ true → Encodes 0x02 t
+        → run_stream c Uni (t ++ more) ≡ breaks c (fault.Stream stream.StreamCreation) }
+    ensures decoder { (c : Connection) (t more : List ℕ)
+        → c.over ≡ false → c.decoder ≡ true → Encodes 0x03 t
+        → run_stream c Uni (t ++ more) ≡ breaks c (fault.Stream stream.StreamCreation) }
+    ensures of_a_server { (c : Connection) (t more : List ℕ) (n : ℕ)
+        → c.over ≡ false → c.endpoint.side ≡ Client → Encodes n t
+        → (n ≡ 0x41 → c.endpoint.webtransport ≡ false)
+        → run_stream c Bi (t ++ more) ≡ breaks c (fault.Stream stream.StreamCreation) }
+    ensures id_code { code_of (fault.Stream stream.Id) ≡ 0x0108 }
+    ensures creation_code { code_of (fault.Stream stream.StreamCreation) ≡ 0x0103 }
+    ensures id_scope { scope_of (fault.Stream stream.Id) ≡ scope.Connection }
+    ensures creation_scope { scope_of (fault.Stream stream.StreamCreation) ≡ scope.Connection }
 {}
 
 /// An interim response gives its section, and once the caller says what it is the stream is before the

@@ -2,7 +2,7 @@
 //! draft-ietf-webtrans-http3-02, sections 4.1 and 4.2).
 ghost use Rattle.std.specs.Prelude.{◌≡◌, ◌≤◌, false, length, drop, None, Some, MatchOption, IfSome};
 ghost use Rattle.wtp_core.specs.Varint.{number_at};
-ghost use Rattle.wtp_connection.specs.Opening.{with_session, type_purpose, frames_purpose, uni_at, bi_at, stream_of, waits_for, is_critical as is_critical_is, is_for_critical, has_no_headers as has_no_headers_is, is_closed as is_closed_is};
+ghost use Rattle.wtp_connection.specs.Opening.{with_session, type_purpose, frames_purpose, uni_at, bi_at, stream_of, waits_for, is_critical as is_critical_is, is_for_critical, has_no_headers as has_no_headers_is, is_closed as is_closed_is, over_from, over_by, end_unopened};
 ghost use Rattle.wtp_connection.specs.Streams.{known_by_stream};
 ghost use Rattle.wtp_frames.specs.Start.{message_reader};
 
@@ -68,6 +68,9 @@ pub enum Stream {
     Decoder(DecoderPlace),
     /// A stream of an unknown type. Its bytes are discarded.
     Ignored,
+    /// A message of which no HEADERS will come: its stream ended, was reset or was not read further
+    /// before them. Its bytes are discarded.
+    Incomplete,
     /// A stream that has ended or has an error. Its bytes are discarded.
     Over,
 }
@@ -127,6 +130,7 @@ impl Stream {
     {
         match self {
             Stream::Over => Known::Over,
+            Stream::Incomplete => Known::Refused,
             Stream::Bi => Known::Coming,
             Stream::Frames(_, _) => {
                 if self.is_critical() {
@@ -144,6 +148,47 @@ impl Stream {
         ensures { result ≡ has_no_headers_is self.now }
     {
         matches!(self, Stream::Bi | Stream::Frames(_, false))
+    }
+
+    // Returns the state of the stream when it is over.
+    pub(crate) fn when_over(&self) -> Self
+        ensures { result ≡ over_from self.now }
+    {
+        match self {
+            Stream::Bi | Stream::Frames(_, false) | Stream::Incomplete => Stream::Incomplete,
+            _ => Stream::Over,
+        }
+    }
+
+    // Returns the state of a stream after this error at its end.
+    pub(crate) fn ended_by(fault: Fault) -> Self
+        ensures { result ≡ over_by fault }
+    {
+        match fault {
+            Fault::RequestIncomplete => Stream::Incomplete,
+            _ => Stream::Over,
+        }
+    }
+}
+
+/// Returns the error of a bidirectional stream that ends after these bytes, before it is known what it
+/// is for.
+#[tactic(auto, using(crate::proofs::OpeningLemmas::unopened))]
+pub(crate) fn unopened_end(side: Side, left: &[u8]) -> Fault
+    ensures { result ≡ end_unopened side left.now }
+{
+    if first_varint(left).is_some() {
+        return Fault::Frame;
+    }
+    match side {
+        Side::Client => Fault::StreamCreation,
+        Side::Server => {
+            if left.is_empty() {
+                Fault::RequestIncomplete
+            } else {
+                Fault::Frame
+            }
+        }
     }
 }
 

@@ -1,21 +1,21 @@
 -- What is found in bytes of which the first are held.
-use Rattle.std.proofs.Common.{◌≡◌, ℕ, zero, suc, ◌+◌, ◌-◌, ◌*◌, ◌<◌, ◌≤◌, ◌&&◌, ◌==◌, Bool, true, false, cond, List, [], ◌∷◌, ◌++◌, length, take, drop, Some, None, Result, Ok, Err, refl, sym, ap, subst, ◌∙◌, append_assoc, arith, length-append, length-drop}
-use Rattle.std.proofs.lemmas.Bool.{false≢true, eqb-true}
+use Rattle.std.proofs.Common.{◌≡◌, ℕ, zero, suc, max, ◌+◌, ◌-◌, ◌<◌, ◌≤◌, ◌&&◌, ◌==◌, Bool, true, false, cond, List, [], ◌∷◌, ◌++◌, length, take, drop, None, Result, Ok, Err, refl, sym, ap, subst, ◌∙◌, append_assoc, zero-add, arith, length-append, length-drop, length-take}
+use Rattle.std.proofs.lemmas.Bool.{false≢true, eqb-true, ne_eqb}
 use Rattle.std.proofs.lemmas.List.{append-nil, drop-drop, take-append-drop}
-use Rattle.std.proofs.Math.Seq.{drop-length}
+use Rattle.std.proofs.Math.Seq.{drop-length, take-length}
 use Rattle.wtp_connection.specs.declared.connection.Connection.{Connection}
 use Rattle.wtp_connection.specs.declared.connection.Found.{Found}
 use Rattle.wtp_connection.specs.declared.connection.Found.TheVariants as found
 use Rattle.wtp_connection.specs.declared.stream.Stream.{Stream}
-use Rattle.wtp_connection.specs.Streams.{Seen, StreamRun, rests, followed, run_stream, ended}
-use Rattle.wtp_connection.specs.Receiving.{seen_of, rest_after, Idle, Fits, Finds, all_found, FoundIs, more_in}
+use Rattle.wtp_connection.specs.Streams.{Seen, StreamRun, followed, run_stream, ended}
+use Rattle.wtp_connection.specs.Receiving.{seen_of, rest_after, Idle, Fits, Finds, LeavesOpen, FoundIs, more_in}
 use Rattle.wtp_connection.proofs.FinishLemmas.{ended_followed}
 use Rattle.wtp_hold.specs.declared.hold.Hold.{Hold}
 use Rattle.wtp_hold.specs.declared.hold.Source.TheVariants.{Held, Chunk}
 use Rattle.wtp_hold.specs.declared.hold.Received.{Received}
 use Rattle.wtp_hold.specs.declared.hold.NotHeld.{NotHeld}
 use Rattle.wtp_hold.specs.declared.hold.NotHeld.TheVariants.{Memory, Limit}
-use Rattle.wtp_hold.specs.Holding.{pending, joined, source_of, Reads, IsQuiet, IsHeld, AfterMore, ReceivedIs, IsPast, IsReason, NotHeldIs, ReceptionIs, taken_before, consumed_by, IsStill, IsRead, IsFoundInChunk, IsInChunk}
+use Rattle.wtp_hold.specs.Holding.{pending, joined, source_of, Reads, IsQuiet, AfterMore, ReceivedIs, searched, least_held, IsReason, NotHeldIs, AreLast, ReceptionIs, taken_before, consumed_by, IsStill, IsRead, IsFoundInChunk}
 
 -- ---- more bytes follow
 
@@ -47,8 +47,11 @@ reads_on true false c s bytes seen d t left rest e h = reads_all true c s (bytes
 reads_on false last c s bytes seen d t left rest e h = extended c s bytes seen d t left rest h
 
 -- nothing is found, and then something
-pub reads_then : (fin : Bool) (b c : Connection) (r s : Stream) (all bytes : List ℕ) (seen : List Seen) (d : Connection) (t : Stream) (left : List ℕ) → Reads fin b r all [] c s bytes → Reads fin c s bytes seen d t left → Reads fin b r all seen d t left
-reads_then fin b c r s all bytes seen d t left g h = λ more. g more ∙ h more
+finds_then : (b c : Connection) (r s : Stream) (all bytes : List ℕ) (seen : List Seen) (d : Connection) (t : Stream) (left : List ℕ) → Finds b r all [] c s bytes → Finds c s bytes seen d t left → Finds b r all seen d t left
+finds_then b c r s all bytes seen d t left g h = λ more. g more ∙ h more
+
+reads_then : (fin : Bool) (b c : Connection) (r s : Stream) (all bytes : List ℕ) (seen : List Seen) (d : Connection) (t : Stream) (left : List ℕ) → Finds b r all [] c s bytes → Reads fin c s bytes seen d t left → Reads fin b r all seen d t left
+reads_then fin b c r s all bytes seen d t left g h = λ more. reads_all fin b r all [] c s bytes g more ∙ h more
 
 -- ---- how many bytes are consumed
 
@@ -87,7 +90,7 @@ fresh_pending k e = rw e refl
 
 -- ---- a call over the bytes held
 
-pub held_received : (x : Found) (fin last : Bool) (b c : Connection) (r s : Stream) (all : List ℕ) (h : Hold) (d : Connection) (t : Stream) (k : Hold) (taken limit : ℕ) (chunk : List ℕ) → IsRead x (fin && last) c s h d t k → k.fin ≡ fin → (last ≡ true → drop taken chunk ≡ []) → taken ≤ length chunk → Reads fin b r all [] c s (h.bytes.items ++ drop taken chunk) → ReceivedIs (record { found = x; source = Held; taken = taken }) b r all chunk limit k d t
+pub held_received : (x : Found) (fin last : Bool) (b c : Connection) (r s : Stream) (all : List ℕ) (h : Hold) (d : Connection) (t : Stream) (k : Hold) (taken limit : ℕ) (chunk : List ℕ) → IsRead x (fin && last) c s h d t k → k.fin ≡ fin → (last ≡ true → drop taken chunk ≡ []) → taken ≤ length chunk → Finds b r all [] c s (h.bytes.items ++ drop taken chunk) → ReceivedIs (record { found = x; source = Held; taken = taken }) b r all chunk limit k d t
 held_received x fin last b c r s all h d t k taken limit chunk is e none within before =
     let left : pending k ≡ rest_after x h.bytes.items = ap (λ (n : ℕ). drop n k.bytes.items) is.used ∙ ap (λ (l : List ℕ). drop (consumed_by x (length h.bytes.items)) l) is.bytes ∙ sym (rest_is x h.bytes.items) in
     record {
@@ -100,14 +103,17 @@ held_received x fin last b c r s all h d t k taken limit chunk is e none within 
           subst (λ (l : List ℕ). Reads fin b r all (seen_of x h.bytes.items) d t (l ++ drop taken chunk)) (sym left) (
           reads_then fin b c r s all (h.bytes.items ++ drop taken chunk) (seen_of x h.bytes.items) d t (rest_after x h.bytes.items ++ drop taken chunk) before (
           reads_on fin last c s h.bytes.items (seen_of x h.bytes.items) d t (rest_after x h.bytes.items) (drop taken chunk) none is.found.finds))));
+      goes = λ l.
+          subst (λ (l : List ℕ). Finds b r all (seen_of x l) d t (joined k (drop taken chunk))) (sym is.bytes) (
+          subst (λ (l : List ℕ). Finds b r all (seen_of x h.bytes.items) d t (l ++ drop taken chunk)) (sym left) (
+          finds_then b c r s all (h.bytes.items ++ drop taken chunk) (seen_of x h.bytes.items) d t (rest_after x h.bytes.items ++ drop taken chunk) before (
+          extended c s h.bytes.items (seen_of x h.bytes.items) d t (rest_after x h.bytes.items) (drop taken chunk) (is.found.goes l))));
       after = other_after x taken limit chunk k d t is.other;
     }
 
 -- nothing is found so far
-pub still : (fin last : Bool) (b c : Connection) (r s : Stream) (all bytes : List ℕ) (d : Connection) (t : Stream) (k : Hold) (rest : List ℕ) → IsStill (fin && last) c s bytes d t k → k.fin ≡ fin → (last ≡ true → rest ≡ []) → Reads fin b r all [] c s (bytes ++ rest) → Reads k.fin b r all [] d t (k.bytes.items ++ rest)
-still fin last b c r s all bytes d t k rest is e none before = subst (λ (f : Bool). Reads f b r all [] d t (k.bytes.items ++ rest)) (sym e) (
-    reads_then fin b c r s all (bytes ++ rest) [] d t (k.bytes.items ++ rest) before (
-    reads_on fin last c s bytes [] d t k.bytes.items rest none is.reads))
+pub still : (fin : Bool) (b c : Connection) (r s : Stream) (all bytes : List ℕ) (d : Connection) (t : Stream) (k : Hold) (rest : List ℕ) → IsStill fin c s bytes d t k → Finds b r all [] c s (bytes ++ rest) → Finds b r all [] d t (k.bytes.items ++ rest)
+still fin b c r s all bytes d t k rest is before = finds_then b c r s all (bytes ++ rest) [] d t (k.bytes.items ++ rest) before (extended c s bytes [] d t k.bytes.items rest is.finds)
 
 last_quiet : (fin last : Bool) (d : Connection) (t : Stream) (bytes : List ℕ) → last ≡ true → IsQuiet (fin && last) d t bytes → IsQuiet fin d t bytes
 last_quiet true true d t bytes e h = h
@@ -128,15 +134,35 @@ empty_rest rest back last is e at = sym is ∙ empty rest (sym e ∙ at)
 pub not_empty : (l : List ℕ) → l ≡ [] → 0 < length l → ⊥
 not_empty l e some = let size : length l ≡ 0 = ap (λ (k : List ℕ). length k) e in absurd (omega arith)
 
--- more than the limit
-pub past_more : (limit len : ℕ) (rest back : List ℕ) (last : Bool) → rest ≡ back → last ≡ (length rest == 0) → limit < len + cond last 0 1 → limit < len + length back
-past_more limit len rest back last is e h = subst (λ (l : List ℕ). limit < len + length l) is (more rest last e h)
+-- how many bytes have to be held
+
+pub past_least : (limit len : ℕ) (rest back : List ℕ) (last : Bool) → rest ≡ back → last ≡ (length rest == 0) → 0 < len → limit < len + cond last 0 1 → limit < least_held len (length back)
+past_least limit len rest back last is e some h = subst (λ (l : List ℕ). limit < least_held len (length l)) is (past len rest last e some h)
   where
-    more : (l : List ℕ) (last : Bool) → last ≡ (length l == 0) → limit < len + cond last 0 1 → limit < len + length l
-    more [] true e h = h
-    more [] false e h = absurd (false≢true e)
-    more (b ∷ l) true e h = let e : suc (length l) ≡ 0 = eqb-true _ _ (sym e) in absurd (omega arith)
-    more (b ∷ l) false e h = omega arith
+    past : (len : ℕ) (l : List ℕ) (last : Bool) → last ≡ (length l == 0) → 0 < len → limit < len + cond last 0 1 → limit < least_held len (length l)
+    past zero l last e some h = absurd (omega (arith, some))
+    past (suc m) [] true e some h = omega (arith, h)
+    past (suc m) [] false e some h = absurd (false≢true e)
+    past (suc m) (b ∷ l) true e some h = let e : suc (length l) ≡ 0 = eqb-true _ _ (sym e) in absurd (omega arith)
+    past (suc m) (b ∷ l) false e some h = h
+
+one_more : (limit len n : ℕ) → 0 < len → 0 < n → len < limit → least_held len n ≤ limit
+one_more limit zero n some more l = absurd (omega (arith, some))
+one_more limit (suc m) zero some more l = absurd (omega (arith, more))
+one_more limit (suc m) (suc n) some more l = omega (arith, l)
+
+some_follow : (rest back : List ℕ) (last : Bool) → rest ≡ back → last ≡ (length rest == 0) → last ≡ false → 0 < length back
+some_follow rest back last is e none = subst (λ (l : List ℕ). 0 < length l) is (follow rest (sym e ∙ none))
+  where
+    follow : (l : List ℕ) → (length l == 0) ≡ false → 0 < length l
+    follow [] h = absurd (false≢true (sym h))
+    follow (b ∷ l) h = omega arith
+
+searched_held : (k : Hold) (rest : List ℕ) → 0 < length k.bytes.items → searched k rest ≡ k.bytes.items
+searched_held k rest some = rw (ne_eqb (length k.bytes.items) 0 (λ e. omega (arith, e, some))) refl
+
+searched_none : (k : Hold) (rest : List ℕ) → k.bytes.items ≡ [] → searched k rest ≡ rest
+searched_none k rest none = rw none refl
 
 pub not_more : (x : Found) → ((m : ℕ) → x ≡ found.More m → ⊥) → more_in x ≡ None
 not_more (found.More n) h = absurd (h n refl)
@@ -149,23 +175,81 @@ not_more (found.Fault f) h = refl
 not_more found.End h = refl
 
 -- as many bytes of the chunk are held
-pub moved : (fin : Bool) (b c : Connection) (r s : Stream) (all bytes chunk items : List ℕ) (taken n : ℕ) → items ≡ bytes ++ take n (drop taken chunk) → Reads fin b r all [] c s (bytes ++ drop taken chunk) → Reads fin b r all [] c s (items ++ drop (taken + n) chunk)
-moved fin b c r s all bytes chunk items taken n e before = subst (λ (l : List ℕ). Reads fin b r all [] c s l) (sym (
+pub moved : (b c : Connection) (r s : Stream) (all bytes chunk items : List ℕ) (taken n : ℕ) → items ≡ bytes ++ take n (drop taken chunk) → Finds b r all [] c s (bytes ++ drop taken chunk) → Finds b r all [] c s (items ++ drop (taken + n) chunk)
+moved b c r s all bytes chunk items taken n e before = subst (λ (l : List ℕ). Finds b r all [] c s l) (sym (
     ap (λ (l : List ℕ). l ++ drop (taken + n) chunk) e
     ∙ append_assoc bytes (take n (drop taken chunk)) (drop (taken + n) chunk)
     ∙ ap (λ (l : List ℕ). bytes ++ (take n (drop taken chunk) ++ l)) (sym (drop-drop n taken chunk))
     ∙ ap (λ (l : List ℕ). bytes ++ l) (take-append-drop n (drop taken chunk)))) before
 
+-- ---- the bytes held are the last of those taken
+
+all_last : (l : List ℕ) → AreLast l l
+all_last l = (0, refl)
+
+pub none_last : (held bytes : List ℕ) → held ≡ [] → AreLast held bytes
+none_last held bytes e = (length bytes, e ∙ sym (drop-length bytes))
+
+pub last_of_last : (held mid bytes : List ℕ) → AreLast held mid → AreLast mid bytes → AreLast held bytes
+last_of_last held mid bytes (n, e) (m, f) = (m + n, e ∙ ap (λ (l : List ℕ). drop n l) f ∙ drop-drop n m bytes)
+
+pub fewer_held : (held mid : List ℕ) → AreLast held mid → length held ≤ length mid
+fewer_held held mid (n, e) = let size : length held ≡ length mid - n = ap (λ (l : List ℕ). length l) e ∙ length-drop n mid in omega arith
+
+drop_front : (n : ℕ) (xs ys : List ℕ) → (m : ℕ) × (drop n xs ++ ys ≡ drop m (xs ++ ys))
+drop_front zero xs ys = (0, refl)
+drop_front (suc n) [] ys = (0, refl)
+drop_front (suc n) (x ∷ xs) ys = let h = drop_front n xs ys in (suc h.0, h.1)
+
+take_both : (n m : ℕ) (l : List ℕ) → take n l ++ take m (drop n l) ≡ take (n + m) l
+take_both zero m l = rw (zero-add m) refl
+take_both (suc n) m [] = take_nil m ∙ sym (take_nil (suc n + m))
+  where
+    take_nil : (k : ℕ) → take {A = ℕ} k [] ≡ []
+    take_nil zero = refl
+    take_nil (suc k) = refl
+take_both (suc n) m (x ∷ l) =
+    let size : suc (n + m) ≡ suc n + m = omega arith in
+    ap (λ (k : List ℕ). x ∷ k) (take_both n m l) ∙ ap (λ (k : ℕ). take k (x ∷ l)) size
+
+-- some of the chunk are held after them
+pub last_moved : (held items old chunk : List ℕ) (taken n : ℕ) → items ≡ held ++ take n (drop taken chunk) → AreLast held (old ++ take taken chunk) → AreLast items (old ++ take (taken + n) chunk)
+last_moved held items old chunk taken n e (m, f) =
+    let h = drop_front m (old ++ take taken chunk) (take n (drop taken chunk)) in (
+      h.0,
+      e
+          ∙ ap (λ (l : List ℕ). l ++ take n (drop taken chunk)) f
+          ∙ h.1
+          ∙ ap (λ (l : List ℕ). drop h.0 l) (append_assoc old (take taken chunk) (take n (drop taken chunk)) ∙ ap (λ (l : List ℕ). old ++ l) (take_both taken n chunk)),
+    )
+
+pub taken_room : (items held rest : List ℕ) (n limit before : ℕ) → items ≡ held ++ take n rest → length held + n ≤ limit → length items ≤ max limit before
+taken_room items held rest n limit before e l =
+    let size : length items ≡ length held + length (take n rest) = ap (λ (l : List ℕ). length l) e ∙ length-append held (take n rest) in
+    omega (arith, length-take n rest)
+
+-- those of the chunk are the last of all
+pub last_of_all : (held old bytes : List ℕ) → AreLast held bytes → AreLast held (old ++ bytes)
+last_of_all held old bytes (n, e) = (length old + n, e ∙ sym (past_front old))
+  where
+    past_front : (xs : List ℕ) → drop (length xs + n) (xs ++ bytes) ≡ drop n bytes
+    past_front [] = rw (zero-add n) refl
+    past_front (x ∷ xs) =
+        let size : suc (length xs) + n ≡ suc (length xs + n) = omega arith in
+        ap (λ (k : ℕ). drop k (x ∷ (xs ++ bytes))) size ∙ past_front xs
+
 -- all of the chunk was taken, and nothing more is found
-pub nothing_more_held : (b : Connection) (r : Stream) (all : List ℕ) (d : Connection) (t : Stream) (k : Hold) (taken limit : ℕ) (chunk : List ℕ) → k.used ≡ 0 → drop taken chunk ≡ [] → taken ≤ length chunk → length k.bytes.items ≤ limit → IsQuiet k.fin d t k.bytes.items → Reads k.fin b r all [] d t (k.bytes.items ++ drop taken chunk) → ReceivedIs (record { found = found.More 0; source = Held; taken = taken }) b r all chunk limit k d t
-nothing_more_held b r all d t k taken limit chunk fresh none within few quiet reads =
+pub nothing_more_held : (b : Connection) (r : Stream) (all : List ℕ) (d : Connection) (t : Stream) (k : Hold) (taken limit : ℕ) (chunk : List ℕ) → k.used ≡ 0 → drop taken chunk ≡ [] → taken ≤ length chunk → length k.bytes.items ≤ limit → IsQuiet k.fin d t k.bytes.items → Finds b r all [] d t (k.bytes.items ++ drop taken chunk) → ReceivedIs (record { found = found.More 0; source = Held; taken = taken }) b r all chunk limit k d t
+nothing_more_held b r all d t k taken limit chunk fresh none within few quiet finds =
     let is : pending k ≡ k.bytes.items = fresh_pending k fresh in
     let size : length chunk - taken ≡ 0 = sym (length-drop taken chunk) ∙ ap (λ (l : List ℕ). length l) none in
+    let same : Finds b r all [] d t (joined k (drop taken chunk)) = subst (λ (l : List ℕ). Finds b r all [] d t (l ++ drop taken chunk)) (sym is) finds in
     record {
       taken = within;
       within = tt;
       fits = (omega arith, quiet.idle);
-      reads = subst (λ (l : List ℕ). Reads k.fin b r all [] d t (l ++ drop taken chunk)) (sym is) reads;
+      reads = reads_all k.fin b r all [] d t (joined k (drop taken chunk)) same;
+      goes = λ l. same;
       after = record {
         all = omega arith;
         held = is;
@@ -174,31 +258,31 @@ nothing_more_held b r all d t k taken limit chunk fresh none within few quiet re
       };
     }
 
--- the limit is reached
-pub limit_reached : (b : Connection) (r : Stream) (all : List ℕ) (d : Connection) (t : Stream) (k : Hold) (taken limit : ℕ) (chunk : List ℕ) → k.used ≡ 0 → taken ≤ length chunk → limit ≤ length k.bytes.items → limit < length k.bytes.items + length (drop taken chunk) → Idle d t k.bytes.items → Reads k.fin b r all [] d t (k.bytes.items ++ drop taken chunk) → NotHeldIs (Limit taken) b r all chunk limit k d t
-limit_reached b r all d t k taken limit chunk fresh within enough more idle reads =
+-- some bytes are held, and others cannot be
+not_held : (x : NotHeld) (b : Connection) (r : Stream) (all : List ℕ) (d : Connection) (t : Stream) (k : Hold) (limit : ℕ) (chunk : List ℕ) → k.used ≡ 0 → taken_before x ≤ length chunk → 0 < length k.bytes.items → Idle d t k.bytes.items → Finds b r all [] d t (k.bytes.items ++ drop (taken_before x) chunk) → IsReason x limit (length k.bytes.items) (length (drop (taken_before x) chunk)) → NotHeldIs x b r all chunk limit k d t
+not_held x b r all d t k limit chunk fresh within some idle finds reason =
     let is : pending k ≡ k.bytes.items = fresh_pending k fresh in
     record {
       taken = within;
-      reads = subst (λ (l : List ℕ). Reads k.fin b r all [] d t (l ++ drop taken chunk)) (sym is) reads;
-      reason = (
-        k.bytes.items,
-        drop taken chunk,
-        record {
-          parts = ap (λ (l : List ℕ). l ++ drop taken chunk) is;
-          idle = idle;
-          enough = enough;
-          more = subst (λ (l : List ℕ). limit < length (l ++ drop taken chunk)) (sym is) (omega (arith, length-append k.bytes.items (drop taken chunk)));
-        },
-      );
+      held = is;
+      finds = subst (λ (l : List ℕ). Finds b r all [] d t (l ++ drop (taken_before x) chunk)) (sym is) finds;
+      idle = subst (λ (l : List ℕ). Idle d t l) (sym (searched_held k (drop (taken_before x) chunk) some)) idle;
+      reason = reason;
     }
 
-pub memory_refused : (b : Connection) (r : Stream) (all : List ℕ) (d : Connection) (t : Stream) (k : Hold) (taken limit : ℕ) (chunk : List ℕ) → k.used ≡ 0 → taken ≤ length chunk → Reads k.fin b r all [] d t (k.bytes.items ++ drop taken chunk) → NotHeldIs (Memory taken) b r all chunk limit k d t
-memory_refused b r all d t k taken limit chunk fresh within reads = record {
-  taken = within;
-  reads = subst (λ (l : List ℕ). Reads k.fin b r all [] d t (l ++ drop taken chunk)) (sym (fresh_pending k fresh)) reads;
-  reason = tt;
-}
+pub limit_reached : (b : Connection) (r : Stream) (all : List ℕ) (d : Connection) (t : Stream) (k : Hold) (taken limit : ℕ) (chunk : List ℕ) → k.used ≡ 0 → taken ≤ length chunk → 0 < length k.bytes.items → limit < least_held (length k.bytes.items) (length (drop taken chunk)) → Idle d t k.bytes.items → Finds b r all [] d t (k.bytes.items ++ drop taken chunk) → NotHeldIs (Limit taken) b r all chunk limit k d t
+limit_reached b r all d t k taken limit chunk fresh within some more idle finds = not_held (Limit taken) b r all d t k limit chunk fresh within some idle finds more
+
+-- memory for one more is refused
+pub memory_refused : (b : Connection) (r : Stream) (all : List ℕ) (d : Connection) (t : Stream) (j k : Hold) (taken limit : ℕ) (chunk rest : List ℕ) (last : Bool) → k.used ≡ 0 → taken ≤ length chunk → k.bytes.items ≡ j.bytes.items → 0 < length j.bytes.items → length j.bytes.items < limit → rest ≡ drop taken chunk → last ≡ (length rest == 0) → last ≡ false → Idle d t j.bytes.items → Finds b r all [] d t (j.bytes.items ++ drop taken chunk) → NotHeldIs (Memory taken) b r all chunk limit k d t
+memory_refused b r all d t j k taken limit chunk rest last fresh within same some few at e none idle finds =
+    let more : 0 < length (drop taken chunk) = some_follow rest (drop taken chunk) last at e none in
+    let held : 0 < length k.bytes.items = subst (λ (l : List ℕ). 0 < length l) (sym same) some in
+    let least : least_held (length k.bytes.items) (length (drop taken chunk)) ≤ limit = one_more limit (length k.bytes.items) (length (drop taken chunk)) held more (subst (λ (l : List ℕ). length l < limit) (sym same) few) in
+    not_held (Memory taken) b r all d t k limit chunk fresh within held
+    (subst (λ (l : List ℕ). Idle d t l) (sym same) idle)
+    (subst (λ (l : List ℕ). Finds b r all [] d t (l ++ drop taken chunk)) (sym same) finds)
+    (more, least)
 
 -- ---- a call over the chunk
 
@@ -208,6 +292,12 @@ drop_nil (suc n) = refl
 
 nothing_held : (k : Hold) (l : List ℕ) → k.bytes.items ≡ [] → joined k l ≡ l
 nothing_held k l none = ap (λ (i : List ℕ). drop k.used i ++ l) none ∙ ap (λ (i : List ℕ). i ++ l) (drop_nil k.used)
+
+chunk_finds : (x : Found) (n : ℕ) (fin : Bool) (c : Connection) (s : Stream) (rest chunk : List ℕ) (taken : ℕ) (d : Connection) (t : Stream) → rest ≡ drop taken chunk → FoundIs x c s rest fin d t → n ≡ consumed_by x (length rest) → LeavesOpen x → Finds c s (drop taken chunk) (seen_of x (drop taken chunk)) d t (drop (taken + n) chunk)
+chunk_finds x n fin c s rest chunk taken d t at is e goes =
+    let left : rest_after x rest ≡ drop (taken + n) chunk = rest_is x rest ∙ ap (λ (m : ℕ). drop m rest) (sym e) ∙ ap (λ (l : List ℕ). drop n l) at ∙ drop-drop n taken chunk in
+    subst (λ (l : List ℕ). Finds c s l (seen_of x l) d t (drop (taken + n) chunk)) at (
+    subst (λ (l : List ℕ). Finds c s rest (seen_of x rest) d t l) left (is.goes goes))
 
 chunk_reads : (x : Found) (n : ℕ) (fin : Bool) (c : Connection) (s : Stream) (rest chunk : List ℕ) (taken : ℕ) (d : Connection) (t : Stream) → rest ≡ drop taken chunk → FoundIs x c s rest fin d t → n ≡ consumed_by x (length rest) → Reads fin c s (drop taken chunk) (seen_of x (drop taken chunk)) d t (drop (taken + n) chunk)
 chunk_reads x n fin c s rest chunk taken d t at is e =
@@ -225,6 +315,7 @@ chunk_found x n c s rest chunk taken limit k d t at before is other e none =
       within = before;
       fits = subst (λ (l : List ℕ). Fits x l d t) at is.fits;
       reads = subst (λ (l : List ℕ). Reads k.fin c s (drop taken chunk) (seen_of x (drop taken chunk)) d t l) (sym (nothing_held k (drop (taken + n) chunk) none)) (chunk_reads x n k.fin c s rest chunk taken d t at is e);
+      goes = λ l. subst (λ (l : List ℕ). Finds c s (drop taken chunk) (seen_of x (drop taken chunk)) d t l) (sym (nothing_held k (drop (taken + n) chunk) none)) (chunk_finds x n k.fin c s rest chunk taken d t at is e l);
       after = other_after x (taken + n) limit chunk k d t other;
     }
 
@@ -246,8 +337,10 @@ chunk_quiet x m n fin c s rest chunk taken d t at is more e =
     let left : drop m rest ≡ drop (taken + n) chunk = ap (λ (i : ℕ). drop i rest) (sym size) ∙ ap (λ (l : List ℕ). drop n l) at ∙ drop-drop n taken chunk in
     subst (λ (l : List ℕ). IsQuiet fin d t l) left (record { idle = same.fits.1; settled = same.settled })
 
-pub chunk_silent : (x : Found) (m n : ℕ) (fin : Bool) (c : Connection) (s : Stream) (rest chunk : List ℕ) (taken : ℕ) (d : Connection) (t : Stream) → rest ≡ drop taken chunk → FoundIs x c s rest fin d t → x ≡ found.More m → n ≡ consumed_by x (length rest) → Reads fin c s (drop taken chunk) [] d t (drop (taken + n) chunk)
-chunk_silent x m n fin c s rest chunk taken d t at is more e = subst (λ (l : List Seen). Reads fin c s (drop taken chunk) l d t (drop (taken + n) chunk)) (ap (λ (y : Found). seen_of y (drop taken chunk)) more) (chunk_reads x n fin c s rest chunk taken d t at is e)
+pub chunk_silent : (x : Found) (m n : ℕ) (fin : Bool) (c : Connection) (s : Stream) (rest chunk : List ℕ) (taken : ℕ) (d : Connection) (t : Stream) → rest ≡ drop taken chunk → FoundIs x c s rest fin d t → x ≡ found.More m → n ≡ consumed_by x (length rest) → Finds c s (drop taken chunk) [] d t (drop (taken + n) chunk)
+chunk_silent x m n fin c s rest chunk taken d t at is more e =
+    subst (λ (l : List Seen). Finds c s (drop taken chunk) l d t (drop (taken + n) chunk)) (ap (λ (y : Found). seen_of y (drop taken chunk)) more) (
+    chunk_finds x n fin c s rest chunk taken d t at is e (subst (λ (y : Found). LeavesOpen y) (sym more) tt))
 
 pub chunk_within : (x : Found) (n : ℕ) (fin : Bool) (c : Connection) (s : Stream) (rest chunk : List ℕ) (taken : ℕ) (d : Connection) (t : Stream) → rest ≡ drop taken chunk → taken ≤ length chunk → FoundIs x c s rest fin d t → n ≡ consumed_by x (length rest) → taken + n ≤ length chunk
 chunk_within x n fin c s rest chunk taken d t at before is e =
@@ -255,59 +348,62 @@ chunk_within x n fin c s rest chunk taken d t at before is e =
     let size : length rest ≡ length chunk - taken = ap (λ (l : List ℕ). length l) at ∙ length-drop taken chunk in
     omega arith
 
--- the chunk's rest is longer than the limit
-pub chunk_limit : (c : Connection) (s : Stream) (bytes chunk : List ℕ) (n limit : ℕ) (k : Hold) (d : Connection) (t : Stream) → k.bytes.items ≡ [] → n ≤ length chunk → limit < length (drop n chunk) → IsQuiet k.fin d t (drop n chunk) → Reads k.fin c s bytes [] d t (drop n chunk) → NotHeldIs (Limit n) c s bytes chunk limit k d t
-chunk_limit c s bytes chunk n limit k d t none within more quiet reads =
-    let is : joined k (drop n chunk) ≡ drop n chunk = nothing_held k (drop n chunk) none in
+-- none is held, and not all can be
+none_held : (x : NotHeld) (c : Connection) (s : Stream) (bytes chunk : List ℕ) (limit : ℕ) (k : Hold) (d : Connection) (t : Stream) → k.bytes.items ≡ [] → taken_before x ≤ length chunk → Idle d t (drop (taken_before x) chunk) → Finds c s bytes [] d t (drop (taken_before x) chunk) → IsReason x limit 0 (length (drop (taken_before x) chunk)) → NotHeldIs x c s bytes chunk limit k d t
+none_held x c s bytes chunk limit k d t none within idle finds reason =
+    let is : joined k (drop (taken_before x) chunk) ≡ drop (taken_before x) chunk = nothing_held k (drop (taken_before x) chunk) none in
     record {
       taken = within;
-      reads = subst (λ (l : List ℕ). Reads k.fin c s bytes [] d t l) (sym is) reads;
-      reason = (
-        drop n chunk,
-        [],
-        record {
-          parts = is ∙ sym (append-nil (drop n chunk));
-          idle = quiet.idle;
-          enough = omega arith;
-          more = subst (λ (l : List ℕ). limit < length l) (sym is) more;
-        },
-      );
+      held = ap (λ (l : List ℕ). drop k.used l) none ∙ drop_nil k.used ∙ sym none;
+      finds = subst (λ (l : List ℕ). Finds c s bytes [] d t l) (sym is) finds;
+      idle = subst (λ (l : List ℕ). Idle d t l) (sym (searched_none k (drop (taken_before x) chunk) none)) idle;
+      reason = subst (λ (l : List ℕ). IsReason x limit (length l) (length (drop (taken_before x) chunk))) (sym none) reason;
     }
 
+-- the chunk's rest is longer than the limit
+pub chunk_limit : (c : Connection) (s : Stream) (bytes chunk : List ℕ) (n limit : ℕ) (k : Hold) (d : Connection) (t : Stream) → k.bytes.items ≡ [] → n ≤ length chunk → limit < length (drop n chunk) → IsQuiet k.fin d t (drop n chunk) → Finds c s bytes [] d t (drop n chunk) → NotHeldIs (Limit n) c s bytes chunk limit k d t
+chunk_limit c s bytes chunk n limit k d t none within more quiet finds = none_held (Limit n) c s bytes chunk limit k d t none within quiet.idle finds more
+
 -- the chunk's rest is held
-pub chunk_held : (c : Connection) (s : Stream) (bytes chunk : List ℕ) (n limit : ℕ) (k : Hold) (d : Connection) (t : Stream) → k.used ≡ 0 → k.bytes.items ≡ drop n chunk → length (drop n chunk) ≤ limit → IsQuiet k.fin d t (drop n chunk) → Reads k.fin c s bytes [] d t (drop n chunk) → ReceivedIs (record { found = found.More 0; source = Held; taken = length chunk }) c s bytes chunk limit k d t
-chunk_held c s bytes chunk n limit k d t fresh is few quiet reads =
+pub chunk_held : (c : Connection) (s : Stream) (bytes chunk : List ℕ) (n limit : ℕ) (k : Hold) (d : Connection) (t : Stream) → k.used ≡ 0 → k.bytes.items ≡ drop n chunk → length (drop n chunk) ≤ limit → IsQuiet k.fin d t (drop n chunk) → Finds c s bytes [] d t (drop n chunk) → ReceivedIs (record { found = found.More 0; source = Held; taken = length chunk }) c s bytes chunk limit k d t
+chunk_held c s bytes chunk n limit k d t fresh is few quiet finds =
     let nothing : drop (length chunk) chunk ≡ [] = drop-length chunk in
     nothing_more_held c s bytes d t k (length chunk) limit chunk fresh nothing (omega arith)
     (subst (λ (l : List ℕ). length l ≤ limit) (sym is) few)
     (subst (λ (l : List ℕ). IsQuiet k.fin d t l) (sym is) quiet)
-    (subst (λ (l : List ℕ). Reads k.fin c s bytes [] d t (k.bytes.items ++ l)) (sym nothing) (
-    subst (λ (l : List ℕ). Reads k.fin c s bytes [] d t l) (sym (append-nil k.bytes.items)) (
-    subst (λ (l : List ℕ). Reads k.fin c s bytes [] d t l) (sym is) reads)))
+    (subst (λ (l : List ℕ). Finds c s bytes [] d t (k.bytes.items ++ l)) (sym nothing) (
+    subst (λ (l : List ℕ). Finds c s bytes [] d t l) (sym (append-nil k.bytes.items)) (
+    subst (λ (l : List ℕ). Finds c s bytes [] d t l) (sym is) finds)))
 
-pub chunk_refused : (c : Connection) (s : Stream) (bytes chunk : List ℕ) (n limit : ℕ) (k : Hold) (d : Connection) (t : Stream) → k.bytes.items ≡ [] → n ≤ length chunk → Reads k.fin c s bytes [] d t (drop n chunk) → NotHeldIs (Memory n) c s bytes chunk limit k d t
-chunk_refused c s bytes chunk n limit k d t none within reads = record {
-  taken = within;
-  reads = subst (λ (l : List ℕ). Reads k.fin c s bytes [] d t l) (sym (nothing_held k (drop n chunk) none)) reads;
-  reason = tt;
-}
+-- they are the last of the chunk
+pub chunk_last : (items chunk : List ℕ) (n : ℕ) → items ≡ drop n chunk → AreLast items (take (length chunk) chunk)
+chunk_last items chunk n e = (n, e ∙ ap (λ (l : List ℕ). drop n l) (sym (take-length chunk)))
+
+-- memory for it is refused
+pub chunk_refused : (c : Connection) (s : Stream) (bytes chunk left : List ℕ) (n limit : ℕ) (k : Hold) (d : Connection) (t : Stream) → k.bytes.items ≡ [] → left ≡ drop n chunk → (length left == 0) ≡ false → n ≤ length chunk → length left ≤ limit → IsQuiet k.fin d t (drop n chunk) → Finds c s bytes [] d t (drop n chunk) → NotHeldIs (Memory n) c s bytes chunk limit k d t
+chunk_refused c s bytes chunk left n limit k d t none at some within few quiet finds =
+    let size : length left ≡ length (drop n chunk) = ap (λ (l : List ℕ). length l) at in
+    none_held (Memory n) c s bytes chunk limit k d t none within quiet.idle finds (some_follow left (drop n chunk) false at (sym some) refl, omega (arith, few, size))
 
 -- ---- nothing was found before, and nothing is held
 
-pub chunk_then : (x : Result Received NotHeld) (fin : Bool) (b c : Connection) (r s : Stream) (all items bytes chunk : List ℕ) (limit : ℕ) (k : Hold) (d : Connection) (t : Stream) → items ≡ [] → k.fin ≡ fin → Reads fin b r all [] c s (items ++ bytes) → ReceptionIs x c s bytes chunk limit k d t → ReceptionIs x b r all chunk limit k d t
-chunk_then x fin b c r s all items bytes chunk limit k d t none e before h =
-    by_result x (subst (λ (f : Bool). Reads f b r all [] c s bytes) (sym e) (subst (λ (l : List ℕ). Reads fin b r all [] c s (l ++ bytes)) none before)) h
+pub chunk_then : (x : Result Received NotHeld) (b c : Connection) (r s : Stream) (all items bytes chunk : List ℕ) (limit : ℕ) (k : Hold) (d : Connection) (t : Stream) → items ≡ [] → Finds b r all [] c s (items ++ bytes) → ReceptionIs x c s bytes chunk limit k d t → ReceptionIs x b r all chunk limit k d t
+chunk_then x b c r s all items bytes chunk limit k d t none before h =
+    by_result x (subst (λ (l : List ℕ). Finds b r all [] c s (l ++ bytes)) none before) h
   where
-    by_result : (x : Result Received NotHeld) → Reads k.fin b r all [] c s bytes → ReceptionIs x c s bytes chunk limit k d t → ReceptionIs x b r all chunk limit k d t
+    by_result : (x : Result Received NotHeld) → Finds b r all [] c s bytes → ReceptionIs x c s bytes chunk limit k d t → ReceptionIs x b r all chunk limit k d t
     by_result (Ok x) g h = record {
       taken = h.taken;
       within = h.within;
       fits = h.fits;
       reads = reads_then k.fin b c r s all bytes (seen_of x.found (source_of x.source k chunk)) d t (joined k (drop x.taken chunk)) g h.reads;
+      goes = λ l. finds_then b c r s all bytes (seen_of x.found (source_of x.source k chunk)) d t (joined k (drop x.taken chunk)) g (h.goes l);
       after = h.after;
     }
     by_result (Err x) g h = record {
       taken = h.taken;
-      reads = reads_then k.fin b c r s all bytes [] d t (joined k (drop (taken_before x) chunk)) g h.reads;
+      held = h.held;
+      finds = finds_then b c r s all bytes [] d t (joined k (drop (taken_before x) chunk)) g h.finds;
+      idle = h.idle;
       reason = h.reason;
     }

@@ -1,2 +1,3 @@
+pub mod HoldingLemmas
 pub mod HoldLemmas
 pub mod PieceLemmas

@@ -1,14 +1,12 @@
 -- Chunks, one after the other.
-use Rattle.std.proofs.Common.{◌≡◌, ℕ, ◌||◌, Bool, true, false, List, [], ◌∷◌, ◌++◌, drop, refl, sym, ap, subst, ◌∙◌, append_assoc, inl, inr}
-use Rattle.std.proofs.lemmas.Bool.{cases_Bool, false≢true}
+use Rattle.std.proofs.Common.{◌≡◌, ℕ, ◌||◌, Bool, true, false, List, [], ◌∷◌, ◌++◌, drop, refl, sym, ap, subst, ◌∙◌, append_assoc}
+use Rattle.std.proofs.lemmas.Bool.{false≢true}
 use Rattle.std.proofs.lemmas.List.{append-nil}
 use Rattle.wtp_connection.specs.declared.connection.Connection.{Connection}
 use Rattle.wtp_connection.specs.declared.stream.Stream.{Stream}
 use Rattle.wtp_connection.specs.Streams.{Seen, StreamRun, followed}
 use Rattle.wtp_connection.specs.Receiving.{seen_of, all_found}
-use Rattle.wtp_hold.specs.declared.hold.Hold.{Hold}
-use Rattle.wtp_hold.specs.declared.hold.Received.{Received}
-use Rattle.wtp_hold.specs.Holding.{pending, joined, source_of, Reads, ReceivedIs}
+use Rattle.wtp_hold.specs.Holding.{pending, source_of, Reads}
 use Rattle.wtp_hold.specs.Pieces.{Event, Came, Returned, State, unread, Leads, bytes_in, seen_in}
 use Rattle.wtp_hold.proofs.HoldLemmas.{extended, reads_all, no_more}
 

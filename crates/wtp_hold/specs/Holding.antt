@@ -1,11 +1,11 @@
 -- What is found on a stream whose bytes are held until what they begin is whole.
-use Rattle.std.specs.Prelude.{◌≡◌, ℕ, ◌<◌, ◌≤◌, Bool, true, false, List, [], ◌++◌, length, drop, None, Result, Ok, Err}
+use Rattle.std.specs.Prelude.{◌≡◌, ℕ, zero, suc, ◌+◌, ◌<◌, ◌≤◌, ◌==◌, if◌then◌else◌, Bool, true, false, List, [], ◌++◌, length, drop, None, Result, Ok, Err}
 use Rattle.wtp_connection.specs.declared.connection.Connection.{Connection}
 use Rattle.wtp_connection.specs.declared.connection.Found.{Found}
 use Rattle.wtp_connection.specs.declared.connection.Found.TheVariants as found
 use Rattle.wtp_connection.specs.declared.stream.Stream.{Stream}
 use Rattle.wtp_connection.specs.Streams.{Seen, rests, followed, run_stream, ended}
-use Rattle.wtp_connection.specs.Receiving.{seen_of, rest_after, Idle, Fits, all_found, FoundIs, more_in}
+use Rattle.wtp_connection.specs.Receiving.{seen_of, Idle, Fits, Finds, LeavesOpen, all_found, FoundIs, more_in}
 use Rattle.wtp_hold.specs.declared.hold.Hold.{Hold}
 use Rattle.wtp_hold.specs.declared.hold.Source.{Source}
 use Rattle.wtp_hold.specs.declared.hold.Source.TheVariants.{Held, Chunk}
@@ -68,6 +68,9 @@ pub record ReceivedIs (x : Received) (c : Connection) (s : Stream) (bytes chunk 
   pub fits : Fits x.found (source_of x.source k chunk) d t
   pub reads : Reads k.fin c s bytes (seen_of x.found (source_of x.source k chunk)) d t
       (joined k (drop x.taken chunk))
+  pub goes : LeavesOpen x.found
+      → Finds c s bytes (seen_of x.found (source_of x.source k chunk)) d t
+      (joined k (drop x.taken chunk))
   pub after : AfterMore x.found x.taken limit chunk k d t
 
 -- ---- bytes that cannot be held
@@ -76,23 +79,30 @@ abbrev pub taken_before : NotHeld → ℕ
 taken_before (Memory n) = n
 taken_before (Limit n) = n
 
--- in as many of the bytes as the limit allows nothing is found, and they are not all
-pub record IsPast (limit : ℕ) (d : Connection) (t : Stream) (left front back : List ℕ) : Type 0 where
-  pub parts : left ≡ front ++ back
-  pub idle : Idle d t front
-  pub enough : limit ≤ length front
-  pub more : limit < length left
+-- what was searched: the bytes that are held or, while there are none, all that were not consumed
+abbrev pub searched : Hold → List ℕ → List ℕ
+searched k rest = if length k.bytes.items == 0 then rest else k.bytes.items
 
-abbrev pub IsReason : NotHeld → ℕ → Connection → Stream → List ℕ → Type 0
-IsReason (Memory n) limit d t left = Unit {0}
-IsReason (Limit n) limit d t left =
-    (front back : List ℕ) × IsPast limit d t left front back
+-- How many bytes at least have to be held, where so many are, and so many of the chunk follow them: one
+-- more, or all while none is held.
+abbrev pub least_held : ℕ → ℕ → ℕ
+least_held zero n = n
+least_held (suc m) zero = suc m
+least_held (suc m) (suc n) = suc m + 1
 
+-- That many are more than the limit; or they are not, and memory is needed for them.
+abbrev pub IsReason : NotHeld → ℕ → ℕ → ℕ → Type 0
+IsReason (Memory n) limit held rest = (0 < rest) × (least_held held rest ≤ limit)
+IsReason (Limit n) limit held rest = limit < least_held held rest
+
+-- nothing was found
 pub record NotHeldIs (x : NotHeld) (c : Connection) (s : Stream) (bytes chunk : List ℕ) (limit : ℕ)
     (k : Hold) (d : Connection) (t : Stream) : Type 0 where
   pub taken : taken_before x ≤ length chunk
-  pub reads : Reads k.fin c s bytes [] d t (joined k (drop (taken_before x) chunk))
-  pub reason : IsReason x limit d t (joined k (drop (taken_before x) chunk))
+  pub held : pending k ≡ k.bytes.items
+  pub finds : Finds c s bytes [] d t (joined k (drop (taken_before x) chunk))
+  pub idle : Idle d t (searched k (drop (taken_before x) chunk))
+  pub reason : IsReason x limit (length k.bytes.items) (length (drop (taken_before x) chunk))
 
 -- what a call returns where these bytes of the stream were not consumed, of which the chunk is the last
 -- part
@@ -116,6 +126,17 @@ abbrev pub IsUncopied : ℕ → Result Received NotHeld → Hold → Type 0
 IsUncopied n (Ok x) k = IsFoundInChunk n x.found x.source k
 IsUncopied n (Err x) k = k.bytes.items ≡ []
 
+-- ---- what is held
+
+-- how many bytes of the chunk were taken
+abbrev pub taken_by : Result Received NotHeld → ℕ
+taken_by (Ok x) = x.taken
+taken_by (Err x) = taken_before x
+
+-- they are the last of these bytes
+abbrev pub AreLast : List ℕ → List ℕ → Type 0
+AreLast held bytes = (n : ℕ) × (held ≡ drop n bytes)
+
 -- ---- its parts
 
 -- how many of so many bytes are consumed
@@ -132,9 +153,9 @@ consumed_by found.End len = len
 -- nothing was found in the bytes held, of which those are left
 pub record IsStill (fin : Bool) (c : Connection) (s : Stream) (bytes : List ℕ) (d : Connection)
     (t : Stream) (k : Hold) : Type 0 where
-  pub reads : Reads fin c s bytes [] d t k.bytes.items
+  pub finds : Finds c s bytes [] d t k.bytes.items
   pub quiet : IsQuiet fin d t k.bytes.items
-  pub fewer : length k.bytes.items ≤ length bytes
+  pub last : AreLast k.bytes.items bytes
   pub fresh : k.used ≡ 0
 
 -- this was found in them

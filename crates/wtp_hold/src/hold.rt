@@ -1,6 +1,6 @@
 //! The bytes of one stream that wait for more.
-ghost use Rattle.std.specs.Prelude.{◌≡◌, ◌+◌, ◌<◌, ◌≤◌, ◌||◌, ◌&&◌, ◌++◌, ◌==◌, true, false, if◌then◌else◌, [], length, drop, take, MatchOption, IfSome};
-ghost use Rattle.wtp_hold.specs.Holding.{pending, joined, ReceptionIs, consumed_by, IsStill, IsRead, IsNew, IsWithin, IsUncopied, source_of};
+ghost use Rattle.std.specs.Prelude.{◌≡◌, ◌+◌, ◌<◌, ◌≤◌, ◌||◌, ◌&&◌, ◌++◌, ◌==◌, max, true, false, if◌then◌else◌, [], length, drop, take, MatchOption, IfSome};
+ghost use Rattle.wtp_hold.specs.Holding.{pending, joined, ReceptionIs, consumed_by, IsStill, IsRead, IsNew, IsWithin, IsUncopied, AreLast, taken_by, source_of};
 
 use std::alloc::Global;
 use wtp_connection::connection::{Connection, Found};
@@ -107,14 +107,16 @@ impl Hold {
     /// the chunk. `fin`: the stream ends right after the chunk.
     ///
     /// Call it with the bytes of the chunk that were not taken, until `More`. All of the chunk is
-    /// then taken, and what is left over is held: at most `limit` bytes. An end that comes while the
+    /// then taken, and what is left over is held: at most `limit` bytes, and never more than that unless
+    /// more were held before. The bytes held are always the last of those taken. An end that comes while the
     /// stream waits for its session is remembered; after
     /// [`join`](Connection::join) call it with an empty chunk.
     ///
     /// # Errors
     ///
-    /// `Limit` if more than `limit` bytes would have to be held: at least `limit` of them, in which
-    /// nothing is found, and one more. `Memory` if memory for them is refused.
+    /// `Limit` if more than `limit` bytes would have to be held: one more than those that are, in which
+    /// nothing is found; or, while none is held, all that are left of the chunk. `Memory` if they are
+    /// within the limit, and memory for them is refused.
     pub fn receive(
         &mut self,
         connection: &mut Connection,
@@ -127,6 +129,8 @@ impl Hold {
         ensures received { ReceptionIs result connection.old stream.old (joined self.old chunk.now)
             chunk.now limit self.new connection.new stream.new }
         ensures uncopied { pending self.old ≡ [] → IsUncopied 0 result self.new }
+        ensures held { AreLast self.new.bytes.items (joined self.old (take (taken_by result) chunk.now)) }
+        ensures room { length self.new.bytes.items ≤ max limit (length (pending self.old)) }
         ensures end { self.new.fin ≡ (self.old.fin || fin) }
         ensures fields { fields.new ≡ fields.old }
     {
@@ -225,6 +229,8 @@ impl Hold {
         ensures received { ReceptionIs result connection.old stream.old (drop taken chunk.now)
             chunk.now limit self.new connection.new stream.new }
         ensures uncopied { IsUncopied taken result self.new }
+        ensures held { AreLast self.new.bytes.items (take (taken_by result) chunk.now) }
+        ensures room { length self.new.bytes.items ≤ limit }
         ensures end { self.new.fin ≡ self.old.fin }
         ensures fields { fields.new ≡ fields.old }
     {
@@ -235,6 +241,9 @@ impl Hold {
             let left = chunk.split_at(used).1;
             if left.len() > limit {
                 return Err(NotHeld::Limit(used));
+            }
+            if left.is_empty() {
+                return Ok(nothing_more(chunk.len()));
             }
             return match self.bytes.extend_from_slice(left) {
                 Ok(()) => Ok(nothing_more(chunk.len())),
@@ -274,11 +283,9 @@ impl Hold {
     }
 }
 
-// Returns whether `len` bytes, and others that follow unless they are the last, are more than the
-// limit, while these alone are not less.
+// Returns whether `len` bytes, and one more unless they are the last, are more than the limit.
 fn exceeds(limit: usize, len: usize, last: bool) -> bool
     ensures past { result ≡ true → limit < len + (if last then 0 else 1) }
-    ensures enough { result ≡ true → limit ≤ len }
     ensures within { result ≡ false → len ≤ limit }
     ensures room { result ≡ false → last ≡ false → len < limit }
 {

@@ -2,4 +2,5 @@
 #![tactic(auto)]
 
 pub mod hold;
+pub mod holdings;
 pub mod laws;

@@ -1,5 +1,6 @@
 //! Streams of sessions, and streams that end before their last byte.
 ghost use Rattle.std.specs.Prelude.{◌≡◌, option_map};
+ghost use Rattle.wtp_connection.specs.Opening.{over_from};
 ghost use Rattle.wtp_connection.specs.Streams.{joins, tells_interim, known_alone, known_of, other_fault as other_fault_is, waits, settles, refuses, freed, without, reset_answer, resets, stops, overflows, abandons};
 
 use crate::connection::{Connection, Known};
@@ -78,7 +79,7 @@ impl Connection {
 
     /// Returns what is known of a session, as far as streams say it: `its` is the stream with its ID,
     /// if the caller has one. Such a stream is that of a request: the session is `Coming` until the
-    /// stream is over, and then `Over`. Whether the request asked for a session and how it was
+    /// stream is over, and then `Over`, or `Refused` if no HEADERS of the request came. Whether the request asked for a session and how it was
     /// answered is the caller's to say, as `Open`, `Refused` and `Other`. It is `Impossible` if the
     /// stream belongs to a session itself. Without a stream see
     /// [`known_without_stream`](Self::known_without_stream).
@@ -236,7 +237,7 @@ impl Connection {
                 self.free();
                 self.refuse(stream, StreamFault::BufferedStreamRejected)
             }
-            Stream::Over => None,
+            Stream::Incomplete | Stream::Over => None,
             _ => self.refuse(stream, StreamFault::ExcessiveLoad),
         }
     }
@@ -258,13 +259,13 @@ impl Connection {
     // Ends a stream, which gives its place back if it waits.
     fn leave(&mut self, stream: &mut Stream)
         ensures connection { self.new ≡ without self.old stream.old }
-        ensures over { stream.new ≡ Stream.Over }
+        ensures over { stream.new ≡ over_from stream.old }
     {
         match stream {
             Stream::Waiting(_) => self.free(),
             _ => {}
         }
-        *stream = Stream::Over;
+        *stream = stream.when_over();
     }
 
     // Counts one stream less that waits.

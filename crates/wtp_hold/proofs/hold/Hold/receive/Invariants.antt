@@ -1,5 +1,6 @@
-use Rattle.std.proofs.Common.{◌≡◌, ◌≤◌, ◌||◌, ◌++◌, [], length, drop, ◌+◌, ◌-◌, ◌*◌}
-use Rattle.wtp_hold.specs.Holding.{pending, joined, Reads}
+use Rattle.std.proofs.Common.{◌≡◌, ◌≤◌, ◌||◌, ◌++◌, max, [], length, take, drop, ◌+◌, ◌-◌, ◌*◌}
+use Rattle.wtp_hold.specs.Holding.{pending, joined, AreLast}
+use Rattle.wtp_connection.specs.Receiving.{Finds}
 use Rattle.wtp_hold.proofs.hold.Hold.receive.Given as goal
 
 abbrev pub invariant-held : goal.invariant-held
@@ -7,7 +8,9 @@ invariant-held l = record {
   within : l.taken ≤ length l.chunk;
   fresh : l.self.used ≡ 0;
   end : l.self.fin ≡ (l.fn.self.fin || l.fn.fin);
-  reads : Reads l.self.fin l.fn.connection l.fn.stream (joined l.fn.self l.fn.chunk) [] l.connection l.stream (l.self.bytes.items ++ drop l.taken l.chunk);
+  finds : Finds l.fn.connection l.fn.stream (joined l.fn.self l.fn.chunk) [] l.connection l.stream (l.self.bytes.items ++ drop l.taken l.chunk);
+  held : AreLast l.self.bytes.items (joined l.fn.self (take l.taken l.chunk));
+  room : length l.self.bytes.items ≤ max l.limit (length (pending l.fn.self));
   empty : pending l.fn.self ≡ [] → (l.self.bytes.items ≡ []) × (l.taken ≡ 0);
   fields : l.fields ≡ l.fn.fields;
 }
