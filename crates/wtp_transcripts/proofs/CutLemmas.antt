@@ -21,9 +21,8 @@ use Rattle.wtp_connection.specs.declared.stream.Purpose.TheVariants as «for»
 use Rattle.wtp_connection.specs.declared.stream.Stream.{Stream}
 use Rattle.wtp_connection.specs.declared.stream.Stream.TheVariants.{Uni, Bi, Frames, Joining, Waiting, Session, Encoder, Decoder, Ignored}
 use Rattle.wtp_connection.specs.Instructions.{sets_zero, then_bytes, after_bytes}
-use Rattle.wtp_connection.specs.Settings.{settings_in}
 use Rattle.wtp_connection.specs.Receiving.{opening_of}
-use Rattle.wtp_connection.specs.Streams.{opens, opens_once, closed_by, Seen, Opened, Configured, Gave, Broke, StreamRun, rests, followed, all_given, breaks, by_settings, by_item, of_items, has_frames, of_frames, bytes_seen, by_capacity, by_place as by_decoder, run_open, by_purpose, by_opening, run_intact, run_stream, ended}
+use Rattle.wtp_connection.specs.Streams.{opens, opens_once, closed_by, Seen, Opened, Configured, Gave, Broke, StreamRun, rests, followed, all_given, breaks, by_settings, by_item, of_items, has_frames, of_frames, bytes_seen, by_capacity, by_place as by_decoder, run_open, by_purpose, by_opening, run_intact, run_stream, ended, configured, received_settings}
 use Rattle.wtp_connection.proofs.InstructionLemmas.{after_append}
 use Rattle.wtp_connection.proofs.OpeningLemmas.{opening_more}
 use Rattle.wtp_connection.proofs.StreamLemmas.{over_run, frames_run, over_given, or_true}
@@ -33,10 +32,10 @@ use Rattle.wtp_transcripts.specs.Transcript.{read}
 -- ---- a stream of frames
 
 item_same : (i : Item) (c : Connection) (f g : Connection → StreamRun) → ((d : Connection) → f d ≡ g d) → by_item c f i ≡ by_item c g i
-item_same (Whole kind.Settings payload) c f g h = settings_same (settings_in payload) c payload f g h
+item_same (Whole kind.Settings payload) c f g h = settings_same (received_settings c payload) c payload f g h
   where
     settings_same : (o : Result PeerSettings Fault) (c : Connection) (payload : List ℕ) (f g : Connection → StreamRun) → ((d : Connection) → f d ≡ g d) → by_settings c payload f o ≡ by_settings c payload g o
-    settings_same (Ok v) c payload f g h = ap (λ (x : StreamRun). followed (Configured v payload ∷ []) x) (h (record c { peer = v }))
+    settings_same (Ok v) c payload f g h = ap (λ (x : StreamRun). followed (Configured v payload ∷ []) x) (h (configured c v))
     settings_same (Err x) c payload f g h = refl
 item_same (Broken x) c f g h = ap (λ (y : StreamRun). followed (Broke (fault.Stream x) ∷ []) y) (h (closed_by c (fault.Stream x)))
 item_same other c f g h = ap (λ (y : StreamRun). followed (Gave other ∷ []) y) (h c)
@@ -59,7 +58,7 @@ then_more x b = followed x.seen (run_stream x.connection x.stream (x.left ++ b))
 broken_cut : (c : Connection) (f : Fault) (b : List ℕ) → breaks c f ≡ then_more (breaks c f) b
 broken_cut c f b = ap (λ (y : StreamRun). followed (Broke f ∷ []) y) (sym (over_given (closed_by c f) b))
 
-settings_cut : (o : Result PeerSettings Fault) (c : Connection) (payload b : List ℕ) (f g : Connection → StreamRun) → ((v : PeerSettings) → f (record c { peer = v }) ≡ then_more (g (record c { peer = v })) b) → by_settings c payload f o ≡ then_more (by_settings c payload g o) b
+settings_cut : (o : Result PeerSettings Fault) (c : Connection) (payload b : List ℕ) (f g : Connection → StreamRun) → ((v : PeerSettings) → f (configured c v) ≡ then_more (g (configured c v)) b) → by_settings c payload f o ≡ then_more (by_settings c payload g o) b
 settings_cut (Ok v) c payload b f g h = ap (λ (x : StreamRun). followed (Configured v payload ∷ []) x) (h v)
 settings_cut (Err x) c payload b f g h = broken_cut c x b
 
@@ -71,7 +70,7 @@ reader_cut c g r l h = elim (cases_Bool c.over) [
 
 items_cut : (xs : List Item) (c : Connection) (g : Bool) (r : Reader) (l b : List ℕ) → (c.over ≡ true → is_failed r.place ≡ true) → (has_broken xs ≡ true → is_failed r.place ≡ true) → of_items c (λ d. of_frames d g (run r (l ++ b))) xs ≡ then_more (of_items c (λ d. rests d (Frames r g) l) xs) b
 items_cut [] c g r l b h k = reader_cut c g r (l ++ b) h
-items_cut (Whole kind.Settings payload ∷ xs) c g r l b h k = settings_cut (settings_in payload) c payload b (λ d. of_items d (λ e. of_frames e g (run r (l ++ b))) xs) (λ d. of_items d (λ e. rests e (Frames r g) l) xs) (λ v. items_cut xs (record c { peer = v }) g r l b h k)
+items_cut (Whole kind.Settings payload ∷ xs) c g r l b h k = settings_cut (received_settings c payload) c payload b (λ d. of_items d (λ e. of_frames e g (run r (l ++ b))) xs) (λ d. of_items d (λ e. rests e (Frames r g) l) xs) (λ v. items_cut xs (configured c v) g r l b h k)
 items_cut (Broken f ∷ xs) c g r l b h k = ap (λ (x : StreamRun). followed (Broke (fault.Stream f) ∷ []) x) (items_cut xs (closed_by c (fault.Stream f)) g r l b (λ e. k refl) (λ e. k refl))
 items_cut (other ∷ xs) c g r l b h k = ap (λ (x : StreamRun). followed (Gave other ∷ []) x) (items_cut xs c g r l b h k)
 

@@ -15,12 +15,12 @@ use Rattle.wtp_connection.specs.declared.fault.Fault.TheVariants as fault
 use Rattle.wtp_connection.specs.declared.stream.Purpose.{Purpose}
 use Rattle.wtp_connection.specs.declared.stream.Purpose.TheVariants as «for»
 use Rattle.wtp_connection.specs.declared.stream.Stream.{Stream}
-use Rattle.wtp_connection.specs.declared.stream.Stream.TheVariants.{Joining, Waiting, Session, Over}
-use Rattle.wtp_connection.specs.Opening.{is_critical, is_for_critical, has_no_headers}
+use Rattle.wtp_connection.specs.declared.stream.Stream.TheVariants.{Joining, Waiting, Session, Over, Incomplete}
+use Rattle.wtp_connection.specs.Opening.{is_critical, is_for_critical, has_no_headers, over_from}
 use Rattle.wtp_connection.specs.Requests.{with_request}
 use Rattle.wtp_connection.specs.Streams.{connection_of, with_stream, closed_by, Seen, StreamRun, most_waiting, Joined, other_fault, refuses, settles, waits, freed, joins_open, without, reset_answer_at, reset_answer, overflows_open}
 use Rattle.wtp_transcripts.specs.Transcript.{read, Held, Event, Came, Told, Reset, Overflowed, Abandoned, Outcome, answered, called, unread, ends, reads_on, happens, alone, Table, with_held, Step, Accepted, Stopped, On, Transcript, State, begin, at_stream, next, after, marked, found_by, seen_in, on_stream, events_of, places, HasPlace, HasPlaces, is_opened as flag}
-use Rattle.wtp_transcripts.proofs.AlikeLemmas.{Flags, Goes, goes_then, goes_same, closed_goes, closed_over, RunsAlike, AgreesOn, read_alike, opened_first}
+use Rattle.wtp_transcripts.proofs.AlikeLemmas.{Flags, Goes, goes_then, goes_same, closed_goes, closed_over, RunsAlike, AgreesOn, read_alike, opened_first, Agree, plain_agree}
 use Rattle.wtp_transcripts.proofs.OverLemmas.{read_from, before_steps, nothing_seen, seen_append}
 use Rattle.wtp_transcripts.proofs.WaitLemmas.{EventCounts, event_counts}
 
@@ -40,7 +40,7 @@ count_flags c n «for».Decoder = refl
 count_flags c n other = refl
 
 count_goes : (c d : Connection) (n m : ℕ) → Goes c d (record c { waiting = n }) (record d { waiting = m })
-count_goes c d n m = record { endpoint = refl; other = refl; flags = λ p. inl (count_flags c n p, count_flags d m p) }
+count_goes c d n m = record { endpoint = refl; other = refl; flags = λ p. inl (count_flags c n p, count_flags d m p); plain = λ e. e; other_plain = λ e. e }
 
 calls_from : (c d e f : Connection) (x y : Joined) → Goes c d e f → CallsAlike e f x y → CallsAlike c d x y
 calls_from c d e f x y g h = record { stream = h.stream; answer = h.answer; over = h.over; goes = goes_then c d e f x.0 y.0 g h.goes }
@@ -84,9 +84,9 @@ joins_alike (Waiting n) k c d e i p = freed_alike k c d n e i
 joins_alike (Session n) known.Over c d e i p = refuses_alike c d stream.SessionGone i
 joins_alike other k c d e i p = same_alike c d other None i
 
-leaves_alike : (s : Stream) (c d : Connection) (o q : Option Fault) → d.over ≡ c.over → q ≡ o → CallsAlike c d (without c s, Over, o) (without d s, Over, q)
-leaves_alike (Waiting n) c d o q i e = record { stream = refl; answer = e; over = i; goes = count_goes c d _ _ }
-leaves_alike other c d o q i e = record { stream = refl; answer = e; over = i; goes = goes_same c d }
+leaves_alike : (s t : Stream) (c d : Connection) (o q : Option Fault) → d.over ≡ c.over → q ≡ o → CallsAlike c d (without c s, t, o) (without d s, t, q)
+leaves_alike (Waiting n) t c d o q i e = record { stream = refl; answer = e; over = i; goes = count_goes c d _ _ }
+leaves_alike other t c d o q i e = record { stream = refl; answer = e; over = i; goes = goes_same c d }
 
 answer_same : (s : Stream) (c d : Connection) → d.endpoint ≡ c.endpoint → d.over ≡ c.over → reset_answer d s ≡ reset_answer c s
 answer_same s c d e i =
@@ -96,17 +96,18 @@ answer_same s c d e i =
 overflow_alike : (s : Stream) (c d : Connection) → d.over ≡ c.over → CallsAlike c d (overflows_open c s) (overflows_open d s)
 overflow_alike (Joining n) c d i = refuses_alike c d stream.BufferedStreamRejected i
 overflow_alike (Waiting n) c d i = calls_from c d (freed c) (freed d) (refuses (freed c) stream.BufferedStreamRejected) (refuses (freed d) stream.BufferedStreamRejected) (count_goes c d _ _) (refuses_alike (freed c) (freed d) stream.BufferedStreamRejected i)
+overflow_alike Incomplete c d i = same_alike c d Incomplete None i
 overflow_alike Over c d i = same_alike c d Over None i
 overflow_alike other c d i = refuses_alike c d stream.ExcessiveLoad i
 
-abandon_alike : (b : Bool) (s : Stream) (c d : Connection) → d.over ≡ c.over → CallsAlike c d ((cond {A = Connection × Stream} b (c, s) (without c s, Over)).0, (cond {A = Connection × Stream} b (c, s) (without c s, Over)).1, None) ((cond {A = Connection × Stream} b (d, s) (without d s, Over)).0, (cond {A = Connection × Stream} b (d, s) (without d s, Over)).1, None)
+abandon_alike : (b : Bool) (s : Stream) (c d : Connection) → d.over ≡ c.over → CallsAlike c d ((cond {A = Connection × Stream} b (c, s) (without c s, over_from s)).0, (cond {A = Connection × Stream} b (c, s) (without c s, over_from s)).1, None) ((cond {A = Connection × Stream} b (d, s) (without d s, over_from s)).0, (cond {A = Connection × Stream} b (d, s) (without d s, over_from s)).1, None)
 abandon_alike true s c d i = same_alike c d s None i
-abandon_alike false s c d i = leaves_alike s c d None None i refl
+abandon_alike false s c d i = leaves_alike s (over_from s) c d None None i refl
 
 pub call_alike : (e : Event) (s : Stream) (c d : Connection) → d.endpoint ≡ c.endpoint → d.over ≡ c.over → SamePlace c d s e → CallsAlike c d (called c s e) (called d s e)
 call_alike (Came bytes fin) s c d e i p = same_alike c d s None i
 call_alike (Told k) s c d e i p = cond_calls c.over d.over c d (c, s, None) (d, s, None) (joins_open c s k) (joins_open d s k) i (same_alike c d s None i) (joins_alike s k c d e i p)
-call_alike Reset s c d e i p = cond_calls (is_critical s && not c.over) (is_critical s && not d.over) c d (refuses c stream.ClosedCriticalStream) (refuses d stream.ClosedCriticalStream) (without c s, Over, reset_answer c s) (without d s, Over, reset_answer d s) (ap (λ (b : Bool). is_critical s && not b) i) (refuses_alike c d stream.ClosedCriticalStream i) (leaves_alike s c d (reset_answer c s) (reset_answer d s) i (answer_same s c d e i))
+call_alike Reset s c d e i p = cond_calls (is_critical s && not c.over) (is_critical s && not d.over) c d (refuses c stream.ClosedCriticalStream) (refuses d stream.ClosedCriticalStream) (without c s, over_from s, reset_answer c s) (without d s, over_from s, reset_answer d s) (ap (λ (b : Bool). is_critical s && not b) i) (refuses_alike c d stream.ClosedCriticalStream i) (leaves_alike s (over_from s) c d (reset_answer c s) (reset_answer d s) i (answer_same s c d e i))
 call_alike Overflowed s c d e i p = cond_calls c.over d.over c d (c, s, None) (d, s, None) (overflows_open c s) (overflows_open d s) i (same_alike c d s None i) (overflow_alike s c d i)
 call_alike Abandoned s c d e i p = abandon_alike (is_critical s) s c d i
 
@@ -143,12 +144,12 @@ abbrev pub AgreesAt : Connection → Connection → Held → Event → Type 0
 AgreesAt c d h e =
     AgreesOn (called c h.stream e).0 (called d h.stream e).0 (called c h.stream e).1 (unread h e)
 
-pub event_alike : (e : Event) (h : Held) (c d : Connection) → d.endpoint ≡ c.endpoint → d.over ≡ c.over → SamePlace c d h.stream e → AgreesAt c d h e → EventsAlike c d (happens c h e) (happens d h e)
-event_alike e h c d same i p a =
+pub event_alike : (e : Event) (h : Held) (c d : Connection) → d.endpoint ≡ c.endpoint → d.over ≡ c.over → SamePlace c d h.stream e → Agree (called c h.stream e).0 (called d h.stream e).0 → AgreesAt c d h e → EventsAlike c d (happens c h e) (happens d h e)
+event_alike e h c d same i p g a =
     let x : Joined = called c h.stream e in
     let y : Joined = called d h.stream e in
     let k : CallsAlike c d (called c h.stream e) (called d h.stream e) = call_alike e h.stream c d same i p in
-    read_both (ends h e) (unread h e) c d x y k (read_alike (ends h e) x.1 (unread h e) x.0 y.0 (k.goes.other ∙ same ∙ sym k.goes.endpoint) k.over a)
+    read_both (ends h e) (unread h e) c d x y k (read_alike (ends h e) x.1 (unread h e) x.0 y.0 (k.goes.other ∙ same ∙ sym k.goes.endpoint) k.over g a)
 
 -- what an event does to one connection
 pub its_place : (c : Connection) (s : Stream) (e : Event) → SamePlace c c s e
@@ -156,7 +157,7 @@ its_place c (Joining s) (Told known.Coming) = refl
 its_place c other e = tt
 
 pub event_goes : (e : Event) (h : Held) (c : Connection) → Goes c c (happens c h e).connection (happens c h e).connection
-event_goes e h c = (event_alike e h c c refl refl (its_place c h.stream e) (λ p rest is. refl)).goes
+event_goes e h c = (event_alike e h c c refl refl (its_place c h.stream e) (λ payload. refl) (λ p rest is. refl)).goes
 
 -- ---- a connection that has opened no more than another one
 
@@ -165,6 +166,8 @@ pub record Within (c d : Connection) : Type 0 where
   pub intact : c.over ≡ false
   pub other : d.over ≡ false
   pub flags : (p : Purpose) → flag c p ≡ false → flag d p ≡ false
+  pub plain : c.resumed ≡ false
+  pub other_plain : d.resumed ≡ false
 
 flags_within : (c d x y : Connection) (p : Purpose) → Flags c d x y p → (flag c p ≡ false → flag d p ≡ false) → flag x p ≡ false → flag y p ≡ false
 flags_within c d x y p (inl (f, g)) h e = g ∙ h (sym f ∙ e)
@@ -176,6 +179,8 @@ within_goes c d x y w g e i = record {
   intact = e;
   other = i ∙ e;
   flags = λ p. flags_within c d x y p (g.flags p) (w.flags p);
+  plain = g.plain w.plain;
+  other_plain = g.other_plain w.other_plain;
 }
 
 pub event_within : (e : Event) (h : Held) (c d : Connection) → Within c d → SamePlace c d h.stream e → (happens c h e).connection.over ≡ false → EventsAlike c d (happens c h e) (happens d h e)
@@ -185,7 +190,7 @@ event_within e h c d w p o =
     let k : CallsAlike c d (called c h.stream e) (called d h.stream e) = call_alike e h.stream c d w.endpoint (w.other ∙ sym w.intact) p in
     let i : x.0.over ≡ false = read_from (ends h e) x.0 x.1 (unread h e) o in
     let v : Within x.0 y.0 = within_goes c d x.0 y.0 w k.goes i k.over in
-    event_alike e h c d w.endpoint (w.other ∙ sym w.intact) p (λ q rest is.
+    event_alike e h c d w.endpoint (w.other ∙ sym w.intact) p (plain_agree x.0 y.0 v.plain v.other_plain) (λ q rest is.
     let first : flag x.0 q ≡ false = opened_first (ends h e) x.1 (unread h e) x.0 q rest i o is in
     v.flags q first ∙ sym first)
 
@@ -269,13 +274,14 @@ goes_on n m e x d steps k is h =
 pub record Opens (c e : Connection) : Type 0 where
   pub endpoint : e.endpoint ≡ c.endpoint
   pub flags : (p : Purpose) → flag e p ≡ false → flag c p ≡ false
+  pub plain : c.resumed ≡ false → e.resumed ≡ false
 
 pub flags_open : (c x : Connection) (p : Purpose) → Flags c c x x p → flag x p ≡ false → flag c p ≡ false
 flags_open c x p (inl (f, g)) e = sym f ∙ e
 flags_open c x p (inr (f, g)) e = absurd (false≢true (sym e ∙ f))
 
 event_opens : (e : Event) (h : Held) (c : Connection) → Opens c (happens c h e).connection
-event_opens e h c = record { endpoint = (event_goes e h c).endpoint; flags = λ p. flags_open c (happens c h e).connection p ((event_goes e h c).flags p) }
+event_opens e h c = record { endpoint = (event_goes e h c).endpoint; flags = λ p. flags_open c (happens c h e).connection p ((event_goes e h c).flags p); plain = (event_goes e h c).plain }
 
 pub begun_flags : (c : Connection) (n : ℕ) (p : Purpose) → flag (record c { begun = with_request c.begun (n / 4) }) p ≡ flag c p
 begun_flags c n «for».Control = refl
@@ -284,16 +290,16 @@ begun_flags c n «for».Decoder = refl
 begun_flags c n other = refl
 
 pub accepted_opens : (side : Side) (c : Connection) (n : ℕ) → Opens c (with_stream side c n)
-accepted_opens Client c n = record { endpoint = refl; flags = λ p e. e }
+accepted_opens Client c n = record { endpoint = refl; flags = λ p e. e; plain = λ e. e }
 accepted_opens Server c n = begun (eqb (n % 4) 0)
   where
     begun : (b : Bool) → Opens c (cond b (record c { begun = with_request c.begun (n / 4) }) c)
-    begun true = record { endpoint = refl; flags = λ p e. sym (begun_flags c n p) ∙ e }
-    begun false = record { endpoint = refl; flags = λ p e. e }
+    begun true = record { endpoint = refl; flags = λ p e. sym (begun_flags c n p) ∙ e; plain = λ e. e }
+    begun false = record { endpoint = refl; flags = λ p e. e; plain = λ e. e }
 
 pub stopped_opens : (b : Bool) (c : Connection) (f : Fault) (o : Option Fault) → Opens c (cond {A = Connection × Option Fault} b (closed_by c f, o) (c, None)).0
-stopped_opens true c f o = record { endpoint = (closed_goes c c f).endpoint; flags = λ p. flags_open c (closed_by c f) p ((closed_goes c c f).flags p) }
-stopped_opens false c f o = record { endpoint = refl; flags = λ p e. e }
+stopped_opens true c f o = record { endpoint = (closed_goes c c f).endpoint; flags = λ p. flags_open c (closed_by c f) p ((closed_goes c c f).flags p); plain = (closed_goes c c f).plain }
+stopped_opens false c f o = record { endpoint = refl; flags = λ p e. e; plain = λ e. e }
 
 within_opens : (c e d : Connection) → Within c d → Opens c e → e.over ≡ false → Within e d
 within_opens c e d w h o = record {
@@ -301,6 +307,8 @@ within_opens c e d w h o = record {
   intact = o;
   other = w.other;
   flags = λ p f. w.flags p (h.flags p f);
+  plain = h.plain w.plain;
+  other_plain = w.other_plain;
 }
 
 -- a stream alone always has a place
@@ -338,7 +346,7 @@ stays_alone (On m e ∷ steps) n x d w k o h =
 
 -- from the first byte on
 fresh_within : (e : Endpoint) → Within (connection_of e) (connection_of e)
-fresh_within e = record { endpoint = refl; intact = refl; other = refl; flags = λ p f. f }
+fresh_within e = record { endpoint = refl; intact = refl; other = refl; flags = λ p f. f; plain = refl; other_plain = refl }
 
 pub stands_alone : (e : Endpoint) (t : Table) (n : ℕ) (steps : Transcript) → places (t n).stream ≡ 0 → (after (begin e t) steps).connection.over ≡ false → HasPlaces n (begin e t) steps → IsAlone n (begin e t) (connection_of e) steps
 stands_alone e t n steps k o h = stays_alone steps n (begin e t) (connection_of e) (fresh_within e) (sym k) o h

@@ -1,17 +1,18 @@
 -- The events of one stream, as if all of its bytes came at once.
-use Rattle.std.proofs.Common.{◌≡◌, ℕ, ◌+◌, ◌<◌, ◌||◌, Bool, true, false, cond, List, [], ◌∷◌, ◌++◌, length, Option, Some, None, Result, Ok, Err, refl, sym, ap, subst, ◌∙◌, append_assoc, arith, inl, inr, ◌⊎◌}
+use Rattle.std.proofs.Common.{◌≡◌, ℕ, ◌+◌, ◌<◌, ◌||◌, Bool, true, false, cond, List, [], ◌∷◌, ◌++◌, Option, Some, None, Result, Ok, Err, refl, sym, ap, subst, ◌∙◌, append_assoc, arith, inl, inr, ◌⊎◌}
 use Rattle.std.proofs.lemmas.Bool.{cases_Bool, cases_lt, lt-ltb, le-ltb, false≢true}
 use Rattle.std.proofs.lemmas.List.{append-nil}
 use Rattle.wtp_frames.specs.declared.fault.Fault.{Fault as StreamFault}
 use Rattle.wtp_frames.specs.declared.fault.Fault.TheVariants as stream
+use Rattle.wtp_connection.specs.Opening.{over_by}
 use Rattle.wtp_connection.specs.declared.connection.Connection.{Connection}
 use Rattle.wtp_connection.specs.declared.connection.Known.{Known}
 use Rattle.wtp_connection.specs.declared.connection.Known.TheVariants as known
 use Rattle.wtp_connection.specs.declared.fault.Fault.TheVariants as fault
 use Rattle.wtp_connection.specs.declared.stream.Stream.{Stream}
-use Rattle.wtp_connection.specs.declared.stream.Stream.TheVariants.{Joining, Waiting, Session, Over}
+use Rattle.wtp_connection.specs.declared.stream.Stream.TheVariants.{Joining, Waiting, Session, Over, Incomplete}
 use Rattle.wtp_connection.specs.Streams.{closed_by, Seen, StreamRun, rests, followed, all_given, bytes_seen, run_stream, by_fault, end_of, ending, ended, Joined, refuses, settles, freed, joins_open, joins}
-use Rattle.wtp_connection.proofs.StreamLemmas.{over_given}
+use Rattle.wtp_connection.proofs.StreamLemmas.{over_given, over_run}
 use Rattle.wtp_transcripts.specs.Transcript.{read, Held, Event, Came, Told, Reset, Overflowed, Abandoned, Outcome, outcome_of, after_seen, answered, reads_on, happens, alone, bytes_in, end_in, last_said, said, at_once, IsToJoin, IsRead, IsStill}
 use Rattle.wtp_transcripts.proofs.CutLemmas.{read_cut, run_still}
 use Rattle.wtp_transcripts.proofs.OverLemmas.{over_read, event_over}
@@ -24,9 +25,19 @@ use Rattle.wtp_transcripts.proofs.WaitLemmas.{keeps_waiting}
 over_none : (c : Connection) → ended (run_stream c Over []) ≡ rests c Over []
 over_none c = ap (λ (x : StreamRun). ended x) (over_given c []) ∙ (elim c.over as (λ b. cond b (all_given c Over []) (all_given c Over []) ≡ all_given c Over []) [ true ↦ refl | false ↦ refl ])
 
+incomplete_none : (c : Connection) → ended (run_stream c Incomplete []) ≡ rests c Incomplete []
+incomplete_none c = elim (cases_Bool c.over) [
+  | inl over ↦ ap (λ (x : StreamRun). ended x) (over_run c Incomplete [] over) ∙ rw over refl
+  | inr intact ↦ rw intact refl
+]
+
+over_by_none : (f : StreamFault) (c : Connection) → ended (run_stream c (over_by f) []) ≡ rests c (over_by f) []
+over_by_none stream.RequestIncomplete c = incomplete_none c
+over_by_none other c = over_none c
+
 fault_none : (o : Result (Unit {0}) StreamFault) (c : Connection) → ended (run_stream (by_fault c o).connection (by_fault c o).stream (by_fault c o).left) ≡ rests (by_fault c o).connection (by_fault c o).stream (by_fault c o).left
 fault_none (Ok u) c = over_none c
-fault_none (Err f) c = over_none (closed_by c (fault.Stream f))
+fault_none (Err f) c = over_by_none f (closed_by c (fault.Stream f))
 
 by_over : (b : Bool) (x y : StreamRun) → b ≡ true → cond b x y ≡ x
 by_over true x y e = refl
@@ -43,8 +54,9 @@ resting c s l i e f = ap (λ (x : StreamRun). ended x) e ∙ by_intact c.over (r
 ending_none : (s : Stream) (l : List ℕ) (c : Connection) → c.over ≡ false → run_stream c s l ≡ rests c s l → ended (run_stream (ending c s l).connection (ending c s l).stream (ending c s l).left) ≡ rests (ending c s l).connection (ending c s l).stream (ending c s l).left
 ending_none (Joining n) l c i e = resting c (Joining n) l i e refl
 ending_none (Waiting n) l c i e = resting c (Waiting n) l i e refl
+ending_none Incomplete l c i e = incomplete_none c
 ending_none Over l c i e = over_none c
-ending_none other l c i e = fault_none (end_of c other (length l)) c
+ending_none other l c i e = fault_none (end_of c other l) c
 
 over_still : (c : Connection) (s : Stream) (l : List ℕ) → c.over ≡ true → run_stream c s l ≡ rests c s l → ended (run_stream c s l) ≡ rests c s l
 over_still c s l o e = ap (λ (x : StreamRun). ended x) e ∙ rw o refl

@@ -17,7 +17,7 @@ use Rattle.wtp_connection.specs.Receiving.{opening_of}
 use Rattle.wtp_connection.specs.Requests.{with_request}
 use Rattle.wtp_connection.specs.Streams.{connection_of, with_stream, closed_by, Joined, stops}
 use Rattle.wtp_transcripts.specs.Transcript.{Held, Event, Came, Outcome, called, unread, ends, happens, alone, bytes_in, end_in, last_said, said, at_once, IsRead, IsStill, Table, Accepted, Stopped, On, Transcript, State, begin, at_stream, next, after, seen_in, on_stream, events_of, places, HasPlace, HasPlaces, is_opened as flag, alone_on, StopsNone, KeepsRules, AllHavePlaces, NoneWaits, SameBytes, SameOn}
-use Rattle.wtp_transcripts.proofs.AlikeLemmas.{Flags, opened_first, opened_then}
+use Rattle.wtp_transcripts.proofs.AlikeLemmas.{Flags, opened_first, opened_then, plain_agree}
 use Rattle.wtp_transcripts.proofs.OverLemmas.{read_from, accepted_over}
 use Rattle.wtp_transcripts.proofs.OnceLemmas.{alone_from, once, once_back}
 use Rattle.wtp_transcripts.proofs.IndependentLemmas.{SamePlace, CallsAlike, call_alike, EventsAlike, event_alike, event_goes, AgreesAt, with_same, with_other, both_places, still_counted, begun_flags, accepted_opens, IsAlone, stands_alone}
@@ -48,6 +48,8 @@ last x d steps n = (alone (d n) (x.streams n) (events_of n steps)).connection
 record IsAllowed (x : State) (d : Alone) (steps : Transcript) : Type 0 where
   intact : x.connection.over ≡ false
   endpoint : (n : ℕ) → (d n).endpoint ≡ x.connection.endpoint
+  plain : x.connection.resumed ≡ false
+  plains : (n : ℕ) → (d n).resumed ≡ false
   counted : (n : ℕ) → (d n).waiting ≡ places (x.streams n).stream
   opened : (p : Purpose) → flag x.connection p ≡ true → (k : ℕ) × (flag (d k) p ≡ true)
   sound : (n : ℕ) → (last x d steps n).over ≡ false
@@ -124,9 +126,14 @@ allowed_event x d m e steps w h =
     let over : (d m).over ≡ x.connection.over = intact ∙ sym w.intact in
     let place : SamePlace x.connection (d m) (x.streams m).stream e = both_places x.connection (d m) (x.streams m).stream e h (w.counted m) in
     let k : CallsAlike x.connection (d m) (called x.connection (x.streams m).stream e) (called (d m) (x.streams m).stream e) = call_alike e (x.streams m).stream x.connection (d m) (w.endpoint m) over place in
-    let a : EventsAlike x.connection (d m) (at_stream x m e) (happens (d m) (x.streams m) e) = event_alike e (x.streams m) x.connection (d m) (w.endpoint m) over place (not_opened x d m e steps w k then) in
+    let a : EventsAlike x.connection (d m) (at_stream x m e) (happens (d m) (x.streams m) e) = event_alike e (x.streams m) x.connection (d m) (w.endpoint m) over place (plain_agree (called x.connection (x.streams m).stream e).0 (called (d m) (x.streams m).stream e).0 (k.goes.plain w.plain) (k.goes.other_plain (w.plains m))) (not_opened x d m e steps w k then) in
     record {
       intact = sym a.over ∙ then;
+      plain = a.goes.plain w.plain;
+      plains = λ n. elim (cases_Bool (eqb m n)) [
+        | inl same ↦ ap (λ (c : Connection). c.resumed) (same_alone n m y.connection d same) ∙ a.goes.other_plain (w.plains m)
+        | inr other ↦ ap (λ (c : Connection). c.resumed) (other_alone n m y.connection d other) ∙ w.plains n
+      ];
       endpoint = λ n. elim (cases_Bool (eqb m n)) [
         | inl same ↦ ap (λ (c : Connection). c.endpoint) (same_alone n m y.connection d same) ∙ a.goes.other ∙ w.endpoint m ∙ sym a.goes.endpoint
         | inr other ↦ ap (λ (c : Connection). c.endpoint) (other_alone n m y.connection d other) ∙ w.endpoint n ∙ sym a.goes.endpoint
@@ -165,6 +172,8 @@ allowed_accepted : (x : State) (d : Alone) (m : ℕ) (steps : Transcript) → Is
 allowed_accepted x d m steps w = record {
   intact = accepted_over x.connection.endpoint.side x.connection m ∙ w.intact;
   endpoint = λ n. w.endpoint n ∙ sym (accepted_opens x.connection.endpoint.side x.connection m).endpoint;
+  plain = (accepted_opens x.connection.endpoint.side x.connection m).plain w.plain;
+  plains = w.plains;
   counted = w.counted;
   opened = λ p f. w.opened p (sym (accepted_flags x.connection.endpoint.side x.connection m p) ∙ f);
   sound = w.sound;
@@ -181,6 +190,8 @@ allowed_stopped x d p steps none w =
     subst (λ (c : Connection). IsAllowed (record { connection = c; streams = x.streams }) d steps) (sym same) (record {
       intact = w.intact;
       endpoint = w.endpoint;
+      plain = w.plain;
+      plains = w.plains;
       counted = w.counted;
       opened = w.opened;
       sound = w.sound;
@@ -205,6 +216,8 @@ pub rules_kept : (e : Endpoint) (t : Table) (steps : Transcript) → NoneWaits t
 rules_kept e t steps z r h = no_error steps (begin e t) (λ n. connection_of e) (record {
   intact = refl;
   endpoint = λ n. refl;
+  plain = refl;
+  plains = λ n. refl;
   counted = λ n. sym (z n);
   opened = λ p f. absurd (false≢true (sym (none_opened e p) ∙ f));
   sound = r.sound;

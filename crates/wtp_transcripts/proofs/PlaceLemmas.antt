@@ -8,11 +8,11 @@ use Rattle.wtp_connection.specs.declared.connection.Known.{Known}
 use Rattle.wtp_connection.specs.declared.connection.Known.TheVariants as known
 use Rattle.wtp_connection.specs.declared.fault.Fault.TheVariants as fault
 use Rattle.wtp_connection.specs.declared.stream.Stream.{Stream}
-use Rattle.wtp_connection.specs.declared.stream.Stream.TheVariants.{Joining, Waiting, Session, Over}
-use Rattle.wtp_connection.specs.Opening.{is_critical, is_for_critical}
+use Rattle.wtp_connection.specs.declared.stream.Stream.TheVariants.{Joining, Waiting, Session, Over, Incomplete}
+use Rattle.wtp_connection.specs.Opening.{is_critical, is_for_critical, over_from}
 use Rattle.wtp_connection.specs.Streams.{most_waiting, Joined, settles, joins_open, overflows_open, without}
 use Rattle.wtp_transcripts.specs.Transcript.{Held, Event, Came, Told, Reset, Overflowed, Abandoned, called, unread, ends, happens, Table, Accepted, Stopped, On, Transcript, State, begin, at_stream, next, places, waiting_among, is_among, AreDistinct, HasPlace, HasPlaces, AllHavePlaces, WaitAmong, NoneWaits}
-use Rattle.wtp_transcripts.proofs.WaitLemmas.{read_waits, EventCounts, event_counts, held_at, held_other, other_waiting, its_waiting, its_places, accepted_waiting, stopped_waiting}
+use Rattle.wtp_transcripts.proofs.WaitLemmas.{read_waits, EventCounts, event_counts, held_at, held_other, other_waiting, its_waiting, its_places, accepted_waiting, stopped_waiting, over_from_none}
 
 -- it is not said that the session is to come
 abbrev NotComing : Event → Type 0
@@ -43,17 +43,18 @@ cond_none false x y e f = f
 overflow_none : (s : Stream) (c : Connection) → places s ≡ 0 → places (overflows_open c s).1 ≡ 0
 overflow_none (Joining n) c e = refl
 overflow_none (Waiting n) c e = refl
+overflow_none Incomplete c e = refl
 overflow_none Over c e = refl
 overflow_none other c e = refl
 
-abandon_none : (b : Bool) (s : Stream) (c : Connection) → places s ≡ 0 → places (cond {A = Connection × Stream} b (c, s) (without c s, Over)).1 ≡ 0
+abandon_none : (b : Bool) (s : Stream) (c : Connection) → places s ≡ 0 → places (cond {A = Connection × Stream} b (c, s) (without c s, over_from s)).1 ≡ 0
 abandon_none true s c e = e
-abandon_none false s c e = refl
+abandon_none false s c e = over_from_none s
 
 call_none : (e : Event) (s : Stream) (c : Connection) → places s ≡ 0 → NotComing e → places (called c s e).1 ≡ 0
 call_none (Came bytes fin) s c p h = p
 call_none (Told k) s c p h = cond_none c.over (c, s, None) (joins_open c s k) p (joined_none s k c p h)
-call_none Reset s c p h = cond_none (is_critical s && not c.over) _ _ refl refl
+call_none Reset s c p h = cond_none (is_critical s && not c.over) _ _ refl (over_from_none s)
 call_none Overflowed s c p h = cond_none c.over (c, s, None) (overflows_open c s) p (overflow_none s c p)
 call_none Abandoned s c p h = abandon_none (is_critical s) s c p
 

@@ -18,7 +18,7 @@ use Rattle.wtp_connection.specs.Streams.{accepts, closed_by, Seen, bytes_seen, S
 use Rattle.wtp_connection.proofs.FinishLemmas.{ended_followed}
 use Rattle.wtp_transcripts.specs.Transcript.{read, Held, called, end_seen, Table, with_held, is_opened as flag}
 use Rattle.wtp_transcripts.specs.Calls.{Call, Arrived, Returned, Interim, Made, CallIs, CallStep, Accepts, Stops, At, Leads, calls_on, AreReads, arrived, end_arrived, found_in, IsIdle}
-use Rattle.wtp_transcripts.proofs.AlikeLemmas.{Goes, goes_same, closed_goes, RunsAlike, read_alike, opened_first}
+use Rattle.wtp_transcripts.proofs.AlikeLemmas.{Goes, goes_same, closed_goes, RunsAlike, read_alike, opened_first, plain_agree}
 use Rattle.wtp_transcripts.proofs.CallLemmas.{call_finds}
 use Rattle.wtp_transcripts.proofs.IndependentLemmas.{call_alike, its_place, flags_open, Opens, accepted_opens, stopped_opens, with_same, with_other}
 use Rattle.wtp_transcripts.proofs.OverLemmas.{over_read, read_from, call_over, accepted_over, stopped_over}
@@ -32,22 +32,23 @@ record Follows (c d : Connection) : Type 0 where
   endpoint : d.endpoint ≡ c.endpoint
   intact : d.over ≡ false → c.over ≡ false
   flags : d.over ≡ false → (p : Purpose) → flag d p ≡ false → flag c p ≡ false
+  plain : c.resumed ≡ false → d.resumed ≡ false
 
 read_endpoint : (fin : Bool) (s : Stream) (bytes : List ℕ) (c : Connection) → (read fin c s bytes).connection.endpoint ≡ c.endpoint
-read_endpoint fin s bytes c = (read_alike fin s bytes c c refl refl (λ p rest is. refl)).goes.endpoint
+read_endpoint fin s bytes c = (read_alike fin s bytes c c refl refl (λ payload. refl) (λ p rest is. refl)).goes.endpoint
 
 read_opened : (fin : Bool) (s : Stream) (bytes : List ℕ) (c : Connection) (p : Purpose) → flag c p ≡ true → flag (read fin c s bytes).connection p ≡ true
 read_opened fin s bytes c p e = elim (cases_Bool (flag (read fin c s bytes).connection p)) [
   | inl is ↦ is
-  | inr none ↦ absurd (false≢true (sym (flags_open c (read fin c s bytes).connection p ((read_alike fin s bytes c c refl refl (λ q rest is. refl)).goes.flags p) none) ∙ e))
+  | inr none ↦ absurd (false≢true (sym (flags_open c (read fin c s bytes).connection p ((read_alike fin s bytes c c refl refl (λ payload. refl) (λ q rest is. refl)).goes.flags p) none) ∙ e))
 ]
 
 no_seen : (xs ys : List Seen) → xs ++ ys ≡ [] → ys ≡ []
 no_seen [] ys e = e
 no_seen (x ∷ xs) ys e = absurd (cc)
 
-found_follows : (x : Found) (c d : Connection) (s t : Stream) (bytes : List ℕ) (fin : Bool) → FoundIs x c s bytes fin d t → Follows c d
-found_follows x c d s t bytes fin is =
+found_follows : (x : Found) (c d : Connection) (s t : Stream) (bytes : List ℕ) (fin : Bool) → FoundIs x c s bytes fin d t → (c.resumed ≡ false → d.resumed ≡ false) → Follows c d
+found_follows x c d s t bytes fin is plain =
     let same : read fin c s bytes ≡ followed (seen_of x bytes) (read fin d t (rest_after x bytes)) = call_finds x fin c d s t bytes is in
     record {
       endpoint =
@@ -56,6 +57,7 @@ found_follows x c d s t bytes fin is =
           ∙ read_endpoint fin s bytes c;
       intact = λ o. its_over o same;
       flags = λ o p f. its_flags p f same;
+      plain = plain;
     }
   where
     its_over : d.over ≡ false → read fin c s bytes ≡ followed (seen_of x bytes) (read fin d t (rest_after x bytes)) → c.over ≡ false
@@ -82,6 +84,7 @@ goes_follows c d g o = record {
   endpoint = g.endpoint;
   intact = λ e. elim (cases_Bool c.over) [ inl over ↦ absurd (false≢true (sym e ∙ o over)) | inr intact ↦ intact ];
   flags = λ e p f. flags_open c d p (g.flags p) f;
+  plain = g.plain;
 }
 
 interim_goes : (c : Connection) (given : Bool) (x : Reader × Option StreamFault) → Goes c c (by_interim c given x).0 (by_interim c given x).0
@@ -102,7 +105,7 @@ told_over false s c e = absurd (false≢true e)
 
 call_follows : (x : Call) (c d : Connection) (h k : Held) → CallIs x c h d k → Follows c d
 call_follows (Arrived bytes fin) c d h k is = subst (λ (e : Connection). Follows c e) (sym is.0) (goes_follows c c (goes_same c c) (λ o. o))
-call_follows (Returned x) c d h k is = found_follows x c d h.stream k.stream h.left h.fin is.0
+call_follows (Returned x) c d h k is = found_follows x c d h.stream k.stream h.left h.fin is.0 is.3
 call_follows (Interim f) c d h k is = subst (λ (e : Connection). Follows c e) (sym (ap (λ (z : Joined). z.0) is)) (goes_follows c (tells_interim c h.stream).0 (told_goes c.over h.stream c) (λ o. told_over c.over h.stream c o ∙ o))
 call_follows (Made e f) c d h k is = subst (λ (z : Connection). Follows c z) (sym (ap (λ (z : Joined). z.0) is)) (goes_follows c (called c h.stream e).0 (call_alike e h.stream c c refl refl (its_place c h.stream e)).goes (λ o. call_over e c h.stream o))
 
@@ -111,6 +114,7 @@ opens_follows c d h o = record {
   endpoint = h.endpoint;
   intact = λ e. elim (cases_Bool c.over) [ inl over ↦ absurd (false≢true (sym e ∙ o over)) | inr intact ↦ intact ];
   flags = λ e p f. h.flags p f;
+  plain = h.plain;
 }
 
 -- ---- one stream
@@ -126,12 +130,12 @@ pub record ReadsAs (c : Connection) (h : Held) (calls : List Call) (k : Held) : 
   pub over : (read (h.fin || end_arrived calls) c h.stream (h.left ++ arrived calls)).connection.over ≡ false
 
 -- under another connection, which the next one follows
-reads_before : (c d : Connection) (h : Held) (calls : List Call) (k : Held) → Follows c d → ReadsAs d h calls k → ReadsAs c h calls k
-reads_before c d h calls k f r =
+reads_before : (c d : Connection) (h : Held) (calls : List Call) (k : Held) → c.resumed ≡ false → Follows c d → ReadsAs d h calls k → ReadsAs c h calls k
+reads_before c d h calls k q f r =
     let fin : Bool = h.fin || end_arrived calls in
     let l : List ℕ = h.left ++ arrived calls in
     let intact : d.over ≡ false = read_from (h.fin || end_arrived calls) d h.stream (h.left ++ arrived calls) r.over in
-    let a : RunsAlike d c (total d h calls) (total c h calls) = read_alike (h.fin || end_arrived calls) h.stream (h.left ++ arrived calls) d c (sym f.endpoint) (f.intact intact ∙ sym intact) (λ p rest is.
+    let a : RunsAlike d c (total d h calls) (total c h calls) = read_alike (h.fin || end_arrived calls) h.stream (h.left ++ arrived calls) d c (sym f.endpoint) (f.intact intact ∙ sym intact) (plain_agree d c (f.plain q) q) (λ p rest is.
     let first : flag d p ≡ false = opened_first fin h.stream l d p rest intact r.over is in
     f.flags intact p first ∙ sym first) in
     record {
@@ -218,18 +222,18 @@ reads_none c h o i =
       over = ap (λ (y : StreamRun). y.connection.over) same ∙ o;
     }
 
-pub interleaved : (steps : List CallStep) (c d : Connection) (t u : Table) (n : ℕ) → Leads steps c t d u → d.over ≡ false → AreReads (t n).fin (calls_on n steps) → IsIdle d (u n) → ReadsAs c (t n) (calls_on n steps) (u n)
-interleaved [] c d t u n l o a i =
+pub interleaved : (steps : List CallStep) (c d : Connection) (t u : Table) (n : ℕ) → c.resumed ≡ false → Leads steps c t d u → d.over ≡ false → AreReads (t n).fin (calls_on n steps) → IsIdle d (u n) → ReadsAs c (t n) (calls_on n steps) (u n)
+interleaved [] c d t u n q l o a i =
     subst (λ (z : Held). ReadsAs c (t n) [] z) (sym (l.1 n)) (
     reads_none c (t n) (ap (λ (e : Connection). e.over) (sym l.0) ∙ o) (
     subst (λ (e : Connection). IsIdle e (t n)) l.0 (subst (λ (z : Held). IsIdle d z) (l.1 n) i)))
-interleaved (Accepts m ∷ steps) c d t u n l o a i =
-    reads_before c (accepts c m).0 (t n) (calls_on n steps) (u n) (opens_follows c (accepts c m).0 (accepted_opens c.endpoint.side c m) (λ e. accepted_over c.endpoint.side c m ∙ e)) (
-    interleaved steps (accepts c m).0 d t u n l o a i)
-interleaved (Stops p ∷ steps) c d t u n l o a i =
-    reads_before c (stops c p).0 (t n) (calls_on n steps) (u n) (opens_follows c (stops c p).0 (stopped_opens (is_for_critical p && not c.over) c (fault.Stream stream.ClosedCriticalStream) (Some (fault.Stream stream.ClosedCriticalStream))) (λ e. ap (λ (z : Connection). z.over) (stopped_over (is_for_critical p) c.over c (closed_by c (fault.Stream stream.ClosedCriticalStream)) (Some (fault.Stream stream.ClosedCriticalStream)) e) ∙ e)) (
-    interleaved steps (stops c p).0 d t u n l o a i)
-interleaved (At m x ∷ steps) c d t u n (e, k, is, l) o a i = elim (cases_Bool (eqb m n)) [
+interleaved (Accepts m ∷ steps) c d t u n q l o a i =
+    reads_before c (accepts c m).0 (t n) (calls_on n steps) (u n) q (opens_follows c (accepts c m).0 (accepted_opens c.endpoint.side c m) (λ e. accepted_over c.endpoint.side c m ∙ e)) (
+    interleaved steps (accepts c m).0 d t u n ((accepted_opens c.endpoint.side c m).plain q) l o a i)
+interleaved (Stops p ∷ steps) c d t u n q l o a i =
+    reads_before c (stops c p).0 (t n) (calls_on n steps) (u n) q (opens_follows c (stops c p).0 (stopped_opens (is_for_critical p && not c.over) c (fault.Stream stream.ClosedCriticalStream) (Some (fault.Stream stream.ClosedCriticalStream))) (λ e. ap (λ (z : Connection). z.over) (stopped_over (is_for_critical p) c.over c (closed_by c (fault.Stream stream.ClosedCriticalStream)) (Some (fault.Stream stream.ClosedCriticalStream)) e) ∙ e)) (
+    interleaved steps (stops c p).0 d t u n ((stopped_opens (is_for_critical p && not c.over) c (fault.Stream stream.ClosedCriticalStream) (Some (fault.Stream stream.ClosedCriticalStream))).plain q) l o a i)
+interleaved (At m x ∷ steps) c d t u n q (e, k, is, l) o a i = elim (cases_Bool (eqb m n)) [
   | inl same ↦
       let one : m ≡ n = eqb-true m n same in
       let calls : calls_on n (At m x ∷ steps) ≡ x ∷ calls_on n steps = rw same refl in
@@ -237,14 +241,14 @@ interleaved (At m x ∷ steps) c d t u n (e, k, is, l) o a i = elim (cases_Bool 
       subst (λ (z : List Call). ReadsAs c (t n) z (u n)) (sym calls) (
       reads_its x c e (t n) k (calls_on n steps) (u n) (subst (λ (j : ℕ). CallIs x c (t j) e k) one is) (subst (λ (z : List Call). AreReads (t n).fin z) calls a) (λ b.
       subst (λ (z : Held). ReadsAs e z (calls_on n steps) (u n)) held (
-      interleaved steps e d (with_held m k t) u n l o (subst (λ (z : Held). AreReads z.fin (calls_on n steps)) (sym held) b) i)))
+      interleaved steps e d (with_held m k t) u n ((call_follows x c e (t m) k is).plain q) l o (subst (λ (z : Held). AreReads z.fin (calls_on n steps)) (sym held) b) i)))
   | inr other ↦
       let calls : calls_on n (At m x ∷ steps) ≡ calls_on n steps = rw other refl in
       let held : with_held m k t n ≡ t n = with_other n m k t other in
       subst (λ (z : List Call). ReadsAs c (t n) z (u n)) (sym calls) (
-      reads_before c e (t n) (calls_on n steps) (u n) (call_follows x c e (t m) k is) (
+      reads_before c e (t n) (calls_on n steps) (u n) q (call_follows x c e (t m) k is) (
       subst (λ (z : Held). ReadsAs e z (calls_on n steps) (u n)) held (
-      interleaved steps e d (with_held m k t) u n l o (subst (λ (z : Held). AreReads z.fin (calls_on n steps)) (sym held) (subst (λ (z : List Call). AreReads (t n).fin z) calls a)) i)))
+      interleaved steps e d (with_held m k t) u n ((call_follows x c e (t m) k is).plain q) l o (subst (λ (z : Held). AreReads z.fin (calls_on n steps)) (sym held) (subst (λ (z : List Call). AreReads (t n).fin z) calls a)) i)))
 ]
 
 -- ---- a stream of a session

@@ -1,5 +1,5 @@
 -- What a run changes of the connection it shows.
-use Rattle.std.proofs.Common.{◌≡◌, ℕ, ◌||◌, Bool, true, false, cond, List, [], ◌∷◌, ◌++◌, length, Option, Some, None, Result, Ok, Err, refl, sym, ap, subst, ◌∙◌, inl, inr}
+use Rattle.std.proofs.Common.{◌≡◌, ℕ, ◌||◌, Bool, true, false, cond, List, [], ◌∷◌, ◌++◌, Option, Some, None, Result, Ok, Err, refl, sym, ap, subst, ◌∙◌, inl, inr}
 use Rattle.std.proofs.lemmas.Bool.{cases_Bool, false≢true}
 use Rattle.std.specs.List.{list_all}
 use Rattle.wtp_core.specs.declared.error.scope.ErrorScope.{ErrorScope}
@@ -17,12 +17,11 @@ use Rattle.wtp_connection.specs.declared.settings.PeerSettings.{PeerSettings}
 use Rattle.wtp_connection.specs.declared.stream.Purpose.{Purpose}
 use Rattle.wtp_connection.specs.declared.stream.Purpose.TheVariants as «for»
 use Rattle.wtp_connection.specs.declared.stream.Stream.{Stream}
-use Rattle.wtp_connection.specs.declared.stream.Stream.TheVariants.{Uni, Bi, Frames, Joining, Waiting, Session, Encoder, Decoder, Ignored, Over}
+use Rattle.wtp_connection.specs.declared.stream.Stream.TheVariants.{Uni, Bi, Frames, Joining, Waiting, Session, Encoder, Decoder, Ignored, Over, Incomplete}
 use Rattle.wtp_connection.specs.Fault.{scope_of}
 use Rattle.wtp_connection.specs.Instructions.{sets_zero, after_bytes}
 use Rattle.wtp_connection.specs.Opening.{uni_at, bi_at}
-use Rattle.wtp_connection.specs.Settings.{settings_in}
-use Rattle.wtp_connection.specs.Streams.{opens, opens_once, closed_in, closed_by, Seen, Opened, Configured, Gave, Broke, StreamRun, rests, followed, all_given, breaks, by_settings, of_items, has_frames, bytes_seen, by_capacity, by_place, run_open, by_purpose, by_opening, run_intact, run_stream, by_fault, end_of, ending, ended}
+use Rattle.wtp_connection.specs.Streams.{opens, opens_once, closed_in, closed_by, Seen, Opened, Configured, Gave, Broke, StreamRun, rests, followed, all_given, breaks, by_settings, of_items, has_frames, bytes_seen, by_capacity, by_place, run_open, by_purpose, by_opening, run_intact, run_stream, by_fault, end_of, ending, ended, configured, received_settings}
 use Rattle.wtp_transcripts.specs.Transcript.{read, is_opened as flag}
 use Rattle.wtp_transcripts.proofs.AlikeLemmas.{over_flags, peer_flags}
 
@@ -134,12 +133,12 @@ broke_shows f c x h = record {
 }
 
 settings_show : (o : Result PeerSettings Fault) (c : Connection) (payload : List ℕ) (f : Connection → StreamRun) → ((d : Connection) → Shows d (f d)) → Shows c (by_settings c payload f o)
-settings_show (Ok v) c payload f h = seen_shows (Configured v payload ∷ []) c (record c { peer = v }) (f (record c { peer = v })) (λ i. i) (peer_flags c v) (h (record c { peer = v }))
+settings_show (Ok v) c payload f h = seen_shows (Configured v payload ∷ []) c (configured c v) (f (configured c v)) (λ i. i) (peer_flags c v) (h (configured c v))
 settings_show (Err x) c payload f h = breaks_shows c x
 
 items_show : (items : List Item) (c : Connection) (f : Connection → StreamRun) → ((d : Connection) → Shows d (f d)) → Shows c (of_items c f items)
 items_show [] c f h = h c
-items_show (Whole kind.Settings payload ∷ items) c f h = settings_show (settings_in payload) c payload (λ d. of_items d f items) (λ d. items_show items d f h)
+items_show (Whole kind.Settings payload ∷ items) c f h = settings_show (received_settings c payload) c payload (λ d. of_items d f items) (λ d. items_show items d f h)
 items_show (Broken x ∷ items) c f h = broke_shows (fault.Stream x) c (of_items (closed_by c (fault.Stream x)) f items) (items_show items (closed_by c (fault.Stream x)) f h)
 items_show (other ∷ items) c f h = seen_shows (Gave other ∷ []) c c (of_items c f items) (λ i. i) (λ p. refl) (items_show items c f h)
 
@@ -228,13 +227,17 @@ run_shows s bytes c = cond_shows c.over c (all_given c s []) (run_intact c s byt
 
 fault_shows : (o : Result (Unit {0}) StreamFault) (c : Connection) → Shows c (by_fault c o)
 fault_shows (Ok u) c = same_shows c (by_fault c (Ok u)) refl
-fault_shows (Err f) c = breaks_shows c (fault.Stream f)
+fault_shows (Err f) c = record {
+  over = λ o i. refl;
+  flags = λ p o i. absurd (false≢true (sym i ∙ sym (closed_flags c (fault.Stream f) p) ∙ o));
+}
 
 ending_shows : (s : Stream) (l : List ℕ) (c : Connection) → Shows c (ending c s l)
 ending_shows (Joining n) l c = same_shows c (ending c (Joining n) l) refl
 ending_shows (Waiting n) l c = same_shows c (ending c (Waiting n) l) refl
+ending_shows Incomplete l c = same_shows c (ending c Incomplete l) refl
 ending_shows Over l c = same_shows c (ending c Over l) refl
-ending_shows other l c = fault_shows (end_of c other (length l)) c
+ending_shows other l c = fault_shows (end_of c other l) c
 
 ended_shows : (c : Connection) (x : StreamRun) → Shows c x → Shows c (ended x)
 ended_shows c x h = elim (cases_Bool x.connection.over) [
@@ -259,10 +262,10 @@ read_shows false s bytes c = run_shows s bytes c
 
 items_none : (items : List Item) (c : Connection) (f : Connection → StreamRun) → ((d : Connection) → OpensNone (f d)) → OpensNone (of_items c f items)
 items_none [] c f h = h c
-items_none (Whole kind.Settings payload ∷ items) c f h = settings_none (settings_in payload) c payload (λ d. of_items d f items) (λ d. items_none items d f h)
+items_none (Whole kind.Settings payload ∷ items) c f h = settings_none (received_settings c payload) c payload (λ d. of_items d f items) (λ d. items_none items d f h)
   where
     settings_none : (o : Result PeerSettings Fault) (c : Connection) (payload : List ℕ) (f : Connection → StreamRun) → ((d : Connection) → OpensNone (f d)) → OpensNone (by_settings c payload f o)
-    settings_none (Ok v) c payload f h = record { none = λ p. opening_none p (Configured v payload ∷ []) (f (record c { peer = v })).seen (other_none p) ((h (record c { peer = v })).none p) }
+    settings_none (Ok v) c payload f h = record { none = λ p. opening_none p (Configured v payload ∷ []) (f (configured c v)).seen (other_none p) ((h (configured c v)).none p) }
       where
         other_none : (p : Purpose) → has_opening p (Configured v payload ∷ []) ≡ false
         other_none p = refl
@@ -368,8 +371,9 @@ fault_none (Err f) c = record { none = λ p. refl }
 ending_none : (s : Stream) (l : List ℕ) (c : Connection) → OpensNone (ending c s l)
 ending_none (Joining n) l c = record { none = λ p. refl }
 ending_none (Waiting n) l c = record { none = λ p. refl }
+ending_none Incomplete l c = record { none = λ p. refl }
 ending_none Over l c = record { none = λ p. refl }
-ending_none other l c = fault_none (end_of c other (length l)) c
+ending_none other l c = fault_none (end_of c other l) c
 
 ended_hides : (c : Connection) (x : StreamRun) → Hides c x → Hides c (ended x)
 ended_hides c x h = cond_hides x.connection.over c x (followed x.seen (ending x.connection x.stream x.left)) h (record { none = λ p e. opening_none p x.seen (ending x.connection x.stream x.left).seen (h.none p e) ((ending_none x.stream x.left x.connection).none p) })

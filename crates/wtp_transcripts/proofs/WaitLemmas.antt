@@ -1,5 +1,5 @@
 -- How many streams wait.
-use Rattle.std.proofs.Common.{◌≡◌, ℕ, ◌+◌, ◌≤◌, ◌%◌, ◌/◌, ◌&&◌, ◌||◌, not, Bool, true, false, cond, eqb, List, [], ◌∷◌, ◌++◌, length, Option, Some, None, Result, Ok, Err, refl, sym, ap, ◌∙◌, arith, inl, inr}
+use Rattle.std.proofs.Common.{◌≡◌, ℕ, ◌+◌, ◌≤◌, ◌%◌, ◌/◌, ◌&&◌, ◌||◌, not, Bool, true, false, cond, eqb, List, [], ◌∷◌, ◌++◌, Option, Some, None, Result, Ok, Err, refl, sym, ap, ◌∙◌, arith, inl, inr}
 use Rattle.std.proofs.lemmas.Bool.{cases_Bool, cases_lt, lt-ltb, le-ltb, false≢true, eqb-true}
 use Rattle.std.proofs.lemmas.List.{append-nil}
 use Rattle.std.specs.List.{list_all}
@@ -23,13 +23,12 @@ use Rattle.wtp_connection.specs.declared.settings.PeerSettings.{PeerSettings}
 use Rattle.wtp_connection.specs.declared.stream.Purpose.{Purpose}
 use Rattle.wtp_connection.specs.declared.stream.Purpose.TheVariants as «for»
 use Rattle.wtp_connection.specs.declared.stream.Stream.{Stream}
-use Rattle.wtp_connection.specs.declared.stream.Stream.TheVariants.{Uni, Bi, Frames, Joining, Waiting, Session, Encoder, Decoder, Ignored, Over}
+use Rattle.wtp_connection.specs.declared.stream.Stream.TheVariants.{Uni, Bi, Frames, Joining, Waiting, Session, Encoder, Decoder, Ignored, Over, Incomplete}
 use Rattle.wtp_connection.specs.Fault.{scope_of}
 use Rattle.wtp_connection.specs.Instructions.{sets_zero, after_bytes}
-use Rattle.wtp_connection.specs.Opening.{uni_at, bi_at, is_critical, is_for_critical}
+use Rattle.wtp_connection.specs.Opening.{uni_at, bi_at, is_critical, is_for_critical, over_from, over_by}
 use Rattle.wtp_connection.specs.Requests.{with_request}
-use Rattle.wtp_connection.specs.Settings.{settings_in}
-use Rattle.wtp_connection.specs.Streams.{with_stream, opens, opens_once, closed_in, closed_by, StreamRun, rests, all_given, breaks, by_settings, of_items, has_frames, bytes_seen, by_capacity, by_place, run_open, by_purpose, by_opening, run_intact, run_stream, by_fault, end_of, ending, ended, most_waiting, Joined, refuses, settles, waits, freed, joins_open, joins, without, overflows_open}
+use Rattle.wtp_connection.specs.Streams.{with_stream, opens, opens_once, closed_in, closed_by, StreamRun, rests, all_given, breaks, by_settings, of_items, has_frames, bytes_seen, by_capacity, by_place, run_open, by_purpose, by_opening, run_intact, run_stream, by_fault, end_of, ending, ended, most_waiting, Joined, refuses, settles, waits, freed, joins_open, joins, without, overflows_open, configured, received_settings}
 use Rattle.wtp_transcripts.specs.Transcript.{read, Held, Event, Came, Told, Reset, Overflowed, Abandoned, Outcome, outcome_of, called, unread, ends, reads_on, happens, end_seen, Table, with_held, Accepted, Stopped, On, Transcript, State, at_stream, next, after, places, waiting_among, is_among, AreDistinct, AreOf}
 
 -- ---- runs
@@ -50,12 +49,12 @@ breaks_wait : (c : Connection) (f : Fault) → WaitsAs c.waiting 0 (breaks c f)
 breaks_wait c f = record { waiting = closed_waiting c f; places = refl }
 
 settings_wait : (o : Result PeerSettings Fault) (n : ℕ) (c : Connection) (payload : List ℕ) (f : Connection → StreamRun) → c.waiting ≡ n → ((d : Connection) → d.waiting ≡ n → WaitsAs n 0 (f d)) → WaitsAs n 0 (by_settings c payload f o)
-settings_wait (Ok v) n c payload f e h = record { waiting = (h (record c { peer = v }) e).waiting; places = (h (record c { peer = v }) e).places }
+settings_wait (Ok v) n c payload f e h = record { waiting = (h (configured c v) e).waiting; places = (h (configured c v) e).places }
 settings_wait (Err x) n c payload f e h = record { waiting = closed_waiting c x ∙ e; places = refl }
 
 items_wait : (items : List Item) (n : ℕ) (c : Connection) (f : Connection → StreamRun) → c.waiting ≡ n → ((d : Connection) → d.waiting ≡ n → WaitsAs n 0 (f d)) → WaitsAs n 0 (of_items c f items)
 items_wait [] n c f e h = h c e
-items_wait (Whole kind.Settings payload ∷ items) n c f e h = settings_wait (settings_in payload) n c payload (λ d. of_items d f items) e (λ d i. items_wait items n d f i h)
+items_wait (Whole kind.Settings payload ∷ items) n c f e h = settings_wait (received_settings c payload) n c payload (λ d. of_items d f items) e (λ d i. items_wait items n d f i h)
 items_wait (Broken x ∷ items) n c f e h =
     let y : WaitsAs n 0 (of_items (closed_by c (fault.Stream x)) f items) = items_wait items n (closed_by c (fault.Stream x)) f (closed_waiting c (fault.Stream x) ∙ e) h in
     record { waiting = y.waiting; places = y.places }
@@ -109,15 +108,20 @@ cond_waits false n k x y f g = g
 run_waits : (s : Stream) (bytes : List ℕ) (c : Connection) → WaitsAs c.waiting (places s) (run_stream c s bytes)
 run_waits s bytes c = cond_waits c.over c.waiting (places s) (all_given c s []) (run_intact c s bytes) (record { waiting = refl; places = refl }) (intact_waits s bytes c)
 
+over_by_none : (f : StreamFault) → places (over_by f) ≡ 0
+over_by_none stream.RequestIncomplete = refl
+over_by_none other = refl
+
 fault_waits : (o : Result (Unit {0}) StreamFault) (c : Connection) → WaitsAs c.waiting 0 (by_fault c o)
 fault_waits (Ok u) c = record { waiting = refl; places = refl }
-fault_waits (Err f) c = breaks_wait c (fault.Stream f)
+fault_waits (Err f) c = record { waiting = closed_waiting c (fault.Stream f); places = over_by_none f }
 
 ending_waits : (s : Stream) (l : List ℕ) (c : Connection) → WaitsAs c.waiting (places s) (ending c s l)
 ending_waits (Joining n) l c = record { waiting = refl; places = refl }
 ending_waits (Waiting n) l c = record { waiting = refl; places = refl }
+ending_waits Incomplete l c = record { waiting = refl; places = refl }
 ending_waits Over l c = record { waiting = refl; places = refl }
-ending_waits other l c = fault_waits (end_of c other (length l)) c
+ending_waits other l c = fault_waits (end_of c other l) c
 
 ended_waits : (n k : ℕ) (x : StreamRun) → WaitsAs n k x → WaitsAs n k (ended x)
 ended_waits n k x h =
@@ -189,20 +193,27 @@ without_waiting c other h = omega arith
 overflow_counts : (s : Stream) (c : Connection) → places s ≤ c.waiting → Counts c s (overflows_open c s)
 overflow_counts (Joining n) c h = refuses_counts c c (Joining n) stream.BufferedStreamRejected (omega arith)
 overflow_counts (Waiting n) c h = refuses_counts c (freed c) (Waiting n) stream.BufferedStreamRejected (omega (arith, h))
+overflow_counts Incomplete c h = same_counts c Incomplete None
 overflow_counts Over c h = same_counts c Over None
 overflow_counts other c h = refuses_counts c c other stream.ExcessiveLoad (omega arith)
 
-abandon_counts : (b : Bool) (c : Connection) (s : Stream) → places s ≤ c.waiting → Counts c s ((cond {A = Connection × Stream} b (c, s) (without c s, Over)).0, (cond {A = Connection × Stream} b (c, s) (without c s, Over)).1, None)
+pub over_from_none : (s : Stream) → places (over_from s) ≡ 0
+over_from_none Bi = refl
+over_from_none (Frames r false) = refl
+over_from_none Incomplete = refl
+over_from_none other = refl
+
+abandon_counts : (b : Bool) (c : Connection) (s : Stream) → places s ≤ c.waiting → Counts c s ((cond {A = Connection × Stream} b (c, s) (without c s, over_from s)).0, (cond {A = Connection × Stream} b (c, s) (without c s, over_from s)).1, None)
 abandon_counts true c s h = same_counts c s None
-abandon_counts false c s h = leaves_counts c (without c s) s Over None (without_waiting c s h) refl
+abandon_counts false c s h = leaves_counts c (without c s) s (over_from s) None (without_waiting c s h) (over_from_none s)
 
 critical_none : (s : Stream) → is_critical s ≡ true → places s ≡ 0
 critical_none (Waiting n) e = absurd (false≢true e)
 critical_none other e = refl
 
-reset_counts : (b : Bool) (c : Connection) (s : Stream) (o : Option Fault) → (b ≡ true → places s ≡ 0) → places s ≤ c.waiting → Counts c s (cond b (refuses c stream.ClosedCriticalStream) (without c s, Over, o))
+reset_counts : (b : Bool) (c : Connection) (s : Stream) (o : Option Fault) → (b ≡ true → places s ≡ 0) → places s ≤ c.waiting → Counts c s (cond b (refuses c stream.ClosedCriticalStream) (without c s, over_from s, o))
 reset_counts true c s o e h = refuses_counts c c s stream.ClosedCriticalStream (omega (arith, e refl))
-reset_counts false c s o e h = leaves_counts c (without c s) s Over o (without_waiting c s h) refl
+reset_counts false c s o e h = leaves_counts c (without c s) s (over_from s) o (without_waiting c s h) (over_from_none s)
 
 first_true : (a b : Bool) → (a && b) ≡ true → a ≡ true
 first_true true b e = refl

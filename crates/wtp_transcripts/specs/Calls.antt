@@ -17,7 +17,7 @@ pub data Call : Type 0 where
   Interim : Option Fault → Call
   Made : Event → Option Fault → Call
 
--- what it does to the connection and to a stream
+-- What it does to the connection and to a stream. No call resumes a session.
 abbrev pub CallIs : Call → Connection → Held → Connection → Held → Type 0
 CallIs (Arrived bytes fin) c h d k =
     (d ≡ c)
@@ -26,6 +26,7 @@ CallIs (Returned x) c h d k =
     FoundIs x c h.stream h.left h.fin d k.stream
     × (k.left ≡ rest_after x h.left)
     × (k.fin ≡ h.fin)
+    × (c.resumed ≡ false → d.resumed ≡ false)
 CallIs (Interim f) c h d k = (d, k.stream, f) ≡ tells_interim c h.stream
 CallIs (Made e f) c h d k = (d, k.stream, f) ≡ called c h.stream e
 
