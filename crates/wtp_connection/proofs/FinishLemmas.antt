@@ -2,6 +2,8 @@
 use Rattle.std.proofs.Common.{◌≡◌, ℕ, ◌≤◌, Bool, true, false, cond, List, [], ◌∷◌, ◌++◌, length, drop, Some, None, Result, Ok, Err, refl, sym, ap, subst, ◌∙◌, append_assoc, inl, inr}
 use Rattle.std.proofs.lemmas.Bool.{cases_Bool}
 use Rattle.std.proofs.lemmas.List.{append-nil}
+use Rattle.wtp_core.specs.declared.error.scope.ErrorScope.{ErrorScope}
+use Rattle.wtp_core.specs.declared.error.scope.ErrorScope.TheVariants as scope
 use Rattle.wtp_frames.specs.declared.fault.Fault.{Fault as StreamFault}
 use Rattle.wtp_frames.specs.declared.fault.Fault.TheVariants as stream
 use Rattle.wtp_connection.specs.Opening.{over_by}
@@ -11,8 +13,9 @@ use Rattle.wtp_connection.specs.declared.stream.Stream.TheVariants.{Uni, Bi, Fra
 use Rattle.wtp_connection.specs.declared.connection.Connection.{Connection}
 use Rattle.wtp_connection.specs.declared.connection.Found.{Found}
 use Rattle.wtp_connection.specs.declared.connection.Found.TheVariants as found
-use Rattle.wtp_connection.specs.Streams.{closed_by, Seen, Broke, Ended, StreamRun, rests, followed, all_given, run_stream, end_of, by_fault, ending, ended}
-use Rattle.wtp_connection.specs.Receiving.{seen_of, rest_after, Idle, StepIsFound, Settled, FoundIs, more_in, finish_by, finish_open, finish_of}
+use Rattle.wtp_connection.specs.Fault.{scope_of}
+use Rattle.wtp_connection.specs.Streams.{closed_in, closed_by, Seen, Broke, Ended, StreamRun, rests, followed, all_given, run_stream, end_of, by_fault, ending, ended}
+use Rattle.wtp_connection.specs.Receiving.{seen_of, rest_after, Idle, StepIsFound, Settled, FoundIs, Outcome, more_in, finish_by, finish_open, finish_of}
 use Rattle.wtp_connection.proofs.StreamLemmas.{over_given, incomplete_given}
 
 followed_twice : (xs ys : List Seen) (y : StreamRun) → followed (xs ++ ys) y ≡ followed xs (followed ys y)
@@ -178,3 +181,27 @@ more_within (found.Data start end) n c s bytes d t m h = absurd (cc)
 more_within (found.TooLarge size k) n c s bytes d t m h = absurd (cc)
 more_within (found.Fault k) n c s bytes d t m h = absurd (cc)
 more_within found.End n c s bytes d t m h = absurd (cc)
+
+-- ---- no session is resumed
+
+scope_resumed : (s : ErrorScope) (c : Connection) → (closed_in c s).resumed ≡ c.resumed
+scope_resumed scope.Stream c = refl
+scope_resumed other c = refl
+
+end_resumed : (o : Result (Unit {0}) StreamFault) (c : Connection) → (finish_by c o).1.resumed ≡ c.resumed
+end_resumed (Ok u) c = refl
+end_resumed (Err f) c = scope_resumed (scope_of (fault.Stream f)) c
+
+open_resumed : (s : Stream) (c : Connection) (left : List ℕ) (n : ℕ) → (finish_open c s left n).1.resumed ≡ c.resumed
+open_resumed (Joining k) c left n = refl
+open_resumed (Waiting k) c left n = refl
+open_resumed Incomplete c left n = refl
+open_resumed Over c left n = refl
+open_resumed other c left n = end_resumed (end_of c other left) c
+
+cond_resumed : (b : Bool) (c : Connection) (x y : Outcome) → x.1.resumed ≡ c.resumed → y.1.resumed ≡ c.resumed → (cond b x y).1.resumed ≡ c.resumed
+cond_resumed true c x y e f = e
+cond_resumed false c x y e f = f
+
+pub finish_resumed : (x : Found) (c d : Connection) (s t : Stream) (left : List ℕ) (n : ℕ) → (x, d, t) ≡ finish_of c s left n → d.resumed ≡ c.resumed
+finish_resumed x c d s t left n is = ap (λ (o : Outcome). o.1.resumed) is ∙ cond_resumed c.over c _ (finish_open c s left n) refl (open_resumed s c left n)

@@ -124,7 +124,7 @@ impl Connection {
     /// It does not allocate. After `More(n)`, the bytes from offset `n` on are to be passed again,
     /// with more bytes after them or after [`join`](Self::join). An error is returned once, with
     /// all bytes consumed. After an error that ends the connection every call consumes all bytes of
-    /// every stream and returns `More`.
+    /// every stream and returns `More`. A connection that resumes no session goes on to resume none.
     pub fn receive(
         &mut self,
         stream: &mut Stream,
@@ -134,6 +134,7 @@ impl Connection {
     ) -> Found
         ensures found { FoundIs result self.old stream.old bytes.now fin self.new stream.new }
         ensures progress { IsNearer result stream.old bytes.now stream.new }
+        ensures resumed { self.old.resumed ≡ false → self.new.resumed ≡ false }
         ensures fields { _fields.new ≡ _fields.old }
     {
         let found = self.step(stream, bytes);
@@ -152,6 +153,7 @@ impl Connection {
     fn step(&mut self, stream: &mut Stream, bytes: &[u8]) -> Found
         ensures found { StepIsFound result self.old stream.old bytes.now self.new stream.new }
         ensures progress { IsNearer result stream.old bytes.now stream.new }
+        ensures resumed { self.old.resumed ≡ false → self.new.resumed ≡ false }
     {
         if self.over {
             return Found::More(bytes.len());
@@ -267,6 +269,7 @@ impl Connection {
         requires within { IfSome opening (λ o. o.1 ≤ length bytes.now) }
         ensures found { StepIsFound result self.old stream.old bytes.now self.new stream.new }
         ensures progress { IsNearer result stream.old bytes.now stream.new }
+        ensures resumed { self.old.resumed ≡ false → self.new.resumed ≡ false }
     {
         match opening {
             None => Found::More(0),

@@ -1,5 +1,5 @@
 use Rattle.std.proofs.Common.{sym, ◌∙◌}
-use Rattle.wtp_connection.proofs.FinishLemmas.{found_open, found_before, found_end, more_within}
+use Rattle.wtp_connection.proofs.FinishLemmas.{found_open, found_before, found_end, finish_resumed, more_within}
 use Rattle.wtp_connection.proofs.ProgressLemmas.{finish_nearer}
 use Rattle.wtp_connection.proofs.connection.Connection.receive.Goals as goal
 
@@ -17,3 +17,6 @@ returns-clause-found c = found_open c.step-found.result c.args.self.now c.args.s
 
 pub returns-in-Some-clause-progress : goal.returns-in-Some-clause-progress
 returns-in-Some-clause-progress c = finish_nearer c.step-found.result c.in-Some.n c.step-found.new.self c.finish.new.self c.step-found.new.stream c.finish.new.stream c.split_at.result.1.now c.args.stream.now c.args.bytes.now c.finish.result (sym c.consumed_by_more.ensures ∙ c.in-Some.is) c.step-found.ensures.progress c.finish.ensures
+
+pub returns-in-Some-clause-resumed : goal.returns-in-Some-clause-resumed
+returns-in-Some-clause-resumed c = λ e. finish_resumed c.finish.result c.step-found.new.self c.finish.new.self c.step-found.new.stream c.finish.new.stream c.split_at.result.1.now c.in-Some.n c.finish.ensures ∙ c.step-found.ensures.resumed e
