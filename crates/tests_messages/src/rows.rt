@@ -331,7 +331,12 @@ pub(crate) static RESPONSES: [ResponseRow; 14] = [
 pub(crate) static TRAILERS: [Group; 5] = [
     Group {
         broken: None,
-        rows: &[b"empty", b"empty|digest=x"],
+        rows: &[
+            b"empty",
+            b"empty|digest=x",
+            b"empty|content-length=x",
+            b"empty|content-length=1|content-length=2",
+        ],
     },
     Group {
         broken: Some(Malformed::UnknownPseudoHeader),

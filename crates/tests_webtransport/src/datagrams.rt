@@ -1,7 +1,7 @@
 //! Datagrams of a connection (RFC 9297, sections 2 and 2.1), and own streams that the peer asks to stop
 //! (RFC 9114, section 6.2.1; RFC 9204, section 4.2).
-use crate::playing::{configure, server};
-use crate::sessions::{REQUEST, assert_known};
+use crate::playing::{REQUEST, configure, server};
+use crate::sessions::assert_known;
 use std::process::Abort;
 use wtp_connection::connection::datagrams::DatagramFor;
 use wtp_connection::stream::Purpose;
@@ -117,7 +117,7 @@ fn datagrams_have_a_session_and_a_payload(rt: HostRuntime) {
     assert!(rt; came, "a quarter of 4, and a payload");
     let empty = matches!(connection.datagram(b"\x40\x40"), Ok(Some((256, b""))));
     assert!(rt; empty, "a quarter of 256, and no payload");
-    let off = matches!(server(true).datagram(b"\x01ab"), Ok(None));
+    let off = matches!(server(false).datagram(b"\x01ab"), Ok(None));
     assert!(rt; off, "the own SETTINGS do not enable datagrams");
 }
 

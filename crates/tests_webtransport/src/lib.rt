@@ -7,6 +7,8 @@ mod datagrams;
 #[cfg(test)]
 mod messages;
 #[cfg(test)]
+mod peers;
+#[cfg(test)]
 mod playing;
 #[cfg(test)]
 mod sessions;

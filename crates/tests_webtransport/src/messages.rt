@@ -13,7 +13,7 @@ pub(crate) struct Row {
 }
 
 /// Requests.
-static REQUESTS: [Row; 11] = [
+static REQUESTS: [Row; 23] = [
     Row {
         case: Case::Request,
         bytes: &[0x01, 0x08, 0x00, 0x00, 0xd1, 0xd7, 0xc1, 0x50, 0x01, 0x61],
@@ -44,7 +44,25 @@ static REQUESTS: [Row; 11] = [
             0x01, 0x0b, 0x00, 0x00, 0xd4, 0xd7, 0xc1, 0x50, 0x01, 0x61, 0x54, 0x01, 0x33, 0x00,
             0x04, 0x61, 0x62, 0x63, 0x64,
         ],
-        events: "request 5; data 3; malformed: the content is longer than announced; ",
+        events: "request 5; malformed: the content is longer than announced; ",
+    },
+    // content-length 3, and 2 bytes in each of two DATA frames
+    Row {
+        case: Case::Request,
+        bytes: &[
+            0x01, 0x0b, 0x00, 0x00, 0xd4, 0xd7, 0xc1, 0x50, 0x01, 0x61, 0x54, 0x01, 0x33, 0x00,
+            0x02, 0x61, 0x62, 0x00, 0x02, 0x63, 0x64,
+        ],
+        events: "request 5; data 2; malformed: the content is longer than announced; ",
+    },
+    // content-length 3, and the first byte of a DATA frame of 4
+    Row {
+        case: Case::Request,
+        bytes: &[
+            0x01, 0x0b, 0x00, 0x00, 0xd4, 0xd7, 0xc1, 0x50, 0x01, 0x61, 0x54, 0x01, 0x33, 0x00,
+            0x04, 0x61,
+        ],
+        events: "request 5; malformed: the content is longer than announced; ",
     },
     // content-length 0, and a byte
     Row {
@@ -66,6 +84,70 @@ static REQUESTS: [Row; 11] = [
     Row {
         case: Case::Request,
         bytes: &[0x01, 0x03, 0x00, 0x00, 0x80],
+        events: "connection error 512; ",
+    },
+    // an index after the last of the static table, 98
+    Row {
+        case: Case::Request,
+        bytes: &[0x01, 0x04, 0x00, 0x00, 0xff, 0x24],
+        events: "connection error 512; ",
+    },
+    // an index of 2^64 or more
+    Row {
+        case: Case::Request,
+        bytes: &[
+            0x01, 0x0d, 0x00, 0x00, 0xff, 0xff, 0xff, 0xff, 0xff, 0xff, 0xff, 0xff, 0xff, 0xff,
+            0x7f,
+        ],
+        events: "connection error 512; ",
+    },
+    // Huffman text that is a padding of eight bits
+    Row {
+        case: Case::Request,
+        bytes: &[0x01, 0x05, 0x00, 0x00, 0x51, 0x81, 0xff],
+        events: "connection error 512; ",
+    },
+    // a Required Insert Count of 1
+    Row {
+        case: Case::Request,
+        bytes: &[0x01, 0x08, 0x01, 0x00, 0xd1, 0xd7, 0xc1, 0x50, 0x01, 0x61],
+        events: "connection error 512; ",
+    },
+    // a Sign bit of 1, with a Delta Base of 0 and of 5
+    Row {
+        case: Case::Request,
+        bytes: &[0x01, 0x08, 0x00, 0x80, 0xd1, 0xd7, 0xc1, 0x50, 0x01, 0x61],
+        events: "connection error 512; ",
+    },
+    Row {
+        case: Case::Request,
+        bytes: &[0x01, 0x08, 0x00, 0x85, 0xd1, 0xd7, 0xc1, 0x50, 0x01, 0x61],
+        events: "connection error 512; ",
+    },
+    // a Delta Base of 5 without it
+    Row {
+        case: Case::Request,
+        bytes: &[0x01, 0x08, 0x00, 0x05, 0xd1, 0xd7, 0xc1, 0x50, 0x01, 0x61],
+        events: "request 4; end; ",
+    },
+    // trailers with a Required Insert Count of 1
+    Row {
+        case: Case::Request,
+        bytes: &[
+            0x01, 0x08, 0x00, 0x00, 0xd1, 0xd7, 0xc1, 0x50, 0x01, 0x61, 0x01, 0x06, 0x01, 0x00,
+            0x21, 0x78, 0x01, 0x79,
+        ],
+        events: "request 4; connection error 512; ",
+    },
+    // no prefix, and one that is cut
+    Row {
+        case: Case::Request,
+        bytes: &[0x01, 0x00],
+        events: "connection error 512; ",
+    },
+    Row {
+        case: Case::Request,
+        bytes: &[0x01, 0x01, 0x00],
         events: "connection error 512; ",
     },
     // DATA before HEADERS
@@ -101,7 +183,7 @@ static REQUESTS: [Row; 11] = [
 ];
 
 /// CONNECT a:1 and its answers.
-static TUNNELS: [Row; 5] = [
+static TUNNELS: [Row; 9] = [
     Row {
         case: Case::Request,
         bytes: &[
@@ -126,6 +208,35 @@ static TUNNELS: [Row; 5] = [
         ],
         events: "request 2; data 1; connection error 261; ",
     },
+    // the response to CONNECT, with a content-length, which means nothing
+    Row {
+        case: Case::Response(Asked::Connect),
+        bytes: &[
+            0x01, 0x06, 0x00, 0x00, 0xd9, 0x54, 0x01, 0x33, 0x00, 0x01, 0x61,
+        ],
+        events: "response 200; data 1; end; ",
+    },
+    // the head of HEADERS in a tunnel, after an unknown frame
+    Row {
+        case: Case::Answered(200),
+        bytes: &[
+            0x01, 0x08, 0x00, 0x00, 0xcf, 0x50, 0x03, 0x61, 0x3a, 0x31, 0x21, 0x01, 0x00, 0x00,
+            0x01, 0x61, 0x01, 0x40, 0x64,
+        ],
+        events: "request 2; data 1; connection error 261; ",
+    },
+    // the head of PUSH_PROMISE in a tunnel, at a client
+    Row {
+        case: Case::Response(Asked::Connect),
+        bytes: &[0x01, 0x03, 0x00, 0x00, 0xd9, 0x00, 0x01, 0x61, 0x05, 0x03],
+        events: "response 200; data 1; connection error 261; ",
+    },
+    // a DATA frame that is cut in a tunnel
+    Row {
+        case: Case::Response(Asked::Connect),
+        bytes: &[0x01, 0x03, 0x00, 0x00, 0xd9, 0x00, 0x02, 0x61],
+        events: "response 200; data 1; connection error 262; ",
+    },
     // trailers after a refusal
     Row {
         case: Case::Answered(405),
@@ -147,7 +258,7 @@ static TUNNELS: [Row; 5] = [
 ];
 
 /// Responses.
-static RESPONSES: [Row; 8] = [
+static RESPONSES: [Row; 12] = [
     Row {
         case: Case::Response(Asked::Other),
         bytes: &[0x01, 0x03, 0x00, 0x00, 0xd9, 0x00, 0x02, 0x61, 0x62],
@@ -180,6 +291,29 @@ static RESPONSES: [Row; 8] = [
         bytes: &[0x01, 0x03, 0x00, 0x00, 0xd9, 0x00, 0x01, 0x61],
         events: "response 200; malformed: the content is longer than announced; ",
     },
+    // HEAD, with content-length 3 and no content
+    Row {
+        case: Case::Response(Asked::Head),
+        bytes: &[0x01, 0x06, 0x00, 0x00, 0xd9, 0x54, 0x01, 0x33],
+        events: "response 200; end; ",
+    },
+    // 204 with content-length 3 and no content, and with a byte of content
+    Row {
+        case: Case::Response(Asked::Other),
+        bytes: &[0x01, 0x07, 0x00, 0x00, 0xff, 0x01, 0x54, 0x01, 0x33],
+        events: "response 204; end; ",
+    },
+    Row {
+        case: Case::Response(Asked::Other),
+        bytes: &[0x01, 0x04, 0x00, 0x00, 0xff, 0x01, 0x00, 0x01, 0x61],
+        events: "response 204; malformed: the content is longer than announced; ",
+    },
+    // 304 with a byte of content
+    Row {
+        case: Case::Response(Asked::Other),
+        bytes: &[0x01, 0x03, 0x00, 0x00, 0xda, 0x00, 0x01, 0x61],
+        events: "response 304; malformed: the content is longer than announced; ",
+    },
     // 304 with content-length 3 and no content
     Row {
         case: Case::Response(Asked::Other),
@@ -205,7 +339,8 @@ static RESPONSES: [Row; 8] = [
 
 /// Compares the events of a row with those wanted, however its bytes are cut.
 pub(crate) fn check<R: Abort>(rt: &R, alloc: Global, row: &Row) {
-    for size in 1..row.bytes.len().saturating_add(2) {
+    let len = row.case.prefix().len().saturating_add(row.bytes.len());
+    for size in 1..len.saturating_add(2) {
         let Ok(events) = play(alloc, row.case, row.bytes, size) else {
             continue;
         };
@@ -236,5 +371,32 @@ fn tunnels_by_their_rules(rt: HostRuntime) {
 fn responses_by_their_rules(rt: HostRuntime) {
     for row in &RESPONSES {
         check(&rt, rt.alloc(), row);
+    }
+}
+
+#[test]
+fn interim_responses_have_a_bound(rt: HostRuntime) {
+    let mut bytes = Vec::new(rt.alloc());
+    let mut wanted = String::new(rt.alloc());
+    for _interim in 0..65u32 {
+        if bytes.extend_from_slice(b"\x01\x03\x00\x00\xd8").is_err() {
+            return;
+        }
+    }
+    for _interim in 0..64u32 {
+        if wanted.push_str("interim 103; ").is_err() {
+            return;
+        }
+    }
+    if wanted.push_str("stream error 263; ").is_err() {
+        return;
+    }
+    for size in [1usize, 400] {
+        let case = Case::Response(Asked::Other);
+        let Ok(events) = play(rt.alloc(), case, bytes.as_slice(), size) else {
+            continue;
+        };
+        let came = events.as_str();
+        assert!(rt; came == wanted.as_str(), "at most {size} bytes: {came}");
     }
 }

@@ -17,11 +17,31 @@ pub(crate) enum Case {
     Response(Asked),
     /// A request, at a server that answers it with this status.
     Answered(u32),
-    /// The same with WebTransport, after SETTINGS of the client.
+    /// What follows [`REQUEST`], at a server with WebTransport that answers it with this status, after
+    /// SETTINGS of the client.
     Session(u32),
     /// The same before its SETTINGS.
     Early(u32),
+    /// A request for a session and what follows it, at the same server.
+    Recorded(u32),
 }
+
+impl Case {
+    /// Returns what comes on the stream before the bytes of a row.
+    pub(crate) fn prefix(self) -> &'static [u8] {
+        match self {
+            Case::Session(_) | Case::Early(_) => REQUEST.as_slice(),
+            _ => &[],
+        }
+    }
+}
+
+/// CONNECT https://a/ for a session, in a HEADERS frame.
+pub(crate) static REQUEST: [u8; 34] = [
+    0x01, 0x20, 0x00, 0x00, 0xcf, 0xd7, 0xc1, 0x50, 0x01, 0x61, 0x27, 0x02, 0x3a, 0x70, 0x72, 0x6f,
+    0x74, 0x6f, 0x63, 0x6f, 0x6c, 0x0c, 0x77, 0x65, 0x62, 0x74, 0x72, 0x61, 0x6e, 0x73, 0x70, 0x6f,
+    0x72, 0x74,
+];
 
 /// The control stream of a client with WebTransport, as Chromium 156 sent it.
 pub(crate) const CONTROL: [u8; 63] = [
@@ -46,6 +66,7 @@ pub(crate) fn configure(connection: &mut Connection, fields: &mut Fields) {
 pub(crate) fn server(webtransport: bool) -> Connection {
     let mut endpoint = Endpoint::new(Side::Server);
     endpoint.webtransport = webtransport;
+    endpoint.datagrams = webtransport;
     Connection::new(endpoint, true)
 }
 
@@ -113,6 +134,11 @@ impl Player {
                 write!(self.text, "session closed {code} {reason}; ")
             }
             Event::SessionLost => write!(self.text, "session lost; "),
+            Event::Datagram(payload) => {
+                let text = str::from_utf8(payload.as_slice()).unwrap_or("not UTF-8");
+                write!(self.text, "datagram {text}; ")
+            }
+            Event::Draining => write!(self.text, "draining; "),
             Event::Waits(Waits::Settings) => write!(self.text, "waits for settings; "),
             Event::TooLarge(_) => write!(self.text, "too large; "),
             Event::Malformed(rule) => write!(self.text, "malformed: {rule}; "),
@@ -131,25 +157,28 @@ impl Player {
     }
 }
 
-/// Returns the text of the events of a stream of which `size` bytes come at a time, the last ones
-/// with the end of the stream.
+/// Returns the text of the events of a stream with these bytes after its prefix, of which `size` bytes
+/// come at a time, the last ones with the end of the stream.
 pub(crate) fn play(
     alloc: Global,
     case: Case,
     bytes: &[u8],
     size: usize,
 ) -> Result<String, AllocError> {
+    let mut whole = Vec::from_slice(alloc, case.prefix())?;
+    whole.extend_from_slice(bytes)?;
+    let bytes = whole.as_slice();
     let limit = match case {
-        Case::Session(_) | Case::Early(_) => 4096,
+        Case::Session(_) | Case::Early(_) | Case::Recorded(_) => 4096,
         _ => 300,
     };
     let mut fields = Fields::new(alloc, limit);
     let mut connection = match case {
         Case::Response(_) => Connection::new(Endpoint::new(Side::Client), true),
         Case::Request | Case::Answered(_) => server(false),
-        Case::Session(_) | Case::Early(_) => server(true),
+        Case::Session(_) | Case::Early(_) | Case::Recorded(_) => server(true),
     };
-    if let Case::Session(_) = case {
+    if let Case::Session(_) | Case::Recorded(_) = case {
         configure(&mut connection, &mut fields);
     }
     let mut stream = match case {
@@ -168,9 +197,10 @@ pub(crate) fn play(
         let received = connection.receive(&mut stream, piece, is_last, &mut fields);
         if let Event::Waits(Waits::Answer) = received.event {
             match case {
-                Case::Answered(status) | Case::Session(status) | Case::Early(status) => {
-                    stream.answer(status);
-                }
+                Case::Answered(status)
+                | Case::Session(status)
+                | Case::Early(status)
+                | Case::Recorded(status) => stream.answer(status),
                 _ if is_last => {
                     player.take(&received)?;
                     break;

@@ -1,43 +1,29 @@
 //! Sessions on their own streams (draft-ietf-webtrans-http3-02, sections 3 and 5; RFC 9297, section 3.3;
 //! RFC 9114, section 4.4).
 use crate::messages::{Row, check};
-use crate::playing::{Case, configure, server};
+use crate::playing::{Case, REQUEST, configure, play, server};
 use std::process::Abort;
 use wtp_connection::connection::Known;
 use wtp_frames::endpoint::{Endpoint, Side};
 use wtp_messages::response::Asked;
 use wtp_webtransport::connection::Connection;
-use wtp_webtransport::event::{Event, Waits};
+use wtp_webtransport::event::{Event, HeadersKind, Waits};
 use wtp_webtransport::fields::Fields;
 use wtp_webtransport::stream::Stream;
 
-/// CONNECT https://a/ for a session, in a HEADERS frame.
-pub(crate) static REQUEST: [u8; 34] = [
-    0x01, 0x20, 0x00, 0x00, 0xcf, 0xd7, 0xc1, 0x50, 0x01, 0x61, 0x27, 0x02, 0x3a, 0x70, 0x72, 0x6f,
-    0x74, 0x6f, 0x63, 0x6f, 0x6c, 0x0c, 0x77, 0x65, 0x62, 0x74, 0x72, 0x61, 0x6e, 0x73, 0x70, 0x6f,
-    0x72, 0x74,
-];
-
-/// Requests for a session, and what follows on their streams.
-static SESSIONS: [Row; 15] = [
+/// What follows a request for a session on its stream.
+static SESSIONS: [Row; 26] = [
     // the stream ends
     Row {
         case: Case::Session(200),
-        bytes: &[
-            0x01, 0x20, 0x00, 0x00, 0xcf, 0xd7, 0xc1, 0x50, 0x01, 0x61, 0x27, 0x02, 0x3a, 0x70,
-            0x72, 0x6f, 0x74, 0x6f, 0x63, 0x6f, 0x6c, 0x0c, 0x77, 0x65, 0x62, 0x74, 0x72, 0x61,
-            0x6e, 0x73, 0x70, 0x6f, 0x72, 0x74,
-        ],
+        bytes: &[],
         events: "session requested 5; session closed 0 ; end; ",
     },
     // CLOSE with the code 1 and a reason
     Row {
         case: Case::Session(200),
         bytes: &[
-            0x01, 0x20, 0x00, 0x00, 0xcf, 0xd7, 0xc1, 0x50, 0x01, 0x61, 0x27, 0x02, 0x3a, 0x70,
-            0x72, 0x6f, 0x74, 0x6f, 0x63, 0x6f, 0x6c, 0x0c, 0x77, 0x65, 0x62, 0x74, 0x72, 0x61,
-            0x6e, 0x73, 0x70, 0x6f, 0x72, 0x74, 0x00, 0x09, 0x68, 0x43, 0x06, 0x00, 0x00, 0x00,
-            0x01, 0x61, 0x62,
+            0x00, 0x09, 0x68, 0x43, 0x06, 0x00, 0x00, 0x00, 0x01, 0x61, 0x62,
         ],
         events: "session requested 5; session closed 1 ab; end; ",
     },
@@ -45,10 +31,7 @@ static SESSIONS: [Row; 15] = [
     Row {
         case: Case::Session(299),
         bytes: &[
-            0x01, 0x20, 0x00, 0x00, 0xcf, 0xd7, 0xc1, 0x50, 0x01, 0x61, 0x27, 0x02, 0x3a, 0x70,
-            0x72, 0x6f, 0x74, 0x6f, 0x63, 0x6f, 0x6c, 0x0c, 0x77, 0x65, 0x62, 0x74, 0x72, 0x61,
-            0x6e, 0x73, 0x70, 0x6f, 0x72, 0x74, 0x00, 0x04, 0x68, 0x43, 0x06, 0x00, 0x00, 0x05,
-            0x00, 0x00, 0x01, 0x61, 0x62,
+            0x00, 0x04, 0x68, 0x43, 0x06, 0x00, 0x00, 0x05, 0x00, 0x00, 0x01, 0x61, 0x62,
         ],
         events: "session requested 5; session closed 1 ab; end; ",
     },
@@ -56,10 +39,7 @@ static SESSIONS: [Row; 15] = [
     Row {
         case: Case::Session(200),
         bytes: &[
-            0x01, 0x20, 0x00, 0x00, 0xcf, 0xd7, 0xc1, 0x50, 0x01, 0x61, 0x27, 0x02, 0x3a, 0x70,
-            0x72, 0x6f, 0x74, 0x6f, 0x63, 0x6f, 0x6c, 0x0c, 0x77, 0x65, 0x62, 0x74, 0x72, 0x61,
-            0x6e, 0x73, 0x70, 0x6f, 0x72, 0x74, 0x00, 0x0a, 0x68, 0x43, 0x06, 0x00, 0x00, 0x00,
-            0x01, 0x61, 0x62, 0x00,
+            0x00, 0x0a, 0x68, 0x43, 0x06, 0x00, 0x00, 0x00, 0x01, 0x61, 0x62, 0x00,
         ],
         events: "session requested 5; session closed 1 ab; stream error 270; ",
     },
@@ -67,92 +47,134 @@ static SESSIONS: [Row; 15] = [
     Row {
         case: Case::Session(200),
         bytes: &[
-            0x01, 0x20, 0x00, 0x00, 0xcf, 0xd7, 0xc1, 0x50, 0x01, 0x61, 0x27, 0x02, 0x3a, 0x70,
-            0x72, 0x6f, 0x74, 0x6f, 0x63, 0x6f, 0x6c, 0x0c, 0x77, 0x65, 0x62, 0x74, 0x72, 0x61,
-            0x6e, 0x73, 0x70, 0x6f, 0x72, 0x74, 0x00, 0x09, 0x68, 0x43, 0x06, 0x00, 0x00, 0x00,
-            0x01, 0x61, 0x62, 0x21, 0x00,
+            0x00, 0x09, 0x68, 0x43, 0x06, 0x00, 0x00, 0x00, 0x01, 0x61, 0x62, 0x21, 0x00,
         ],
         events: "session requested 5; session closed 1 ab; stream error 270; ",
+    },
+    // HEADERS after CLOSE
+    Row {
+        case: Case::Session(200),
+        bytes: &[
+            0x00, 0x07, 0x68, 0x43, 0x04, 0x00, 0x00, 0x00, 0x01, 0x01, 0x06, 0x00, 0x00, 0x21,
+            0x78, 0x01, 0x79,
+        ],
+        events: "session requested 5; session closed 1 ; stream error 270; ",
     },
     // CLOSE of three bytes
     Row {
         case: Case::Session(200),
-        bytes: &[
-            0x01, 0x20, 0x00, 0x00, 0xcf, 0xd7, 0xc1, 0x50, 0x01, 0x61, 0x27, 0x02, 0x3a, 0x70,
-            0x72, 0x6f, 0x74, 0x6f, 0x63, 0x6f, 0x6c, 0x0c, 0x77, 0x65, 0x62, 0x74, 0x72, 0x61,
-            0x6e, 0x73, 0x70, 0x6f, 0x72, 0x74, 0x00, 0x06, 0x68, 0x43, 0x03, 0x00, 0x00, 0x00,
-        ],
+        bytes: &[0x00, 0x06, 0x68, 0x43, 0x03, 0x00, 0x00, 0x00],
         events: "session requested 5; stream error 270; session lost; ",
     },
     // a reason that is not UTF-8
     Row {
         case: Case::Session(200),
-        bytes: &[
-            0x01, 0x20, 0x00, 0x00, 0xcf, 0xd7, 0xc1, 0x50, 0x01, 0x61, 0x27, 0x02, 0x3a, 0x70,
-            0x72, 0x6f, 0x74, 0x6f, 0x63, 0x6f, 0x6c, 0x0c, 0x77, 0x65, 0x62, 0x74, 0x72, 0x61,
-            0x6e, 0x73, 0x70, 0x6f, 0x72, 0x74, 0x00, 0x08, 0x68, 0x43, 0x05, 0x00, 0x00, 0x00,
-            0x01, 0xff,
-        ],
+        bytes: &[0x00, 0x08, 0x68, 0x43, 0x05, 0x00, 0x00, 0x00, 0x01, 0xff],
         events: "session requested 5; stream error 270; session lost; ",
     },
     // CLOSE of 1029 bytes
     Row {
         case: Case::Session(200),
-        bytes: &[
-            0x01, 0x20, 0x00, 0x00, 0xcf, 0xd7, 0xc1, 0x50, 0x01, 0x61, 0x27, 0x02, 0x3a, 0x70,
-            0x72, 0x6f, 0x74, 0x6f, 0x63, 0x6f, 0x6c, 0x0c, 0x77, 0x65, 0x62, 0x74, 0x72, 0x61,
-            0x6e, 0x73, 0x70, 0x6f, 0x72, 0x74, 0x00, 0x04, 0x68, 0x43, 0x44, 0x05,
-        ],
+        bytes: &[0x00, 0x04, 0x68, 0x43, 0x44, 0x05],
         events: "session requested 5; stream error 270; session lost; ",
     },
     // the end within a capsule
     Row {
         case: Case::Session(200),
-        bytes: &[
-            0x01, 0x20, 0x00, 0x00, 0xcf, 0xd7, 0xc1, 0x50, 0x01, 0x61, 0x27, 0x02, 0x3a, 0x70,
-            0x72, 0x6f, 0x74, 0x6f, 0x63, 0x6f, 0x6c, 0x0c, 0x77, 0x65, 0x62, 0x74, 0x72, 0x61,
-            0x6e, 0x73, 0x70, 0x6f, 0x72, 0x74, 0x00, 0x04, 0x68, 0x43, 0x06, 0x00,
-        ],
+        bytes: &[0x00, 0x04, 0x68, 0x43, 0x06, 0x00],
         events: "session requested 5; stream error 270; session lost; ",
     },
     // a reserved capsule
     Row {
         case: Case::Session(200),
-        bytes: &[
-            0x01, 0x20, 0x00, 0x00, 0xcf, 0xd7, 0xc1, 0x50, 0x01, 0x61, 0x27, 0x02, 0x3a, 0x70,
-            0x72, 0x6f, 0x74, 0x6f, 0x63, 0x6f, 0x6c, 0x0c, 0x77, 0x65, 0x62, 0x74, 0x72, 0x61,
-            0x6e, 0x73, 0x70, 0x6f, 0x72, 0x74, 0x00, 0x04, 0x17, 0x02, 0x01, 0x02,
-        ],
+        bytes: &[0x00, 0x04, 0x17, 0x02, 0x01, 0x02],
         events: "session requested 5; session closed 0 ; end; ",
+    },
+    // WT_MAX_DATA of later drafts
+    Row {
+        case: Case::Session(200),
+        bytes: &[0x00, 0x06, 0x99, 0x0b, 0x4d, 0x3d, 0x01, 0x00],
+        events: "session requested 5; session closed 0 ; end; ",
+    },
+    // one of 2^62 - 1 bytes, which the end cuts
+    Row {
+        case: Case::Session(200),
+        bytes: &[
+            0x00, 0x0a, 0x17, 0xff, 0xff, 0xff, 0xff, 0xff, 0xff, 0xff, 0xff, 0x00,
+        ],
+        events: "session requested 5; stream error 270; session lost; ",
+    },
+    // a datagram
+    Row {
+        case: Case::Session(200),
+        bytes: &[0x00, 0x04, 0x00, 0x02, 0x61, 0x62],
+        events: "session requested 5; datagram ab; session closed 0 ; end; ",
+    },
+    // datagrams over three DATA frames, and one without a payload
+    Row {
+        case: Case::Session(200),
+        bytes: &[
+            0x00, 0x04, 0x00, 0x01, 0x61, 0x00, 0x00, 0x02, 0x00, 0x40, 0x00, 0x03, 0x00, 0x01,
+            0x62,
+        ],
+        events: "session requested 5; datagram a; datagram ; datagram b; session closed 0 ; end; ",
+    },
+    // a datagram, a reserved capsule and CLOSE in one DATA frame
+    Row {
+        case: Case::Session(200),
+        bytes: &[
+            0x00, 0x0f, 0x00, 0x01, 0x61, 0x17, 0x01, 0xff, 0x68, 0x43, 0x06, 0x00, 0x00, 0x00,
+            0x01, 0x61, 0x62,
+        ],
+        events: "session requested 5; datagram a; session closed 1 ab; end; ",
+    },
+    // the end within a datagram
+    Row {
+        case: Case::Session(200),
+        bytes: &[0x00, 0x03, 0x00, 0x02, 0x61],
+        events: "session requested 5; stream error 270; session lost; ",
+    },
+    // DRAIN, and a datagram after it
+    Row {
+        case: Case::Session(200),
+        bytes: &[0x00, 0x08, 0x80, 0x00, 0x78, 0xae, 0x00, 0x00, 0x01, 0x61],
+        events: "session requested 5; draining; datagram a; session closed 0 ; end; ",
+    },
+    // DRAIN with a value
+    Row {
+        case: Case::Session(200),
+        bytes: &[0x00, 0x06, 0x80, 0x00, 0x78, 0xae, 0x01, 0x61],
+        events: "session requested 5; stream error 270; session lost; ",
+    },
+    // content in a DATA frame that is cut
+    Row {
+        case: Case::Session(200),
+        bytes: &[0x00, 0x05, 0x00, 0x01, 0x61],
+        events: "session requested 5; datagram a; connection error 262; ",
     },
     // HEADERS in an open session
     Row {
         case: Case::Session(200),
-        bytes: &[
-            0x01, 0x20, 0x00, 0x00, 0xcf, 0xd7, 0xc1, 0x50, 0x01, 0x61, 0x27, 0x02, 0x3a, 0x70,
-            0x72, 0x6f, 0x74, 0x6f, 0x63, 0x6f, 0x6c, 0x0c, 0x77, 0x65, 0x62, 0x74, 0x72, 0x61,
-            0x6e, 0x73, 0x70, 0x6f, 0x72, 0x74, 0x01, 0x06, 0x00, 0x00, 0x21, 0x78, 0x01, 0x79,
-        ],
+        bytes: &[0x01, 0x06, 0x00, 0x00, 0x21, 0x78, 0x01, 0x79],
+        events: "session requested 5; connection error 261; ",
+    },
+    // the head of HEADERS in an open session
+    Row {
+        case: Case::Session(200),
+        bytes: &[0x01, 0x06],
         events: "session requested 5; connection error 261; ",
     },
     // a session that is refused
     Row {
         case: Case::Session(404),
-        bytes: &[
-            0x01, 0x20, 0x00, 0x00, 0xcf, 0xd7, 0xc1, 0x50, 0x01, 0x61, 0x27, 0x02, 0x3a, 0x70,
-            0x72, 0x6f, 0x74, 0x6f, 0x63, 0x6f, 0x6c, 0x0c, 0x77, 0x65, 0x62, 0x74, 0x72, 0x61,
-            0x6e, 0x73, 0x70, 0x6f, 0x72, 0x74, 0x00, 0x01, 0x61,
-        ],
+        bytes: &[0x00, 0x01, 0x61],
         events: "session requested 5; data 1; end; ",
     },
     // a request before SETTINGS
     Row {
         case: Case::Early(200),
         bytes: &[
-            0x01, 0x20, 0x00, 0x00, 0xcf, 0xd7, 0xc1, 0x50, 0x01, 0x61, 0x27, 0x02, 0x3a, 0x70,
-            0x72, 0x6f, 0x74, 0x6f, 0x63, 0x6f, 0x6c, 0x0c, 0x77, 0x65, 0x62, 0x74, 0x72, 0x61,
-            0x6e, 0x73, 0x70, 0x6f, 0x72, 0x74, 0x00, 0x09, 0x68, 0x43, 0x06, 0x00, 0x00, 0x00,
-            0x01, 0x61, 0x62,
+            0x00, 0x09, 0x68, 0x43, 0x06, 0x00, 0x00, 0x00, 0x01, 0x61, 0x62,
         ],
         events: "waits for settings; session requested 5; session closed 1 ab; end; ",
     },
@@ -168,7 +190,7 @@ static SESSIONS: [Row; 15] = [
     },
     // a session of Chromium 156: a reserved capsule over two DATA frames, and CLOSE
     Row {
-        case: Case::Session(200),
+        case: Case::Recorded(200),
         bytes: &[
             0x01, 0x40, 0x83, 0x00, 0x00, 0xd7, 0xcf, 0x50, 0x8a, 0x08, 0x9d, 0x5c, 0x0b, 0x81,
             0x70, 0xdc, 0x69, 0xa6, 0x59, 0x51, 0x90, 0x60, 0x93, 0x8d, 0x3f, 0xe5, 0x87, 0x3d,
@@ -193,7 +215,7 @@ static SESSIONS: [Row; 15] = [
 ];
 
 /// Responses to a request for a session.
-static RESPONSES: [Row; 5] = [
+static RESPONSES: [Row; 9] = [
     // accepted
     Row {
         case: Case::Response(Asked::Session),
@@ -202,6 +224,12 @@ static RESPONSES: [Row; 5] = [
             0x61, 0x62,
         ],
         events: "session ready 200; session closed 1 ab; end; ",
+    },
+    // the head of PUSH_PROMISE in a session
+    Row {
+        case: Case::Response(Asked::Session),
+        bytes: &[0x01, 0x03, 0x00, 0x00, 0xd9, 0x05, 0x03],
+        events: "session ready 200; connection error 261; ",
     },
     // refused
     Row {
@@ -220,6 +248,27 @@ static RESPONSES: [Row; 5] = [
         case: Case::Response(Asked::Session),
         bytes: &[0x01, 0x04, 0x00, 0x00, 0xff, 0x01],
         events: "malformed: the :status does not go with a session; ",
+    },
+    // 206
+    Row {
+        case: Case::Response(Asked::Session),
+        bytes: &[0x01, 0x04, 0x00, 0x00, 0xff, 0x02],
+        events: "malformed: the :status does not go with a session; ",
+    },
+    // a content-type
+    Row {
+        case: Case::Response(Asked::Session),
+        bytes: &[0x01, 0x04, 0x00, 0x00, 0xd9, 0xf4],
+        events: "malformed: a session's message has a field of content; ",
+    },
+    // refused, with trailers
+    Row {
+        case: Case::Response(Asked::Session),
+        bytes: &[
+            0x01, 0x03, 0x00, 0x00, 0xdb, 0x00, 0x01, 0x61, 0x01, 0x06, 0x00, 0x00, 0x21, 0x78,
+            0x01, 0x79,
+        ],
+        events: "rejected 404; data 1; trailers; end; ",
     },
     // no response
     Row {
@@ -241,6 +290,116 @@ fn responses_to_sessions(rt: HostRuntime) {
     for row in &RESPONSES {
         check(&rt, rt.alloc(), row);
     }
+}
+
+/// DATA of 65,541 bytes: the type and the length of a datagram of 65,536.
+static LONG: [u8; 10] = [0x00, 0x80, 0x01, 0x00, 0x05, 0x00, 0x80, 0x01, 0x00, 0x00];
+
+#[test]
+fn datagrams_that_are_too_long_are_dropped(rt: HostRuntime) {
+    let Ok(mut bytes) = Vec::from_slice(rt.alloc(), LONG.as_slice()) else {
+        return;
+    };
+    if bytes.extend_from_slice([7u8; 65_536].as_slice()).is_err()
+        || bytes.extend_from_slice(b"\x00\x03\x00\x01a").is_err()
+    {
+        return;
+    }
+    for size in [30_000usize, 70_000] {
+        let Ok(events) = play(rt.alloc(), Case::Session(200), bytes.as_slice(), size) else {
+            continue;
+        };
+        let came = events.as_str();
+        let wanted = "session requested 5; datagram a; session closed 0 ; end; ";
+        assert!(rt;
+            came == wanted,
+            "at most {size} bytes: {came}, and not {wanted}"
+        );
+    }
+}
+
+/// Returns an open session's own stream, at a server.
+fn open_session(connection: &mut Connection, fields: &mut Fields) -> Stream {
+    let mut stream = connection.accept(0);
+    for _turn in 0..3u32 {
+        connection.receive(&mut stream, REQUEST.as_slice(), false, fields);
+    }
+    stream.answer(200);
+    stream
+}
+
+/// Asserts that a session is over, and that no more comes of it.
+fn assert_over<R: Abort>(
+    rt: &R,
+    connection: &mut Connection,
+    stream: &mut Stream,
+    fields: &mut Fields,
+) {
+    assert_known(rt, connection, stream, "over");
+    let late = connection.receive(stream, b"\x00\x01a".as_slice(), true, fields);
+    let is_over = matches!(late.event, Event::More) && late.consumed == 3;
+    assert!(rt; is_over, "nothing comes after it");
+    let again = matches!(connection.reset(stream), Event::SessionLost);
+    assert!(rt; !again, "the session is lost once");
+}
+
+#[test]
+fn sessions_end_by_a_stop_and_by_abandon(rt: HostRuntime) {
+    let mut connection = server(true);
+    let mut fields = Fields::new(rt.alloc(), 1000);
+    configure(&mut connection, &mut fields);
+    let mut stream = open_session(&mut connection, &mut fields);
+    let lost = matches!(connection.stop(&mut stream), Event::SessionLost);
+    assert!(rt; lost, "a stop ends the session");
+    assert_over(&rt, &mut connection, &mut stream, &mut fields);
+    let again = matches!(connection.stop(&mut stream), Event::More);
+    assert!(rt; again, "a second stop says nothing");
+    let mut stream = open_session(&mut connection, &mut fields);
+    let lost = matches!(connection.abandon(&mut stream), Event::SessionLost);
+    assert!(rt; lost, "a session that is abandoned is lost");
+    assert_over(&rt, &mut connection, &mut stream, &mut fields);
+    let mut stream = connection.accept(8);
+    connection.receive(&mut stream, REQUEST.as_slice(), false, &mut fields);
+    let goes_on = matches!(connection.stop(&mut stream), Event::More);
+    assert!(rt; goes_on, "a stop before the answer says nothing");
+    assert_known(&rt, &connection, &stream, "coming");
+}
+
+#[test]
+fn no_session_has_an_event_after_the_connection(rt: HostRuntime) {
+    let mut connection = server(true);
+    let mut fields = Fields::new(rt.alloc(), 1000);
+    configure(&mut connection, &mut fields);
+    let mut stream = open_session(&mut connection, &mut fields);
+    let mut control = connection.accept(6);
+    let error = connection.receive(&mut control, b"\x00".as_slice(), false, &mut fields);
+    let is_error = matches!(error.event, Event::ConnectionError(_));
+    assert!(rt; is_error, "a second control stream ends the connection");
+    let stop = matches!(connection.stop(&mut stream), Event::More);
+    let reset = matches!(connection.reset(&mut stream), Event::More);
+    let abandon = matches!(connection.abandon(&mut stream), Event::More);
+    assert!(rt; stop && reset && abandon, "nothing is said of its session");
+}
+
+#[test]
+fn sessions_need_datagrams_of_both_ends(rt: HostRuntime) {
+    let mut endpoint = Endpoint::new(Side::Server);
+    endpoint.webtransport = true;
+    let mut connection = Connection::new(endpoint, true);
+    let mut fields = Fields::new(rt.alloc(), 1000);
+    configure(&mut connection, &mut fields);
+    assert!(rt;
+        !connection.allows_sessions(),
+        "the own SETTINGS do not enable datagrams"
+    );
+    let mut stream = connection.accept(0);
+    connection.receive(&mut stream, REQUEST.as_slice(), false, &mut fields);
+    let received = connection.receive(&mut stream, REQUEST.as_slice(), false, &mut fields);
+    let is_request = matches!(received.event, Event::Headers(HeadersKind::Request, _));
+    assert!(rt; is_request, "it is a request as any other");
+    let mut connection = server(true);
+    configure(&mut connection, &mut fields);
+    assert!(rt; connection.allows_sessions(), "both ends enable sessions");
 }
 
 /// Returns the name of what is known of a session.

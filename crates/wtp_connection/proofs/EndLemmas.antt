@@ -5,7 +5,7 @@ use Rattle.wtp_frames.specs.declared.endpoint.Side.TheVariants.{Client, Server}
 use Rattle.wtp_frames.specs.declared.fault.Fault.{Fault}
 use Rattle.wtp_frames.specs.declared.fault.Fault.TheVariants as fault
 use Rattle.wtp_frames.specs.declared.reader.Place.{Place}
-use Rattle.wtp_frames.specs.declared.reader.Place.TheVariants.{BeforeHeaders, Body, AfterTrailers, BeforeSettings, AfterSettings, Failed}
+use Rattle.wtp_frames.specs.declared.reader.Place.TheVariants.{BeforeHeaders, Body, AfterTrailers, Tunnel, BeforeSettings, AfterSettings, Failed}
 use Rattle.wtp_frames.specs.Reading.{by_end, incomplete}
 use Rattle.wtp_connection.specs.Opening.{is_control, is_closed}
 
@@ -22,6 +22,7 @@ pub critical_end : (side : Side) (p : Place) (n : ℕ) → is_closed (by_end sid
 critical_end side BeforeHeaders n = missing_end (n == 0) (Err (incomplete side)) (incomplete_end side)
 critical_end side Body n = missing_end (n == 0) (Ok tt) refl
 critical_end side AfterTrailers n = missing_end (n == 0) (Ok tt) refl
+critical_end side Tunnel n = missing_end (n == 0) (Ok tt) refl
 critical_end side BeforeSettings n = refl
 critical_end side (AfterSettings goaway push) n = refl
 critical_end side (Failed f) n = refl

@@ -9,6 +9,7 @@ use Rattle.wtp_frames.specs.declared.fault.Fault.{Fault}
 use Rattle.wtp_frames.specs.declared.fault.Fault.TheVariants as fault
 use Rattle.wtp_frames.specs.declared.reader.Place.{Place}
 use Rattle.wtp_frames.specs.declared.reader.Place.TheVariants.{BeforeSettings, AfterSettings}
+use Rattle.wtp_frames.specs.Tunnel.{after_connect}
 use Rattle.wtp_connection.specs.declared.stream.Purpose.{Purpose}
 use Rattle.wtp_connection.specs.declared.stream.Purpose.TheVariants as «for»
 use Rattle.wtp_connection.specs.declared.stream.Stream.{Stream}
@@ -28,6 +29,16 @@ abbrev pub is_control : Place → Bool
 is_control BeforeSettings = true
 is_control (AfterSettings goaway push) = true
 is_control other = false
+
+-- the stream of a CONNECT request that is answered with a 2xx status (RFC 9114, section 4.4)
+abbrev pub connected : Stream → Stream
+connected (Frames r given) = Frames (after_connect r) given
+connected other = other
+
+-- how many bytes of the payload of a frame that is given in pieces, or skipped, are still to come
+abbrev pub remaining_of : Stream → ℕ
+remaining_of (Frames r given) = r.remaining
+remaining_of other = 0
 
 -- a stream that may not be closed while the connection lasts (RFC 9114, section 6.2.1; RFC 9204,
 -- section 4.2)

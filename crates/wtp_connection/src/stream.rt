@@ -2,7 +2,7 @@
 //! draft-ietf-webtrans-http3-02, sections 4.1 and 4.2).
 ghost use Rattle.std.specs.Prelude.{◌≡◌, ◌≤◌, false, length, drop, None, Some, MatchOption, IfSome};
 ghost use Rattle.wtp_core.specs.Varint.{number_at};
-ghost use Rattle.wtp_connection.specs.Opening.{with_session, type_purpose, frames_purpose, uni_at, bi_at, stream_of, waits_for, is_critical as is_critical_is, is_for_critical, has_no_headers as has_no_headers_is, is_closed as is_closed_is, over_from, over_by, end_unopened};
+ghost use Rattle.wtp_connection.specs.Opening.{with_session, type_purpose, frames_purpose, uni_at, bi_at, stream_of, waits_for, is_critical as is_critical_is, connected, remaining_of, is_for_critical, has_no_headers as has_no_headers_is, is_closed as is_closed_is, over_from, over_by, end_unopened};
 ghost use Rattle.wtp_connection.specs.Streams.{known_by_stream};
 ghost use Rattle.wtp_frames.specs.Start.{message_reader};
 
@@ -109,6 +109,31 @@ impl Stream {
         match self {
             Stream::Waiting(session) => Some(*session),
             _ => None,
+        }
+    }
+
+    /// Says that the HEADERS that [`receive`](crate::connection::Connection::receive) returned are
+    /// those of a CONNECT request that is answered with a 2xx status, or of that response: of the
+    /// frames that are known DATA alone may follow, and any other one is `FrameUnexpected`, at its
+    /// head (RFC 9114, section 4.4). Nothing changes before HEADERS, after trailers, and on a stream
+    /// that is none of frames.
+    pub fn tunnel(&mut self)
+        ensures { self.new ≡ connected self.old }
+    {
+        if let Stream::Frames(reader, _) = self {
+            reader.tunnel();
+        }
+    }
+
+    /// Returns how many bytes of the payload of a frame that is returned in pieces, or skipped, are
+    /// still to come: after a piece of DATA those of its frame. It is 0 of a stream that is none of
+    /// frames.
+    pub fn remaining(&self) -> u64
+        ensures { result ≡ remaining_of self.now }
+    {
+        match self {
+            Stream::Frames(reader, _) => reader.remaining(),
+            _ => 0,
         }
     }
 

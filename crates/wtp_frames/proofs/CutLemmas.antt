@@ -6,7 +6,7 @@ use Rattle.wtp_core.specs.Varint.{bytes_at}
 use Rattle.wtp_frames.specs.declared.endpoint.Side.{Side}
 use Rattle.wtp_frames.specs.declared.fault.Fault.{Fault}
 use Rattle.wtp_frames.specs.declared.reader.Place.{Place}
-use Rattle.wtp_frames.specs.declared.reader.Place.TheVariants.{BeforeHeaders, Body, AfterTrailers, BeforeSettings, AfterSettings, Failed}
+use Rattle.wtp_frames.specs.declared.reader.Place.TheVariants.{BeforeHeaders, Body, AfterTrailers, Tunnel, BeforeSettings, AfterSettings, Failed}
 use Rattle.wtp_frames.specs.declared.reader.Reader.{Reader}
 use Rattle.wtp_frames.specs.declared.rules.Action.{Action}
 use Rattle.wtp_frames.specs.declared.rules.Action.TheVariants.{Give, Stream, Skip, SkipSection, Refuse}
@@ -48,6 +48,7 @@ after_nothing : (side : Side) (place : Place) → IsAfter side place []
 after_nothing side BeforeHeaders = tt
 after_nothing side Body = tt
 after_nothing side AfterTrailers = tt
+after_nothing side Tunnel = tt
 after_nothing side BeforeSettings = tt
 after_nothing side (AfterSettings goaway push) = tt
 after_nothing side (Failed f) = tt

@@ -72,11 +72,11 @@ section_run e j place next b n f more z y is t a s = elim (cases_lt e.max_sectio
   }
 ]
 
-data_action : (n : ℕ) (p : List ℕ) → HasRoom n p → data_frame n (length p) ≡ Stream
+pub data_action : (n : ℕ) (p : List ℕ) → HasRoom n p → data_frame n (length p) ≡ Stream
 data_action n [] l = rw (lt-ltb n 1024 l) refl
 data_action n (b ∷ p) l = rw (ne_eqb (length (b ∷ p)) 0 (λ z. omega (arith, z))) refl
 
-data_counted : (n : ℕ) (p : List ℕ) → HasRoom n p → after_data n (length p) ≡ count_data n p
+pub data_counted : (n : ℕ) (p : List ℕ) → HasRoom n p → after_data n (length p) ≡ count_data n p
 data_counted n [] l = counted_one n l
 data_counted n (b ∷ p) l = rw (ne_eqb (length (b ∷ p)) 0 (λ z. omega (arith, z))) refl
 

@@ -11,3 +11,4 @@ pub mod WrittenLemmas
 pub mod GrammarLemmas
 pub mod RowLemmas
 pub mod InterimLemmas
+pub mod TunnelLemmas

@@ -12,13 +12,13 @@ use Rattle.wtp_frames.specs.declared.frame_type.FrameType.TheVariants as kind
 use Rattle.wtp_frames.specs.declared.fault.Fault.{Fault}
 use Rattle.wtp_frames.specs.declared.fault.Fault.TheVariants as fault
 use Rattle.wtp_frames.specs.declared.reader.Place.{Place}
-use Rattle.wtp_frames.specs.declared.reader.Place.TheVariants.{BeforeHeaders, Body, AfterTrailers, BeforeSettings, AfterSettings, Failed}
+use Rattle.wtp_frames.specs.declared.reader.Place.TheVariants.{BeforeHeaders, Body, AfterTrailers, Tunnel, BeforeSettings, AfterSettings, Failed}
 use Rattle.wtp_frames.specs.declared.reader.Reader.{Reader}
 use Rattle.wtp_frames.specs.declared.reader.Move.TheVariants as move
 use Rattle.wtp_frames.specs.declared.rules.Action.{Action}
 use Rattle.wtp_frames.specs.declared.rules.Action.TheVariants.{Give, Stream, Skip, SkipSection, Refuse}
 use Rattle.wtp_frames.specs.FrameType.{type_of}
-use Rattle.wtp_frames.specs.Rules.{promised, without_content, before_headers, in_body, after_trailers, before_settings, number_frame, push_limit, after_settings, action_of, accepted}
+use Rattle.wtp_frames.specs.Rules.{promised, without_content, before_headers, in_body, after_trailers, in_tunnel, before_settings, number_frame, push_limit, after_settings, action_of, accepted}
 use Rattle.wtp_frames.specs.Item.{Item, Whole, Byte, TooLarge, Broken}
 use Rattle.wtp_frames.specs.Start.{between}
 use Rattle.wtp_frames.specs.Run.{Run, preceded, pieces, failed, streams, skips, skips_section, moved, breaks, head_at, by_place, by_payload, action_at, is_failed, run}
@@ -197,6 +197,12 @@ trailers_give e idle kind.WebTransport is = extension_case e.webtransport (witho
 trailers_give e idle kind.PushPromise is = promised_gives e.side is
 trailers_give e idle other is = cc
 
+pub tunnel_gives : (e : Endpoint) (idle : ℕ) (k : FrameType) (n : ℕ) → in_tunnel e idle k n ≡ Give → ⊥
+tunnel_gives e idle kind.Data n is = data_case (n == 0) idle is
+tunnel_gives e idle kind.Unknown n is = skipped idle is
+tunnel_gives e idle kind.WebTransport n is = extension_case e.webtransport (without_content idle Skip) fault.Frame (skipped idle) is
+tunnel_gives e idle other n is = cc
+
 small_settings : (k : FrameType) (n : ℕ) → before_settings k n ≡ Give → n ≤ 4096
 small_settings kind.Settings n is = bounded 4096 n (Refuse fault.ExcessiveLoad) (refuse_gives fault.ExcessiveLoad) is
 small_settings other n is = absurd (cc)
@@ -219,6 +225,7 @@ given_small : (e : Endpoint) (place : Place) (idle : ℕ) (k : FrameType) (n : �
 given_small e BeforeHeaders idle k n is = small_headers e idle k n is
 given_small e Body idle k n is = small_body e idle k n is
 given_small e AfterTrailers idle k n is = absurd (trailers_give e idle k is)
+given_small e Tunnel idle k n is = absurd (tunnel_gives e idle k n is)
 given_small e BeforeSettings idle k n is = small_settings k n is
 given_small e (AfterSettings goaway push) idle k n is = small_control e k n is
 given_small e (Failed f) idle k n is = absurd (cc)

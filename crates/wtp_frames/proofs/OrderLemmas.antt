@@ -9,16 +9,16 @@ use Rattle.wtp_frames.specs.declared.frame_type.FrameType.TheVariants as kind
 use Rattle.wtp_frames.specs.declared.fault.Fault.{Fault}
 use Rattle.wtp_frames.specs.declared.fault.Fault.TheVariants as fault
 use Rattle.wtp_frames.specs.declared.reader.Place.{Place}
-use Rattle.wtp_frames.specs.declared.reader.Place.TheVariants.{BeforeHeaders, Body, AfterTrailers, BeforeSettings, AfterSettings, Failed}
+use Rattle.wtp_frames.specs.declared.reader.Place.TheVariants.{BeforeHeaders, Body, AfterTrailers, Tunnel, BeforeSettings, AfterSettings, Failed}
 use Rattle.wtp_frames.specs.declared.reader.Reader.{Reader}
 use Rattle.wtp_frames.specs.declared.rules.Action.{Action}
 use Rattle.wtp_frames.specs.declared.rules.Action.TheVariants.{Give, Stream, Skip, SkipSection, Refuse}
 use Rattle.wtp_frames.specs.Grammar.{Names, NotAbove, NotBelow, TakesPushes}
 use Rattle.wtp_frames.specs.Item.{Item, Whole, Byte, TooLarge, Broken}
-use Rattle.wtp_frames.specs.Rules.{promised, without_content, webtransport, before_headers, in_body, after_trailers, before_settings, number_frame, push_limit, after_settings, action_of, one_number, is_request, not_above, goes_away, not_below, with_number, accepted, after_section}
+use Rattle.wtp_frames.specs.Rules.{promised, without_content, webtransport, before_headers, in_body, after_trailers, in_tunnel, before_settings, number_frame, push_limit, after_settings, action_of, one_number, is_request, not_above, goes_away, not_below, with_number, accepted, after_section}
 use Rattle.wtp_frames.specs.Run.{pieces, is_failed}
-use Rattle.wtp_frames.specs.Order.{IsBody, IsMessage, AreIds, IsControl, IsAfter, IsReader}
-use Rattle.wtp_frames.proofs.MoveLemmas.{promised_gives, trailers_give}
+use Rattle.wtp_frames.specs.Order.{IsBody, IsMessage, IsTunnel, AreIds, IsControl, IsAfter, IsReader, takes_data}
+use Rattle.wtp_frames.proofs.MoveLemmas.{promised_gives, trailers_give, tunnel_gives}
 
 -- ---- pieces of DATA
 
@@ -26,10 +26,14 @@ body_bytes : (bytes : List ℕ) (more : List Item) → IsBody more → IsBody (m
 body_bytes [] more h = h
 body_bytes (b ∷ bytes) more h = body_bytes bytes more h
 
-in_body_bytes : (side : Side) (place : Place) (bytes : List ℕ) (more : List Item) → place ≡ Body → IsAfter side place more → IsAfter side place (map Byte bytes ++ more)
-in_body_bytes side place bytes more e h =
-    let inside : IsBody more = subst (λ (p : Place). IsAfter side p more) e h in
-    subst (λ (p : Place). IsAfter side p (map Byte bytes ++ more)) (sym e) (body_bytes bytes more inside)
+tunnel_bytes : (bytes : List ℕ) (more : List Item) → IsTunnel more → IsTunnel (map Byte bytes ++ more)
+tunnel_bytes [] more h = h
+tunnel_bytes (b ∷ bytes) more h = tunnel_bytes bytes more h
+
+in_body_bytes : (side : Side) (place : Place) (bytes : List ℕ) (more : List Item) → takes_data place ≡ true → IsAfter side place more → IsAfter side place (map Byte bytes ++ more)
+in_body_bytes side Body bytes more e h = body_bytes bytes more h
+in_body_bytes side Tunnel bytes more e h = tunnel_bytes bytes more h
+in_body_bytes side other bytes more e h = absurd (cc)
 
 pub order_pieces : (r : Reader) (b : Bool) (bytes : List ℕ) → r.streamed ≡ b → 0 < r.remaining → IsReader r → (more : List Item) → IsAfter r.endpoint.side r.place more → IsAfter r.endpoint.side r.place (pieces b bytes ++ more)
 order_pieces r true bytes e some p more h = in_body_bytes r.endpoint.side r.place bytes more (p some e) h
@@ -41,6 +45,7 @@ pub order_broken : (side : Side) (place : Place) (f : Fault) → is_failed place
 order_broken side BeforeHeaders f e = tt
 order_broken side Body f e = tt
 order_broken side AfterTrailers f e = tt
+order_broken side Tunnel f e = tt
 order_broken side BeforeSettings f e = tt
 order_broken side (AfterSettings goaway push) f e = tt
 order_broken side (Failed g) f e = absurd (cc)
@@ -78,6 +83,12 @@ trailers_not e idle kind.WebTransport x h is = extension_not e idle x h is
 trailers_not e idle kind.PushPromise x h is = promised_not e.side x h is
 trailers_not e idle other x h is = h.refuse fault.FrameUnexpected is
 
+tunnel_skips : (e : Endpoint) (idle : ℕ) (k : FrameType) (n : ℕ) → in_tunnel e idle k n ≡ SkipSection → ⊥
+tunnel_skips e idle kind.Data n is = cond_not (n == 0) SkipSection (without_content idle Stream) Stream (cond_not (ltb idle 1024) SkipSection Stream (Refuse fault.ExcessiveLoad) (λ s. cc s) (λ s. cc s)) (λ s. cc s) is
+tunnel_skips e idle kind.Unknown n is = skipped_not idle SkipSection skips is
+tunnel_skips e idle kind.WebTransport n is = extension_not e idle SkipSection skips is
+tunnel_skips e idle other n is = cc
+
 headers_stream : (e : Endpoint) (idle : ℕ) (k : FrameType) (n : ℕ) → before_headers e idle k n ≡ Stream → ⊥
 headers_stream e idle kind.Headers n is = cond_not (ltb e.max_section n) Stream SkipSection Give (λ s. cc s) (λ s. cc s) is
 headers_stream e idle kind.Unknown n is = skipped_not idle Stream streams is
@@ -105,10 +116,11 @@ ids_not e kind.WebTransport n x h g is = cond_not e.webtransport x (Refuse fault
 ids_not e other n x h g is = h.refuse fault.FrameUnexpected is
 
 -- only the body of a message is streamed
-pub streams_body : (e : Endpoint) (place : Place) (idle : ℕ) (k : FrameType) (n : ℕ) → action_of e place idle k n ≡ Stream → place ≡ Body
+pub streams_body : (e : Endpoint) (place : Place) (idle : ℕ) (k : FrameType) (n : ℕ) → action_of e place idle k n ≡ Stream → takes_data place ≡ true
 streams_body e BeforeHeaders idle k n is = absurd (headers_stream e idle k n is)
 streams_body e Body idle k n is = refl
 streams_body e AfterTrailers idle k n is = absurd (trailers_not e idle k Stream streams is)
+streams_body e Tunnel idle k n is = refl
 streams_body e BeforeSettings idle k n is = absurd (settings_not k n Stream streams (λ s. cc s) is)
 streams_body e (AfterSettings goaway push) idle k n is = absurd (ids_not e k n Stream streams (λ s. cc s) is)
 streams_body e (Failed f) idle k n is = absurd (cc)
@@ -118,6 +130,7 @@ pub order_section : (e : Endpoint) (place : Place) (idle : ℕ) (k : FrameType) 
 order_section e BeforeHeaders idle k n is more h = h
 order_section e Body idle k n is more h = h
 order_section e AfterTrailers idle k n is more h = absurd (trailers_not e idle k SkipSection skips is)
+order_section e Tunnel idle k n is more h = absurd (tunnel_skips e idle k n is)
 order_section e BeforeSettings idle k n is more h = absurd (settings_not k n SkipSection skips (λ s. cc s) is)
 order_section e (AfterSettings goaway push) idle k n is more h = absurd (ids_not e k n SkipSection skips (λ s. cc s) is)
 order_section e (Failed f) idle k n is more h = absurd (cc)
@@ -222,6 +235,7 @@ pub order_whole : (e : Endpoint) (place : Place) (idle : ℕ) (k : FrameType) (n
 order_whole e BeforeHeaders idle k n next payload t a more h = order_start e idle k n next payload t a more h
 order_whole e Body idle k n next payload t a more h = order_body e idle k n next payload t a more h
 order_whole e AfterTrailers idle k n next payload t a more h = absurd (trailers_give e idle k t)
+order_whole e Tunnel idle k n next payload t a more h = absurd (tunnel_gives e idle k n t)
 order_whole e BeforeSettings idle k n next payload t a more h = order_control e.side k n next payload t a more h
 order_whole e (AfterSettings goaway push) idle k n next payload t a more h = order_ids e goaway push k n next payload t a more h
 order_whole e (Failed f) idle k n next payload t a more h = absurd (cc)

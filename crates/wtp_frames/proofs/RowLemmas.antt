@@ -203,7 +203,7 @@ promise_server e h = any_stage e 0x05 fault.FrameUnexpected (λ idle n. ap promi
 pub promise_client : (e : Endpoint) → e.side ≡ Client → (s : Stage) → InMessage e s 0x05 0x0108 (scope_of fault.Id)
 promise_client e h = any_stage e 0x05 fault.Id (λ idle n. ap promised h) (λ idle n. ap promised h) (λ idle n. ap promised h)
 
-enabled : (e : Endpoint) (a : Action) → e.webtransport ≡ true → webtransport e a ≡ Refuse fault.Frame
+pub enabled : (e : Endpoint) (a : Action) → e.webtransport ≡ true → webtransport e a ≡ Refuse fault.Frame
 enabled e a h = rw h refl
 
 pub stream_type : (e : Endpoint) → e.webtransport ≡ true → (s : Stage) → InMessage e s 0x41 0x0106 (scope_of fault.Frame)
@@ -220,7 +220,7 @@ limit_server e n h = ap (λ (x : Side). push_limit x n) h
 
 -- ---- ends
 
-missing : (n : ℕ) (x : Result (Unit {0}) Fault) → 0 < n → by_missing n x ≡ Err fault.Frame
+pub missing : (n : ℕ) (x : Result (Unit {0}) Fault) → 0 < n → by_missing n x ≡ Err fault.Frame
 missing n x l = rw (ne_eqb n 0 (λ z. omega (arith, z, l))) refl
 
 pub cut_fails : (side : Side) (s : Stage) (n : ℕ) → 0 < n → Fails (by_end side (place_of s) n) 0x0106 (scope_of fault.Frame)

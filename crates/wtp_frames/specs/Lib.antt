@@ -10,3 +10,4 @@ pub mod Start
 pub mod Pieces
 pub mod Order
 pub mod Codes
+pub mod Tunnel

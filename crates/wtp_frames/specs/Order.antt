@@ -1,10 +1,10 @@
 -- In which order the frames of a stream may come (RFC 9114, sections 4.1, 6.2.1 and 7.2), and that
 -- nothing comes after a fault.
-use Rattle.std.specs.Prelude.{◌≡◌, ℕ, ◌<◌, List, [], ◌∷◌, Option, Some, None, true}
+use Rattle.std.specs.Prelude.{◌≡◌, ℕ, ◌<◌, List, [], ◌∷◌, Option, Some, None, Bool, true, false}
 use Rattle.wtp_frames.specs.declared.frame_type.FrameType.TheVariants as kind
 use Rattle.wtp_frames.specs.declared.endpoint.Side.{Side}
 use Rattle.wtp_frames.specs.declared.reader.Place.{Place}
-use Rattle.wtp_frames.specs.declared.reader.Place.TheVariants.{BeforeHeaders, Body, AfterTrailers, BeforeSettings, AfterSettings, Failed}
+use Rattle.wtp_frames.specs.declared.reader.Place.TheVariants.{BeforeHeaders, Body, AfterTrailers, Tunnel, BeforeSettings, AfterSettings, Failed}
 use Rattle.wtp_frames.specs.declared.reader.Reader.{Reader}
 use Rattle.wtp_frames.specs.Item.{Item, Whole, Byte, TooLarge, Broken}
 use Rattle.wtp_frames.specs.Rules.{one_number}
@@ -41,6 +41,13 @@ IsMessage (Byte b ∷ items) = ⊥
 IsMessage (TooLarge n ∷ items) = IsBody items
 IsMessage (Broken f ∷ items) = IsOver items
 
+-- bytes of DATA alone, after a CONNECT request that was answered with a 2xx status
+abbrev pub IsTunnel : List Item → Type 0
+IsTunnel [] = Unit {0}
+IsTunnel (Byte b ∷ items) = IsTunnel items
+IsTunnel (Broken f ∷ items) = IsOver items
+IsTunnel (other ∷ items) = ⊥
+
 -- ---- a control stream: SETTINGS once, and then IDs
 
 -- The IDs of GOAWAY never rise, and those of MAX_PUSH_ID never fall. There is no other frame.
@@ -72,10 +79,17 @@ abbrev pub IsAfter : Side → Place → List Item → Type 0
 IsAfter side BeforeHeaders items = IsMessage items
 IsAfter side Body items = IsBody items
 IsAfter side AfterTrailers items = IsTrailed items
+IsAfter side Tunnel items = IsTunnel items
 IsAfter side BeforeSettings items = IsControl side items
 IsAfter side (AfterSettings goaway push) items = AreIds side goaway push items
 IsAfter side (Failed f) items = IsOver items
 
+-- the places at which DATA may come
+abbrev pub takes_data : Place → Bool
+takes_data Body = true
+takes_data Tunnel = true
+takes_data other = false
+
 -- only a message gives pieces of DATA, after its HEADERS
 abbrev pub IsReader : Reader → Type 0
-IsReader r = 0 < r.remaining → r.streamed ≡ true → r.place ≡ Body
+IsReader r = 0 < r.remaining → r.streamed ≡ true → takes_data r.place ≡ true

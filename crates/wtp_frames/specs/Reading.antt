@@ -6,7 +6,7 @@ use Rattle.wtp_frames.specs.declared.endpoint.Side.TheVariants.{Client, Server}
 use Rattle.wtp_frames.specs.declared.fault.Fault.{Fault}
 use Rattle.wtp_frames.specs.declared.fault.Fault.TheVariants as fault
 use Rattle.wtp_frames.specs.declared.reader.Place.{Place}
-use Rattle.wtp_frames.specs.declared.reader.Place.TheVariants.{BeforeHeaders, Body, AfterTrailers, BeforeSettings, AfterSettings, Failed}
+use Rattle.wtp_frames.specs.declared.reader.Place.TheVariants.{BeforeHeaders, Body, AfterTrailers, Tunnel, BeforeSettings, AfterSettings, Failed}
 use Rattle.wtp_frames.specs.declared.reader.Reader.{Reader}
 use Rattle.wtp_frames.specs.declared.reader.Move.{Move}
 use Rattle.wtp_frames.specs.declared.reader.Move.TheVariants as move
@@ -28,6 +28,7 @@ abbrev pub longest : Endpoint → Place → ℕ
 longest e BeforeHeaders = e.max_section
 longest e Body = e.max_section
 longest e AfterTrailers = 0
+longest e Tunnel = 0
 longest e BeforeSettings = 4096
 longest e (AfterSettings goaway push) = 8
 longest e (Failed f) = 0
@@ -157,6 +158,7 @@ abbrev pub by_end : Side → Place → ℕ → Result (Unit {0}) Fault
 by_end side BeforeHeaders n = by_missing n (Err (incomplete side))
 by_end side Body n = by_missing n (Ok tt)
 by_end side AfterTrailers n = by_missing n (Ok tt)
+by_end side Tunnel n = by_missing n (Ok tt)
 by_end side BeforeSettings n = Err fault.ClosedCriticalStream
 by_end side (AfterSettings goaway push) n = Err fault.ClosedCriticalStream
 by_end side (Failed f) n = Ok tt

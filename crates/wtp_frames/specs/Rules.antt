@@ -9,7 +9,7 @@ use Rattle.wtp_frames.specs.declared.endpoint.Side.TheVariants.{Client, Server}
 use Rattle.wtp_frames.specs.declared.fault.Fault.{Fault}
 use Rattle.wtp_frames.specs.declared.fault.Fault.TheVariants as fault
 use Rattle.wtp_frames.specs.declared.reader.Place.{Place}
-use Rattle.wtp_frames.specs.declared.reader.Place.TheVariants.{BeforeHeaders, Body, AfterTrailers, BeforeSettings, AfterSettings, Failed}
+use Rattle.wtp_frames.specs.declared.reader.Place.TheVariants.{BeforeHeaders, Body, AfterTrailers, Tunnel, BeforeSettings, AfterSettings, Failed}
 use Rattle.wtp_frames.specs.declared.rules.Action.{Action}
 use Rattle.wtp_frames.specs.declared.rules.Action.TheVariants.{Give, Stream, Skip, SkipSection, Refuse}
 
@@ -60,6 +60,14 @@ after_trailers e idle kind.WebTransport = webtransport e (without_content idle S
 after_trailers e idle kind.PushPromise = promised e.side
 after_trailers e idle other = Refuse fault.FrameUnexpected
 
+-- on the stream of a CONNECT request that was answered with a 2xx status: of the known frames DATA
+-- alone may come (RFC 9114, section 4.4)
+abbrev pub in_tunnel : Endpoint → ℕ → FrameType → ℕ → Action
+in_tunnel e idle kind.Data n = data_frame idle n
+in_tunnel e idle kind.Unknown n = without_content idle Skip
+in_tunnel e idle kind.WebTransport n = webtransport e (without_content idle Skip)
+in_tunnel e idle other n = Refuse fault.FrameUnexpected
+
 -- on a control stream, before SETTINGS; more than 4096 bytes of them are too many
 abbrev pub before_settings : FrameType → ℕ → Action
 before_settings kind.Settings n = if nat_lt 4096 n then Refuse fault.ExcessiveLoad else Give
@@ -88,6 +96,7 @@ abbrev pub action_of : Endpoint → Place → ℕ → FrameType → ℕ → Acti
 action_of e BeforeHeaders idle k n = before_headers e idle k n
 action_of e Body idle k n = in_body e idle k n
 action_of e AfterTrailers idle k n = after_trailers e idle k
+action_of e Tunnel idle k n = in_tunnel e idle k n
 action_of e BeforeSettings idle k n = before_settings k n
 action_of e (AfterSettings goaway push) idle k n = after_settings e k n
 action_of e (Failed f) idle k n = Refuse f
@@ -136,6 +145,7 @@ abbrev pub accepted : Side → Place → FrameType → List ℕ → Result Place
 accepted side BeforeHeaders k payload = Ok Body
 accepted side Body k payload = Ok AfterTrailers
 accepted side AfterTrailers k payload = Err fault.FrameUnexpected
+accepted side Tunnel k payload = Err fault.FrameUnexpected
 accepted side BeforeSettings k payload = Ok (AfterSettings None None)
 accepted side (AfterSettings goaway push) k payload =
     with_number side goaway push k (one_number payload)

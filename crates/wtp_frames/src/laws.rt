@@ -1,6 +1,6 @@
 //! Laws of the definitions that the contracts cite. Each function does nothing: its contract is the
 //! law.
-ghost use Rattle.std.specs.Prelude.{◌≡◌, ℕ, ◌+◌, ◌%◌, ◌<◌, ◌≤◌, Bool, true, List, [], ◌∷◌, ◌++◌, length, Option, Some, None, Ok};
+ghost use Rattle.std.specs.Prelude.{◌≡◌, ℕ, ◌+◌, ◌%◌, ◌<◌, ◌≤◌, Bool, true, false, List, [], ◌∷◌, ◌++◌, map, length, Option, Some, None, Ok};
 ghost use Rattle.wtp_frames.specs.declared.endpoint.Endpoint.{Endpoint};
 ghost use Rattle.wtp_frames.specs.declared.reader.Reader.{Reader};
 ghost use Rattle.wtp_core.specs.declared.error.scope.ErrorScope.TheVariants.{Stream, Connection};
@@ -8,11 +8,12 @@ ghost use Rattle.wtp_core.specs.Varint.{Encodes};
 ghost use Rattle.wtp_frames.specs.declared.endpoint.Side.{Side};
 ghost use Rattle.wtp_frames.specs.declared.endpoint.Side.TheVariants.{Client, Server};
 ghost use Rattle.wtp_frames.specs.declared.frame_type.FrameType.TheVariants as kind;
-ghost use Rattle.wtp_frames.specs.declared.reader.Place.TheVariants.{BeforeHeaders, Body, AfterTrailers, BeforeSettings, AfterSettings};
-ghost use Rattle.wtp_frames.specs.Item.{Whole};
-ghost use Rattle.wtp_frames.specs.Grammar.{Frame, written, IsFrame, IsUnknown, Message, message_bytes, message_items, ValidMessage, Stage, NoHeaders, InContent, HasTrailers, stage, count, Ids, ids_bytes, ids_items, last_goaway, last_push, Interim, ValidInterim, ValidInterims};
+ghost use Rattle.wtp_frames.specs.declared.reader.Place.TheVariants.{BeforeHeaders, Body, AfterTrailers, Tunnel, BeforeSettings, AfterSettings};
+ghost use Rattle.wtp_frames.specs.Item.{Whole, Byte};
+ghost use Rattle.wtp_frames.specs.Grammar.{Frame, written, IsFrame, IsUnknown, Message, message_bytes, message_items, ValidMessage, Stage, NoHeaders, InContent, HasTrailers, stage, count, HasRoom, count_data, Ids, ids_bytes, ids_items, last_goaway, last_push, Interim, ValidInterim, ValidInterims};
 ghost use Rattle.wtp_frames.specs.Codes.{Reports, InMessage, IsSettled, AfterIds, OnControl, TooLong, NoNumber, Fails};
 ghost use Rattle.wtp_frames.specs.Run.{run, preceded, next_run, failed, stays};
+ghost use Rattle.wtp_frames.specs.Tunnel.{after_connect, InTunnel};
 ghost use Rattle.wtp_frames.specs.Interim.{after_interim, GivesSection, ReadsInterims, IsAwaiting, IsNoInterim};
 ghost use Rattle.wtp_frames.specs.Fault.{code_of, scope_of};
 ghost use Rattle.wtp_frames.specs.declared.fault.Fault.TheVariants as fault;
@@ -128,6 +129,34 @@ pub fn other_frames_are_no_interim_responses()
     ensures control { (e : Endpoint) (k : ℕ) (goaway push : Option ℕ) (s : Bool) (n : ℕ)
         → IsNoInterim (between e k (AfterSettings goaway push) s n) }
     ensures request { (r : Reader) → r.endpoint.side ≡ Server → IsNoInterim r }
+{}
+
+/// After a CONNECT request that was answered with a 2xx status DATA is read, and unknown frames are
+/// skipped. Any other frame is reported at its head.
+pub fn tunnels_have_data_alone()
+    ensures start { (e : Endpoint) (k n : ℕ) (s : Bool)
+        → after_connect (between e k Body s n) ≡ between e k Tunnel s n }
+    ensures data_frame { (e : Endpoint) (k n : ℕ) (s : Bool) (f : Frame) (more : List ℕ)
+        → IsFrame 0x00 f → HasRoom n f.payload
+        → run (between e k Tunnel s n) (written f ++ more)
+        ≡ preceded (map Byte f.payload) (run (between e k Tunnel true (count_data n f.payload)) more) }
+    ensures unknown { (e : Endpoint) (k n id : ℕ) (s : Bool) (f : Frame) (more : List ℕ)
+        → IsUnknown e.webtransport id → IsFrame id f → n < 1024
+        → run (between e k Tunnel s n) (written f ++ more)
+        ≡ preceded [] (run (between e k Tunnel false (n + 1)) more) }
+    ensures headers { (e : Endpoint) → InTunnel e 0x01 0x0105 Connection }
+    ensures cancel_push { (e : Endpoint) → InTunnel e 0x03 0x0105 Connection }
+    ensures settings { (e : Endpoint) → InTunnel e 0x04 0x0105 Connection }
+    ensures push_promise { (e : Endpoint) → InTunnel e 0x05 0x0105 Connection }
+    ensures goaway { (e : Endpoint) → InTunnel e 0x07 0x0105 Connection }
+    ensures max_push_id { (e : Endpoint) → InTunnel e 0x0d 0x0105 Connection }
+    ensures priority { (e : Endpoint) → InTunnel e 0x02 0x0105 Connection }
+    ensures ping { (e : Endpoint) → InTunnel e 0x06 0x0105 Connection }
+    ensures window_update { (e : Endpoint) → InTunnel e 0x08 0x0105 Connection }
+    ensures continuation { (e : Endpoint) → InTunnel e 0x09 0x0105 Connection }
+    ensures webtransport { (e : Endpoint) → e.webtransport ≡ true → InTunnel e 0x41 0x0106 Connection }
+    ensures end { (side : Side) (n : ℕ) → 0 < n → Fails (by_end side Tunnel n) 0x0106 Connection }
+    ensures complete { (side : Side) → by_end side Tunnel 0 ≡ Ok tt }
 {}
 
 /// Every control stream that the grammar has is read, in the same way.

@@ -5,6 +5,7 @@ ghost use Rattle.wtp_frames.specs.Run.{head_at, action_at, is_failed, counted as
 ghost use Rattle.wtp_frames.specs.Reading.{MoveIs, StepIs, payload_move as payload_move_is, all_passed, by_end};
 ghost use Rattle.wtp_frames.specs.Start.{message_reader, control_reader};
 ghost use Rattle.wtp_frames.specs.Interim.{ends_in_section as ends_in_section_is, after_interim};
+ghost use Rattle.wtp_frames.specs.Tunnel.{after_connect};
 
 use crate::endpoint::{Endpoint, Side};
 use crate::fault::Fault;
@@ -24,6 +25,8 @@ pub enum Place {
     Body,
     /// A message, after its trailers.
     AfterTrailers,
+    /// The stream of a CONNECT request that was answered with a 2xx status: DATA alone may follow.
+    Tunnel,
     /// A control stream, before SETTINGS.
     BeforeSettings,
     /// A control stream, after SETTINGS: the last GOAWAY and the last MAX_PUSH_ID.
@@ -159,6 +162,26 @@ impl Reader {
         }
         self.place = Place::Failed(Fault::TooManyInterim);
         Err(Fault::TooManyInterim)
+    }
+
+    /// Says that the HEADERS that [`next`](Self::next) returned are those of a CONNECT request that
+    /// is answered with a 2xx status, or of that response: of the frames that are known DATA alone
+    /// may follow (RFC 9114, section 4.4). Any other one is `FrameUnexpected`, at its head. Nothing
+    /// changes before HEADERS, and after trailers.
+    pub fn tunnel(&mut self)
+        ensures { self.new ≡ after_connect self.old }
+    {
+        if let Place::Body = self.place {
+            self.place = Place::Tunnel;
+        }
+    }
+
+    /// Returns how many bytes of the payload of the frame that is returned in pieces, or skipped,
+    /// are still to come. After a piece of DATA these are the bytes of its frame after the piece.
+    pub fn remaining(&self) -> u64
+        ensures { result ≡ self.now.remaining }
+    {
+        self.remaining
     }
 
     // Returns whether HEADERS are the last frame of a response.
@@ -301,7 +324,7 @@ impl Reader {
                     Side::Server => Err(Fault::RequestIncomplete),
                 }
             }
-            Place::Body | Place::AfterTrailers => {
+            Place::Body | Place::AfterTrailers | Place::Tunnel => {
                 if self.remaining > 0 || left > 0 {
                     return Err(Fault::Frame);
                 }

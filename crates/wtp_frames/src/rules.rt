@@ -1,7 +1,7 @@
 //! What a stream does with a frame, by its place in the stream (RFC 9114, sections 4.1, 6.2.1 and
 //! 7.2).
 ghost use Rattle.std.specs.Prelude.{◌≡◌, Some};
-ghost use Rattle.wtp_frames.specs.Rules.{action_of, after_trailers, after_settings as after_settings_is, promised as promised_is, without_content as without_content_is, webtransport as webtransport_is, section as section_is, number_frame as number_frame_is, accepted, one_number, with_number, not_above as not_above_is, not_below as not_below_is, after_section as after_section_is};
+ghost use Rattle.wtp_frames.specs.Rules.{action_of, after_trailers, in_tunnel as in_tunnel_is, data_frame as data_frame_is, after_settings as after_settings_is, promised as promised_is, without_content as without_content_is, webtransport as webtransport_is, section as section_is, number_frame as number_frame_is, accepted, one_number, with_number, not_above as not_above_is, not_below as not_below_is, after_section as after_section_is};
 
 use crate::endpoint::{Endpoint, Side};
 use crate::fault::Fault;
@@ -51,16 +51,11 @@ pub(crate) fn action_for(
         },
         Place::Body => match kind {
             FrameType::Headers => section(endpoint, len),
-            FrameType::Data => {
-                if len == 0 {
-                    without_content(idle, Action::Stream)
-                } else {
-                    Action::Stream
-                }
-            }
+            FrameType::Data => data_frame(idle, len),
             _ => anywhere(endpoint, idle, kind),
         },
         Place::AfterTrailers => anywhere(endpoint, idle, kind),
+        Place::Tunnel => in_tunnel(endpoint, idle, kind, len),
         Place::BeforeSettings => match kind {
             FrameType::Settings => {
                 if len > MAX_SETTINGS {
@@ -85,6 +80,27 @@ fn anywhere(endpoint: Endpoint, idle: u32, kind: FrameType) -> Action
         FrameType::WebTransport => { webtransport(endpoint, without_content(idle, Action::Skip)) }
         FrameType::PushPromise => promised(endpoint.side),
         _ => Action::Refuse(Fault::FrameUnexpected),
+    }
+}
+
+// A CONNECT request that was answered with a 2xx status has DATA alone (RFC 9114, section 4.4).
+fn in_tunnel(endpoint: Endpoint, idle: u32, kind: FrameType, len: u64) -> Action
+    ensures { result ≡ in_tunnel_is endpoint idle kind len }
+{
+    match kind {
+        FrameType::Data => data_frame(idle, len),
+        FrameType::PushPromise => Action::Refuse(Fault::FrameUnexpected),
+        _ => anywhere(endpoint, idle, kind),
+    }
+}
+
+fn data_frame(idle: u32, len: u64) -> Action
+    ensures { result ≡ data_frame_is idle len }
+{
+    if len == 0 {
+        without_content(idle, Action::Stream)
+    } else {
+        Action::Stream
     }
 }
 
@@ -165,7 +181,7 @@ pub(crate) fn accept(
     match place {
         Place::BeforeHeaders => Ok(Place::Body),
         Place::Body => Ok(Place::AfterTrailers),
-        Place::AfterTrailers => Err(Fault::FrameUnexpected),
+        Place::AfterTrailers | Place::Tunnel => Err(Fault::FrameUnexpected),
         Place::BeforeSettings => Ok(Place::AfterSettings(None, None)),
         Place::AfterSettings(goaway, push) => match number_alone(payload) {
             None => Err(Fault::Frame),

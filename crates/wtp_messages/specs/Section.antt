@@ -1,12 +1,12 @@
 -- The rules of every field section (RFC 9114, sections 4.2 and 4.3).
-use Rattle.std.specs.Prelude.{◌≡◌, ℕ, nat_lt, Bool, true, false, not, ◌&&◌, ◌||◌, if◌then◌else◌, List, [], ◌∷◌, length, codes}
+use Rattle.std.specs.Prelude.{◌≡◌, ℕ, nat_lt, Bool, true, false, not, ◌&&◌, ◌||◌, if◌then◌else◌, List, [], ◌∷◌, length, Option, None, codes}
 use Rattle.std.specs.List.{list_all, list_any}
 use Rattle.std.specs.Str.{bytes_eq, str_eq_ignore_ascii_case}
 use Rattle.wtp_qpack.specs.Field.{Field}
 use Rattle.wtp_fields.specs.FieldWriting.{is_field_value}
 use Rattle.wtp_fields.specs.FieldList.{values_of}
 use Rattle.wtp_messages.specs.Names.{is_pseudo, is_field_name, is_one_of}
-use Rattle.wtp_messages.specs.Length.{lengths_of, all_agree}
+use Rattle.wtp_messages.specs.Length.{lengths_of, all_agree, content_length}
 use Rattle.wtp_messages.specs.declared.section.SectionKind.{SectionKind}
 use Rattle.wtp_messages.specs.declared.section.SectionKind.TheVariants as section
 use Rattle.wtp_messages.specs.declared.malformed.Malformed.{Malformed}
@@ -81,6 +81,18 @@ are_pseudo_first (field ∷ fields) =
 abbrev pub is_repeated : List Field → List ℕ → Bool
 is_repeated fields name = nat_lt 1 (length (values_of name fields))
 
+-- ---- the length of the content
+
+-- A section of this kind may say how much content there is; a content-length in trailers says nothing
+-- (RFC 9110, section 6.5.1).
+abbrev pub announces : SectionKind → Bool
+announces section.Trailers = false
+announces other = true
+
+abbrev pub announced : SectionKind → List Field → Option ℕ
+announced section.Trailers fields = None
+announced other fields = content_length fields
+
 -- ---- the table
 
 -- The line breaks this rule.
@@ -96,7 +108,8 @@ line_breaks kind _ field = false
 abbrev pub whole_breaks : SectionKind → List Field → Malformed → Bool
 whole_breaks kind fields LatePseudoHeader = not (are_pseudo_first fields)
 whole_breaks kind fields RepeatedPseudoHeader = list_any (is_repeated fields) (pseudo_names kind)
-whole_breaks kind fields InvalidContentLength = not (all_agree (lengths_of fields))
+whole_breaks kind fields InvalidContentLength =
+    announces kind && not (all_agree (lengths_of fields))
 whole_breaks kind fields _ = false
 
 -- One of its lines breaks this rule of every section, or all together do.

@@ -2,9 +2,8 @@
 ghost use Rattle.std.specs.Prelude.{◌≡◌, true, false, not, MatchResult};
 ghost use Rattle.std.specs.List.{list_any};
 ghost use Rattle.wtp_qpack.specs.FieldLines.{seen_line};
-ghost use Rattle.wtp_messages.specs.Length.{content_length};
 ghost use Rattle.wtp_messages.specs.Names.{is_one_of};
-ghost use Rattle.wtp_messages.specs.Section.{connection_names, allows_te as allows_te_value, are_pseudo_first, is_repeated as is_repeated_name, pseudo_names, line_breaks, section_breaks, IsSection};
+ghost use Rattle.wtp_messages.specs.Section.{connection_names, allows_te as allows_te_value, are_pseudo_first, is_repeated as is_repeated_name, pseudo_names, line_breaks, section_breaks, announces as announces_is, announced, IsSection};
 
 use crate::length::read_length;
 use crate::malformed::Malformed;
@@ -25,7 +24,8 @@ pub enum SectionKind {
 /// Checks the trailer section of a request or response.
 ///
 /// Returns a rule that it breaks, if it breaks one. It may be any of those from
-/// [`Malformed::InvalidName`] to [`Malformed::InvalidContentLength`].
+/// [`Malformed::InvalidName`] to [`Malformed::RepeatedPseudoHeader`]. Other fields that belong into a
+/// header section, `content-length` among them, mean nothing here (RFC 9110, section 6.5.1).
 pub fn check_trailers(list: &FieldList) -> Result<(), Malformed>
     ensures { MatchResult result (λ _. IsSection SectionKind.Trailers list.now)
         (λ rule. section_breaks SectionKind.Trailers list.now rule ≡ true) }
@@ -34,12 +34,12 @@ pub fn check_trailers(list: &FieldList) -> Result<(), Malformed>
     Ok(())
 }
 
-/// Checks a section by the rules of every section, and returns its `content-length` if it has one.
+/// Checks a section by the rules of every section, and returns the `content-length` that it announces.
 /// Returns a rule that it breaks.
 #[tactic(auto, unfolding(crate::specs::Section::section_breaks))]
 pub(crate) fn check_section(list: &FieldList, kind: SectionKind) -> Result<Option<u64>, Malformed>
     ensures { MatchResult result
-        (λ length. IsSection kind list.now × (length ≡ content_length list.now))
+        (λ length. IsSection kind list.now × (length ≡ announced kind list.now))
         (λ rule. section_breaks kind list.now rule ≡ true) }
 {
     check_lines(list, kind)?;
@@ -49,7 +49,20 @@ pub(crate) fn check_section(list: &FieldList, kind: SectionKind) -> Result<Optio
     if has_repeated_pseudo(list, kind) {
         return Err(Malformed::RepeatedPseudoHeader);
     }
+    if !announces(kind) {
+        return Ok(None);
+    }
     read_length(list)
+}
+
+/// Returns whether a section of this kind may say how much content there is.
+fn announces(kind: SectionKind) -> bool
+    ensures { result ≡ announces_is kind }
+{
+    match kind {
+        SectionKind::Request | SectionKind::Response => true,
+        SectionKind::Trailers => false,
+    }
 }
 
 /// Checks each line by itself. Returns a rule that one breaks.

@@ -1,5 +1,5 @@
 -- Each call keeps the session of a stream, ends it or begins it.
-use Rattle.std.proofs.Common.{◌≡◌, ℕ, refl, sym, ap, ◌∙◌, cond, Bool, ◌&&◌, ◌||◌, not, true, false, List, Option, Some, None, Result, Ok, Err, length, nat_lt, ◌==◌, ◌-◌}
+use Rattle.std.proofs.Common.{◌≡◌, ℕ, refl, sym, ap, ◌∙◌, cond, Bool, ◌&&◌, ◌||◌, not, true, false, List, Option, Some, None, Result, Ok, Err, length, nat_lt, ◌==◌, ◌-◌, ◌+◌}
 use Rattle.wtp_core.specs.Varint.{number_at}
 use Rattle.wtp_core.specs.declared.error.scope.ErrorScope.{ErrorScope}
 use Rattle.wtp_core.specs.declared.error.scope.ErrorScope.TheVariants as scope
@@ -15,6 +15,9 @@ use Rattle.wtp_fields.specs.declared.fields.FieldSectionError.{FieldSectionError
 use Rattle.wtp_fields.specs.declared.fields.FieldSectionError.TheVariants as section_error
 use Rattle.wtp_messages.specs.declared.malformed.Malformed.{Malformed}
 use Rattle.wtp_messages.specs.declared.malformed.Malformed.TheVariants.{ContentTooLong}
+use Rattle.wtp_messages.specs.Content.{fits}
+use Rattle.wtp_connection.specs.Opening.{remaining_of}
+use Rattle.wtp_webtransport.specs.Prefix.{names_table}
 use Rattle.wtp_messages.specs.declared.message.Message.{Message}
 use Rattle.wtp_messages.specs.declared.message.Role.{Role}
 use Rattle.wtp_messages.specs.declared.response.Asked.{Asked}
@@ -22,10 +25,10 @@ use Rattle.wtp_messages.specs.declared.response.Asked.TheVariants as asked
 use Rattle.wtp_messages.specs.Message.{end_of}
 use Rattle.wtp_messages.specs.Response.{is_success}
 use Rattle.wtp_wire.specs.declared.capsule.CapsuleError.TheVariants as capsule_error
-use Rattle.wtp_wire.specs.declared.capsule.CapsuleKind.{CapsuleKind}
-use Rattle.wtp_wire.specs.declared.capsule.CapsuleKind.TheVariants.{CloseWebTransportSession}
 use Rattle.wtp_wire.specs.CloseSession.{close_in}
-use Rattle.wtp_wire.specs.Held.{Held}
+use Rattle.wtp_webtransport.specs.declared.capsules.CapsuleType.{CapsuleType}
+use Rattle.wtp_webtransport.specs.declared.capsules.CapsuleType.TheVariants as capsule
+use Rattle.wtp_webtransport.specs.Capsules.{Place, Found as Capsules}
 use Rattle.wtp_webtransport.specs.declared.fault.Fault.{Fault}
 use Rattle.wtp_webtransport.specs.declared.fault.Fault.TheVariants as fault
 use Rattle.wtp_webtransport.specs.declared.connection.Connection.{Connection}
@@ -44,8 +47,8 @@ use Rattle.wtp_webtransport.specs.Events.{Told}
 use Rattle.wtp_webtransport.specs.Events as told
 use Rattle.wtp_webtransport.specs.Fault.{scope_of}
 use Rattle.wtp_webtransport.specs.Sessions.{asks_of}
-use Rattle.wtp_webtransport.specs.Streams.{Found as Capsules, after_end, after_error, head_if, with_streams, with_frames, with_message, is_held, spoiled_if, due_by, GivesNext}
-use Rattle.wtp_webtransport.specs.Receiving.{Outcome, closed_in, fails, last, goaway_in, in_stream, leaves, malformed, spoiled, found_opened, content_by, closed_if, complete, capsule_found, CapsulesGive, ContentBy, DataBy, ends_by, SessionEndGives, Between, Within, EndBy, too_large_by, interim_by, request_by, response_in, takes, taken_of, ResultGives, span_in, SectionBy, FoundGives, UnreadBy, GoesOn, DueGives, StreamGives, ReceivesIf, Receives}
+use Rattle.wtp_webtransport.specs.Streams.{after_end, after_error, head_if, with_streams, with_frames, with_message, is_held, spoiled_if, due_by, GivesNext}
+use Rattle.wtp_webtransport.specs.Receiving.{Outcome, closed_in, fails, last, goaway_in, in_stream, leaves, malformed, spoiled, found_opened, content_by, closed_if, complete, capsule_found, CapsulesGive, ContentBy, DataBy, ends_by, SessionEndGives, Between, Within, EndBy, too_large_by, interim_by, request_by, response_in, takes, taken_of, ResultGives, PrefixGives, span_in, SectionBy, FoundGives, UnreadBy, GoesOn, DueGives, StreamGives, ReceivesIf, Receives}
 use Rattle.wtp_webtransport.specs.Endings.{begins_session, ends_session, Keeps, KeepsSession}
 
 -- ---- events that are neither
@@ -54,7 +57,7 @@ same : (b : Bool) → b ≡ ((b || false) && not false)
 same true = refl
 same false = refl
 
-over : (b : Bool) → false ≡ ((b || false) && not true)
+pub over : (b : Bool) → false ≡ ((b || false) && not true)
 over true = refl
 over false = refl
 
@@ -62,7 +65,7 @@ begun : (b : Bool) → true ≡ ((b || true) && not false)
 begun true = refl
 begun false = refl
 
-quiet : (p : Part) (told : Told) (q : Part)
+pub quiet : (p : Part) (told : Told) (q : Part)
     → begins_session told ≡ false
     → ends_session told ≡ false
     → is_held q ≡ is_held p
@@ -82,7 +85,7 @@ losing : Part → Bool
 losing part.Losing = true
 losing _ = false
 
-held_after_end : (p : Part) → is_held (after_end p) ≡ false
+pub held_after_end : (p : Part) → is_held (after_end p) ≡ false
 held_after_end (part.Session n) = refl
 held_after_end (part.Closed more) = refl
 held_after_end part.Ending = refl
@@ -106,18 +109,13 @@ held_message : (p : Part) (m : Message) → is_held (with_message p m) ≡ false
 held_message (part.Head n) m = refl
 held_message _ m = refl
 
-losing_held : (p : Part) → is_held p ≡ false → losing p ≡ false
-unfolding losing
-losing_held part.Losing h = h
-losing_held _ h = refl
-
 -- ---- errors and ends
 
-begins_fault : (c : Connection) (f : Fault) (k : ErrorScope) → begins_session (closed_in c f k).1 ≡ false
+pub begins_fault : (c : Connection) (f : Fault) (k : ErrorScope) → begins_session (closed_in c f k).1 ≡ false
 begins_fault c f scope.Stream = refl
 begins_fault c f _ = refl
 
-ends_fault : (c : Connection) (f : Fault) (k : ErrorScope) → ends_session (closed_in c f k).1 ≡ false
+pub ends_fault : (c : Connection) (f : Fault) (k : ErrorScope) → ends_session (closed_in c f k).1 ≡ false
 ends_fault c f scope.Stream = refl
 ends_fault c f _ = refl
 
@@ -157,23 +155,26 @@ closed_keeps (Some close) c s more end len h = record {
   only = λ t. h;
 }
 
-complete_keeps : (k : CapsuleKind) (c : Connection) (s : Stream) (value : List ℕ) (more : Bool) (end len : ℕ)
+complete_keeps : (k : CapsuleType) (c : Connection) (s : Stream) (value : List ℕ) (left end len : ℕ)
     → is_held s.part ≡ true
-    → KeepsSession s (complete k c s value more end len)
-complete_keeps CloseWebTransportSession c s value more end len h =
-    closed_keeps (close_in value) c s more end len h
+    → KeepsSession s (complete k c s value left end len)
+complete_keeps capsule.Close c s value left end len h =
+    closed_keeps (close_in value) c s (nat_lt 0 left) end len h
+complete_keeps capsule.Datagram c s value left end len h =
+    quiet s.part _ (part.Session left) refl refl (sym h)
+complete_keeps capsule.Drain c s value left end len h =
+    quiet s.part _ (part.Session left) refl refl (sym h)
 
-capsule_keeps : (r : Capsules) (c : Connection) (s : Stream) (b : List ℕ) (end len : ℕ)
+capsule_keeps : (r : Capsules) (c : Connection) (s : Stream) (left end len : ℕ)
     → is_held s.part ≡ true
-    → KeepsSession s (capsule_found r c s b end len)
-capsule_keeps (Ok None) c s b end len h = quiet s.part _ (part.Session 0) refl refl (sym h)
-capsule_keeps (Ok (Some x)) c s b end len h =
-    complete_keeps x.0 c s x.1 (nat_lt 0 (length b)) end len h
-capsule_keeps (Err capsule_error.TooLong) c s b end len h = spoiled_keeps c s len
-capsule_keeps (Err capsule_error.Memory) c s b end len h =
-    quiet s.part _ (part.Session (length b)) refl refl (sym h)
+    → KeepsSession s (capsule_found r c s left end len)
+capsule_keeps (Ok None) c s left end len h = quiet s.part _ (part.Session left) refl refl (sym h)
+capsule_keeps (Ok (Some x)) c s left end len h = complete_keeps x.0 c s x.1 left end len h
+capsule_keeps (Err capsule_error.TooLong) c s left end len h = spoiled_keeps c s len
+capsule_keeps (Err capsule_error.Memory) c s left end len h =
+    quiet s.part _ (part.Session left) refl refl (sym h)
 
-part_kept : (h : Option Held) (r : Capsules) (s : Stream) (a : List ℕ) (t : Stream) (b : List ℕ)
+part_kept : (h : Option Place) (r : Capsules) (s : Stream) (a : List ℕ) (t : Stream) (b : List ℕ)
     → GivesNext h r s a t b
     → t.part ≡ s.part
 part_kept None r s a t b g = ap (λ (x : Stream). x.part) g.1
@@ -188,9 +189,9 @@ capsules_keep : (c : Connection) (s : Stream) (piece : List ℕ) (end len : ℕ)
     → KeepsSession s o
 capsules_keep c s piece end len o h g =
     let same_part : g.1.part ≡ s.part = part_kept s.capsules g.0 s piece g.1 g.2 g.3 in
-    at s o (capsule_found g.0 c g.1 g.2 end len) g.4
+    at s o (capsule_found g.0 c g.1 (length g.2) end len) g.4
     (from_part s.part g.1.part _ _ same_part
-    (capsule_keeps g.0 c g.1 g.2 end len (ap is_held same_part ∙ h)))
+    (capsule_keeps g.0 c g.1 (length g.2) end len (ap is_held same_part ∙ h)))
 
 content_keeps : (b : Bool) (c : Connection) (s : Stream) (size : ℕ) (bytes : List ℕ) (o : Outcome)
     → is_held s.part ≡ true
@@ -201,34 +202,21 @@ content_keeps false c s size bytes o h g = capsules_keep c s _ size (length byte
 
 -- ---- messages
 
-piece_if : (s : Stream) (a b : Bool) (x y z : Outcome)
-    → KeepsSession s x
-    → KeepsSession s y
-    → KeepsSession s z
-    → KeepsSession s (cond a x (cond b y z))
-piece_if s true b x y z kx ky kz = kx
-piece_if s false true x y z kx ky kz = ky
-piece_if s false false x y z kx ky kz = kz
-
-piece_keeps : (left : Option ℕ) (c : Connection) (s : Stream) (m : Message) (start end : ℕ) (bytes : List ℕ)
+piece_keeps : (fit : Bool) (c : Connection) (s : Stream) (m : Message) (start end : ℕ) (bytes : List ℕ)
     → is_held s.part ≡ false
-    → KeepsSession s (content_by left c s m start end bytes)
-piece_keeps None c s m start end bytes h =
+    → KeepsSession s (content_by fit c s m start end bytes)
+piece_keeps true c s m start end bytes h =
     quiet s.part _ _ refl refl (held_message s.part _ ∙ sym h)
-piece_keeps (Some left) c s m start end bytes h =
-    piece_if s (left == 0) (nat_lt left (end - start)) _ _ _
-    (malformed_keeps c s ContentTooLong (length bytes) h)
-    (quiet s.part _ part.Exceeded refl refl (sym h))
-    (quiet s.part _ _ refl refl (held_message s.part _ ∙ sym h))
+piece_keeps false c s m start end bytes h = malformed_keeps c s ContentTooLong (length bytes) h
 
 data_keeps : (p : Part) (c : Connection) (s : Stream) (start end : ℕ) (bytes : List ℕ) (o : Outcome)
     → s.part ≡ p
     → DataBy p c s start end bytes o
     → KeepsSession s o
 data_keeps (part.Head m) c s start end bytes o e g =
-    at s o _ g (piece_keeps m.content.left c s m start end bytes (ap is_held e))
+    at s o _ g (piece_keeps (fits m.content.left ((end - start) + remaining_of s.frames)) c s m start end bytes (ap is_held e))
 data_keeps (part.Body m) c s start end bytes o e g =
-    at s o _ g (piece_keeps m.content.left c s m start end bytes (ap is_held e))
+    at s o _ g (piece_keeps (fits m.content.left ((end - start) + remaining_of s.frames)) c s m start end bytes (ap is_held e))
 data_keeps (part.Session n) c s start end bytes o e g =
     capsules_keep c s _ end (length bytes) o (ap is_held e) g
 data_keeps part.NoMessage c s start end bytes o e g =
@@ -271,16 +259,12 @@ end_keeps (part.Session n) c s len o f e g = session_end_keeps c s len o (ap is_
 end_keeps part.Losing c s len o f e g = absurd (no_longer s.part f e)
 end_keeps _ c s len o f e g = at s o _ g (last_keeps c s len (ap is_held e))
 
-too_large_keeps : (p : Part) (c : Connection) (s : Stream) (size : Option ℕ) (n len : ℕ)
-    → losing s.part ≡ false
+too_large_keeps : (p : Part) (c : Connection) (s : Stream) (size : Option ℕ) (n : ℕ)
     → s.part ≡ p
-    → KeepsSession s (too_large_by p c s size n len)
-too_large_keeps part.Tunnel c s size n len f e = fails_keeps c s fault.SectionInTunnel len
-too_large_keeps (part.Session k) c s size n len f e = fails_keeps c s fault.SectionInTunnel len
-too_large_keeps (part.Body m) c s size n len f e = quiet s.part _ s.part refl refl refl
-too_large_keeps part.Losing c s size n len f e = absurd (no_longer s.part f e)
-too_large_keeps _ c s size n len f e =
+    → KeepsSession s (too_large_by p c s size n)
+too_large_keeps (part.Head m) c s size n e =
     quiet s.part _ part.NoMessage refl refl (sym (ap is_held e))
+too_large_keeps _ c s size n e = quiet s.part _ s.part refl refl refl
 
 -- ---- field sections
 
@@ -333,24 +317,27 @@ result_keeps : (r : Result (List Field) FieldSectionError) (c : Connection) (s :
 result_keeps (Ok fields) c s m span o h g =
     at s o _ g.3 (takes_keeps (taken_of g.0) c s g.1 fields span h)
 result_keeps (Err section_error.TooLarge) c s m span o h g =
-    at s o _ g (too_large_keeps s.part c s None span.end span.len (losing_held s.part h) refl)
+    at s o _ g (too_large_keeps s.part c s None span.end refl)
 result_keeps (Err section_error.Memory) c s m span o h g =
     at s o _ g (quiet s.part _ s.part refl refl refl)
 result_keeps (Err (section_error.Decoding x)) c s m span o h g =
     at s o _ g (fails_keeps c s (fault.Section x) span.len)
+
+prefix_keeps : (names : Bool) (limit : ℕ) (c : Connection) (s : Stream) (m : Message) (span : Span) (bytes : List ℕ) (o : Outcome)
+    → is_held s.part ≡ false
+    → PrefixGives names limit c s m span bytes o
+    → KeepsSession s o
+prefix_keeps true limit c s m span bytes o h g = at s o _ g (fails_keeps c s fault.SectionPrefix span.len)
+prefix_keeps false limit c s m span bytes o h g = result_keeps g.0 c s m span o h g.2
 
 section_keeps : (p : Part) (limit : ℕ) (c : Connection) (s : Stream) (start end : ℕ) (bytes : List ℕ) (o : Outcome)
     → s.part ≡ p
     → SectionBy p limit c s start end bytes o
     → KeepsSession s o
 section_keeps (part.Head m) limit c s start end bytes o e g =
-    result_keeps g.0 c s m (span_in start end bytes) o (ap is_held e) g.2
+    prefix_keeps (names_table (slice start end bytes)) limit c s m (span_in start end bytes) bytes o (ap is_held e) g
 section_keeps (part.Body m) limit c s start end bytes o e g =
-    result_keeps g.0 c s m (span_in start end bytes) o (ap is_held e) g.2
-section_keeps part.Tunnel limit c s start end bytes o e g =
-    at s o _ g (fails_keeps c s fault.SectionInTunnel (length bytes))
-section_keeps (part.Session n) limit c s start end bytes o e g =
-    at s o _ g (fails_keeps c s fault.SectionInTunnel (length bytes))
+    prefix_keeps (names_table (slice start end bytes)) limit c s m (span_in start end bytes) bytes o (ap is_held e) g
 section_keeps _ limit c s start end bytes o e g =
     at s o _ g (quiet s.part _ s.part refl refl refl)
 
@@ -377,7 +364,7 @@ found_keeps (found.Frame _ start end) limit c s bytes o f g =
 found_keeps (found.Data start end) limit c s bytes o f g =
     data_keeps s.part c s start end bytes o refl g
 found_keeps (found.TooLarge size n) limit c s bytes o f g =
-    at s o _ g (too_large_keeps s.part c s (Some size) n (length bytes) f refl)
+    at s o _ g (too_large_keeps s.part c s (Some size) n refl)
 found_keeps (found.More n) limit c s bytes o f g =
     at s o _ g (quiet s.part _ s.part refl refl refl)
 found_keeps (found.Fault x) limit c s bytes o f g =
@@ -415,8 +402,6 @@ due_keeps : (p : Part) (empty : Bool) (limit : ℕ) (c : Connection) (s : Stream
 unfolding losing
 due_keeps (part.Unanswered session m) empty limit c s bytes fin o e g =
     at s o _ g (quiet s.part _ s.part refl refl refl)
-due_keeps part.Exceeded empty limit c s bytes fin o e g =
-    at s o _ g (malformed_keeps c s ContentTooLong (length bytes) (ap is_held e))
 due_keeps (part.Closed more) empty limit c s bytes fin o e g =
     spoiled_due_keeps (more || not empty) limit c s bytes fin o (ap losing e) g
 due_keeps (part.Session n) empty limit c s bytes fin o e g =

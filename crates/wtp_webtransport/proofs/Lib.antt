@@ -1,1 +1,5 @@
 pub mod EndingLemmas
+pub mod CapsuleLemmas
+pub mod HalfLemmas
+pub mod CutLemmas
+pub mod ContentLemmas

@@ -26,6 +26,8 @@ pub data Told : Type 0 where
   Rejected : ℕ → List Field → Told
   SessionClosed : ℕ × List ℕ → Told
   SessionLost : Told
+  Datagram : List ℕ → Told
+  Draining : Told
   Skipped : Told
   Data : List ℕ → Told
   StreamData : List ℕ → Told
@@ -52,6 +54,8 @@ told_of (event.SessionReady status fields) = SessionReady status fields
 told_of (event.Rejected status fields) = Rejected status fields
 told_of (event.SessionClosed close) = SessionClosed close
 told_of event.SessionLost = SessionLost
+told_of (event.Datagram payload) = Datagram payload.items
+told_of event.Draining = Draining
 told_of event.Skipped = Skipped
 told_of (event.Data piece) = Data piece.now
 told_of (event.StreamData piece) = StreamData piece.now

@@ -9,11 +9,11 @@ use Rattle.wtp_webtransport.specs.declared.fault.Fault.TheVariants as fault
 abbrev pub code_of : Fault → ℕ
 code_of (fault.Streams f) = streams_code f
 code_of (fault.Section e) = 0x0200
-code_of fault.SectionInTunnel = 0x0105
+code_of fault.SectionPrefix = 0x0200
 code_of fault.Capsule = 0x010e
 
--- a section that cannot be decoded, and a frame that may not come, end the connection; a capsule that
--- is invalid makes the message malformed
+-- a section that cannot be decoded ends the connection; a capsule that is invalid makes the message
+-- malformed
 abbrev pub scope_of : Fault → ErrorScope
 scope_of (fault.Streams f) = streams_scope f
 scope_of fault.Capsule = Stream

@@ -56,28 +56,42 @@ joins c s k =
 
 -- ---- streams that the peer resets, and those that are not read to their end
 
-abbrev pub reset_in : ErrorScope → Connection → Stream → StreamsFault → Outcome
-reset_in scope.Stream c s f = (Reset (Some (fault.Streams f)), c, s)
-reset_in other c s f = with_error s (closed_by c (fault.Streams f))
+-- a reset of a stream, or of one with an open session, which is lost
+abbrev pub reset_told : Bool → Option Fault → Told
+reset_told true f = SessionLost
+reset_told false f = Reset f
 
--- whether the stream has an open session, which is lost
+abbrev pub reset_in : ErrorScope → Bool → Connection → Stream → StreamsFault → Outcome
+reset_in scope.Stream held c s f = (reset_told held (Some (fault.Streams f)), c, ended s)
+reset_in other held c s f = with_error s (closed_by c (fault.Streams f))
+
 abbrev pub reset_by : Bool → Connection → Stream → After → Outcome
-reset_by true c s (d, t, None) = (SessionLost, with_streams c d, with_frames s t)
-reset_by false c s (d, t, None) = (Reset None, with_streams c d, with_frames s t)
-reset_by lost c s (d, t, Some f) =
-    reset_in (streams_scope f) (with_streams c d) (with_frames s t) f
+reset_by held c s (d, t, None) =
+    (reset_told held None, with_streams c d, ended (with_frames s t))
+reset_by held c s (d, t, Some f) =
+    reset_in (streams_scope f) held (with_streams c d) (with_frames s t) f
 
 abbrev pub resets : Connection → Stream → Outcome
 resets c s =
     if c.over
     then (More, c, s)
-    else reset_by (is_held s.part) c (ended s) (resets_frames c.streams s.frames)
+    else reset_by (is_held s.part) c s (resets_frames c.streams s.frames)
 
-abbrev pub abandoned_by : Connection → Stream → Streams × Frames → Connection × Stream
-abandoned_by c s x = (with_streams c x.0, with_frames s x.1)
+-- a stream with an open session that is read no further loses it
+abbrev pub lost_if : Bool → Told
+lost_if true = SessionLost
+lost_if false = More
 
-abbrev pub abandons : Connection → Stream → Connection × Stream
-abandons c s = abandoned_by c (ended s) (abandons_frames c.streams s.frames)
+abbrev pub abandoned_by : Connection → Stream → Streams × Frames → Outcome
+abandoned_by c s x = (lost_if (is_held s.part), with_streams c x.0, with_frames (ended s) x.1)
+
+abbrev pub abandons : Connection → Stream → Outcome
+abandons c s =
+    if c.over then (More, c, s) else abandoned_by c s (abandons_frames c.streams s.frames)
+
+-- the peer asks to stop the own half of a stream: a session whose own stream it is ends by that
+abbrev pub stops_half : Connection → Stream → Outcome
+stops_half c s = if is_held s.part then abandons c s else (More, c, s)
 
 -- ---- own streams that the peer asks to stop
 

@@ -1,5 +1,8 @@
 pub mod Fault
 pub mod Close
+pub mod Prefix
+pub mod Capsules
+pub mod Cuts
 pub mod Events
 pub mod Streams
 pub mod Sessions

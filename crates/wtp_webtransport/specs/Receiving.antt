@@ -1,6 +1,6 @@
 -- What one call of a connection gives: how many bytes are consumed, the event, and the connection
 -- and the stream after it (RFC 9114, sections 4.1, 4.1.2, 4.2.2, 4.4 and 8).
-use Rattle.std.specs.Prelude.{◌≡◌, ℕ, ◌+◌, ◌-◌, ◌==◌, nat_lt, if◌then◌else◌, Bool, true, false, List, [], length, take, Option, Some, None, Result, Ok, Err}
+use Rattle.std.specs.Prelude.{◌≡◌, ℕ, ◌+◌, ◌-◌, ◌==◌, nat_lt, Bool, true, false, List, [], length, take, Option, Some, None, Result, Ok, Err}
 use Rattle.wtp_core.specs.Varint.{number_at}
 use Rattle.wtp_core.specs.declared.error.scope.ErrorScope.{ErrorScope}
 use Rattle.wtp_core.specs.declared.error.scope.ErrorScope.TheVariants as scope
@@ -13,6 +13,7 @@ use Rattle.wtp_connection.specs.declared.connection.Found.TheVariants as found
 use Rattle.wtp_connection.specs.declared.stream.Stream.{Stream as Frames}
 use Rattle.wtp_connection.specs.declared.stream.Purpose.{Purpose}
 use Rattle.wtp_connection.specs.declared.stream.Purpose.TheVariants as «for»
+use Rattle.wtp_connection.specs.Opening.{remaining_of}
 use Rattle.wtp_connection.specs.Receiving.{FoundIs}
 use Rattle.wtp_connection.specs.Streams.{Joined, tells_interim, abandons}
 use Rattle.wtp_fields.specs.declared.fields.FieldSectionError.{FieldSectionError}
@@ -24,15 +25,16 @@ use Rattle.wtp_messages.specs.declared.message.Message.{Message}
 use Rattle.wtp_messages.specs.declared.message.Role.TheVariants as role
 use Rattle.wtp_messages.specs.declared.message.Section.{Section}
 use Rattle.wtp_messages.specs.declared.message.Section.TheVariants as section
-use Rattle.wtp_messages.specs.Content.{left_after}
+use Rattle.wtp_messages.specs.Content.{fits, left_after}
 use Rattle.wtp_messages.specs.Message.{SectionComes, end_of}
 use Rattle.wtp_messages.specs.Response.{is_success}
 use Rattle.wtp_messages.specs.declared.response.Asked.{Asked}
 use Rattle.wtp_messages.specs.declared.response.Asked.TheVariants as asked
 use Rattle.wtp_wire.specs.declared.capsule.CapsuleError.TheVariants as capsule_error
-use Rattle.wtp_wire.specs.declared.capsule.CapsuleKind.{CapsuleKind}
-use Rattle.wtp_wire.specs.declared.capsule.CapsuleKind.TheVariants.{CloseWebTransportSession}
 use Rattle.wtp_wire.specs.CloseSession.{close_in}
+use Rattle.wtp_webtransport.specs.declared.capsules.CapsuleType.{CapsuleType}
+use Rattle.wtp_webtransport.specs.declared.capsules.CapsuleType.TheVariants as capsule
+use Rattle.wtp_webtransport.specs.Capsules.{Found as Capsules}
 use Rattle.wtp_webtransport.specs.declared.fault.Fault.{Fault}
 use Rattle.wtp_webtransport.specs.declared.fault.Fault.TheVariants as fault
 use Rattle.wtp_webtransport.specs.declared.event.HeadersKind.{HeadersKind}
@@ -52,9 +54,10 @@ use Rattle.wtp_webtransport.specs.declared.stream.Due.TheVariants as due
 use Rattle.wtp_webtransport.specs.declared.stream.Part.{Part}
 use Rattle.wtp_webtransport.specs.declared.stream.Part.TheVariants as part
 use Rattle.wtp_webtransport.specs.Fault.{scope_of}
-use Rattle.wtp_webtransport.specs.Events.{Told, Opened, Joins, Settings, GoAway, Frame, Headers, SessionRequested, SessionReady, Rejected, SessionClosed, SessionLost, Skipped, Data, StreamData, TooLarge, Malformed as MalformedBy, StreamError, ConnectionError, End, NoMemory, Waits, More}
+use Rattle.wtp_webtransport.specs.Prefix.{names_table}
+use Rattle.wtp_webtransport.specs.Events.{Told, Opened, Joins, Settings, GoAway, Frame, Headers, SessionRequested, SessionReady, Rejected, SessionClosed, SessionLost, Datagram, Draining, Skipped, Data, StreamData, TooLarge, Malformed as MalformedBy, StreamError, ConnectionError, End, NoMemory, Waits, More}
 use Rattle.wtp_webtransport.specs.Sessions.{asks_of}
-use Rattle.wtp_webtransport.specs.Streams.{Found as Capsules, with_streams, with_frames, with_part, with_head, with_message, with_session, ended, after_error, due_by, GivesCapsule, EndsBetween}
+use Rattle.wtp_webtransport.specs.Streams.{with_streams, with_frames, with_part, with_head, with_message, with_session, connects, ended, after_error, due_by, GivesCapsule, EndsBetween}
 
 abbrev pub Outcome : Type 0
 Outcome = ℕ × Told × Connection × Stream
@@ -123,20 +126,17 @@ in_stream s x = (x.0, x.1, x.2, s)
 abbrev pub counted : Message → ℕ → Message
 counted m n = record m { content = record { left = left_after m.content.left n } }
 
--- a piece of content, by what is left of the announced length: nothing; less than the piece, which
--- is given up to that length; or enough
-abbrev pub content_by : Option ℕ → Connection → Stream → Message → ℕ → ℕ → List ℕ → Outcome
-content_by (Some left) c s m start end bytes =
-    if left == 0
-    then malformed c s ContentTooLong (length bytes)
-    else (if nat_lt left (end - start)
-    then (end, Data (slice start (start + left) bytes), c, with_part s part.Exceeded)
-    else (end, Data (slice start end bytes), c, with_part s (with_message s.part (counted m (end - start)))))
-content_by None c s m start end bytes =
+-- A piece of content, by whether all of its DATA frame that is still to come, the piece and what
+-- remains after it, is within the announced length. So the frame that exceeds it is found by its head,
+-- however it is cut (RFC 9114, section 4.1.2).
+abbrev pub content_by : Bool → Connection → Stream → Message → ℕ → ℕ → List ℕ → Outcome
+content_by true c s m start end bytes =
     (end, Data (slice start end bytes), c, with_part s (with_message s.part (counted m (end - start))))
+content_by false c s m start end bytes = malformed c s ContentTooLong (length bytes)
 
 abbrev pub content_found : Connection → Stream → Message → ℕ → ℕ → List ℕ → Outcome
-content_found c s m start end bytes = content_by m.content.left c s m start end bytes
+content_found c s m start end bytes =
+    content_by (fits m.content.left ((end - start) + remaining_of s.frames)) c s m start end bytes
 
 -- ---- the content of a session
 
@@ -149,19 +149,26 @@ closed_if None c s more end len = spoiled c s len
 closed_if (Some close) c s more end len =
     (end, SessionClosed close, c, with_part s (part.Closed more))
 
--- a capsule of this kind with this value; whether more content follows it
-abbrev pub complete : CapsuleKind → Connection → Stream → List ℕ → Bool → ℕ → ℕ → Outcome
-complete CloseWebTransportSession c s value more end len =
-    closed_if (close_in value) c s more end len
+-- the session goes on, with so many bytes left of its content, which are next in the bytes
+abbrev pub goes_on_with : Stream → Told → ℕ → ℕ → ℕ × Told × Stream
+goes_on_with s told left end = (end - left, told, with_part s (part.Session left))
 
--- a capsule of the session, with the bytes b left of its content
-abbrev pub capsule_found : Capsules → Connection → Stream → List ℕ → ℕ → ℕ → Outcome
-capsule_found (Ok None) c s b end len = (end, Skipped, c, with_part s (part.Session 0))
-capsule_found (Ok (Some x)) c s b end len =
-    complete x.0 c s x.1 (nat_lt 0 (length b)) end len
-capsule_found (Err capsule_error.TooLong) c s b end len = spoiled c s len
-capsule_found (Err capsule_error.Memory) c s b end len =
-    (end - length b, NoMemory, c, with_part s (part.Session (length b)))
+abbrev pub goes_on : Connection → Stream → Told → ℕ → ℕ → Outcome
+goes_on c s told left end = (end - left, told, c, with_part s (part.Session left))
+
+-- a capsule with this value, with so many bytes left of the content
+abbrev pub complete : CapsuleType → Connection → Stream → List ℕ → ℕ → ℕ → ℕ → Outcome
+complete capsule.Close c s value left end len =
+    closed_if (close_in value) c s (nat_lt 0 left) end len
+complete capsule.Datagram c s value left end len = goes_on c s (Datagram value) left end
+complete capsule.Drain c s value left end len = goes_on c s Draining left end
+
+-- what comes of the content of a session, with so many bytes of it left
+abbrev pub capsule_found : Capsules → Connection → Stream → ℕ → ℕ → ℕ → Outcome
+capsule_found (Ok None) c s left end len = goes_on c s Skipped left end
+capsule_found (Ok (Some x)) c s left end len = complete x.0 c s x.1 left end len
+capsule_found (Err capsule_error.TooLong) c s left end len = spoiled c s len
+capsule_found (Err capsule_error.Memory) c s left end len = goes_on c s NoMemory left end
 
 abbrev pub CapsulesGive : Connection → Stream → List ℕ → ℕ → ℕ → Outcome → Type 0
 CapsulesGive c s piece end len o =
@@ -169,7 +176,7 @@ CapsulesGive c s piece end len o =
     × (t : Stream)
     × (b : List ℕ)
     × GivesCapsule r s piece t b
-    × (o ≡ capsule_found r c t b end len)
+    × (o ≡ capsule_found r c t (length b) end len)
 
 -- content of this size that could not be read before is next
 abbrev pub ContentBy : Bool → Connection → Stream → ℕ → List ℕ → Outcome → Type 0
@@ -221,15 +228,13 @@ EndGives c s len o = EndBy s.part c s len o
 
 -- A section that is larger than the limits, after n of all bytes. The trailers can be left out;
 -- without its header section nothing more of a message is given.
-abbrev pub too_large_by : Part → Connection → Stream → Option ℕ → ℕ → ℕ → Outcome
-too_large_by part.Tunnel c s size n len = fails c s fault.SectionInTunnel len
-too_large_by (part.Session held) c s size n len = fails c s fault.SectionInTunnel len
-too_large_by (part.Body m) c s size n len = (n, TooLarge size, c, s)
-too_large_by _ c s size n len =
+abbrev pub too_large_by : Part → Connection → Stream → Option ℕ → ℕ → Outcome
+too_large_by (part.Head m) c s size n =
     (n, TooLarge size, (leaves c s).0, with_part (leaves c s).1 part.NoMessage)
+too_large_by _ c s size n = (n, TooLarge size, c, s)
 
-abbrev pub too_large : Connection → Stream → Option ℕ → ℕ → ℕ → Outcome
-too_large c s size n len = too_large_by s.part c s size n len
+abbrev pub too_large : Connection → Stream → Option ℕ → ℕ → Outcome
+too_large c s size n = too_large_by s.part c s size n
 
 -- what a section of a message is
 abbrev pub taken_of : Result Section Malformed → Taken
@@ -272,11 +277,11 @@ request_found c s m fields at = request_by (asks_of c fields) c s m fields at
 -- the header section of a final response: one of success to a CONNECT opens a session or a tunnel
 abbrev pub response_in : Option Asked → Bool → Stream → Message → ℕ → List Field → Span → ℕ × Told × Stream
 response_in (Some asked.Session) true s m status fields at =
-    (at.end, SessionReady status fields, with_session (with_part s (part.Session 0)))
+    (at.end, SessionReady status fields, with_session (connects s true))
 response_in (Some asked.Session) false s m status fields at =
     (at.end, Rejected status fields, with_part s (part.Body m))
 response_in (Some asked.Connect) true s m status fields at =
-    (at.end, Headers (headers.Response status) fields, with_part s part.Tunnel)
+    (at.end, Headers (headers.Response status) fields, connects s false)
 response_in _ success s m status fields at =
     (at.end, Headers (headers.Response status) fields, with_part s (part.Body m))
 
@@ -309,16 +314,22 @@ ReadGives c s m fields at o =
 abbrev pub ResultGives :
     Connection → Stream → Message → Span → Result (List Field) FieldSectionError → Outcome → Type 0
 ResultGives c s m at (Ok fields) o = ReadGives c s m fields at o
-ResultGives c s m at (Err section_error.TooLarge) o = o ≡ too_large c s None at.end at.len
+ResultGives c s m at (Err section_error.TooLarge) o = o ≡ too_large c s None at.end
 ResultGives c s m at (Err section_error.Memory) o =
     o ≡ (at.start, NoMemory, c, record s { unread = unread.Section (at.end - at.start) })
 ResultGives c s m at (Err (section_error.Decoding e)) o = o ≡ fails c s (fault.Section e) at.len
 
-abbrev pub DecodedGives : ℕ → Connection → Stream → Message → Span → List ℕ → Outcome → Type 0
-DecodedGives limit c s m at bytes o =
+-- one whose prefix refers to a table cannot be decoded
+abbrev pub PrefixGives : Bool → ℕ → Connection → Stream → Message → Span → List ℕ → Outcome → Type 0
+PrefixGives true limit c s m at bytes o = o ≡ fails c s fault.SectionPrefix at.len
+PrefixGives false limit c s m at bytes o =
     (r : Result (List Field) FieldSectionError)
     × DecodesTo limit (slice at.start at.end bytes) r
     × ResultGives c s m at r o
+
+abbrev pub DecodedGives : ℕ → Connection → Stream → Message → Span → List ℕ → Outcome → Type 0
+DecodedGives limit c s m at bytes o =
+    PrefixGives (names_table (slice at.start at.end bytes)) limit c s m at bytes o
 
 abbrev pub span_in : ℕ → ℕ → List ℕ → Span
 span_in start end bytes = record { start = start; end = end; len = length bytes }
@@ -329,10 +340,6 @@ SectionBy (part.Head m) limit c s start end bytes o =
     DecodedGives limit c s m (span_in start end bytes) bytes o
 SectionBy (part.Body m) limit c s start end bytes o =
     DecodedGives limit c s m (span_in start end bytes) bytes o
-SectionBy part.Tunnel limit c s start end bytes o =
-    o ≡ fails c s fault.SectionInTunnel (length bytes)
-SectionBy (part.Session size) limit c s start end bytes o =
-    o ≡ fails c s fault.SectionInTunnel (length bytes)
 SectionBy _ limit c s start end bytes o =
     o ≡ (end, Frame kind.Headers (slice start end bytes), c, s)
 
@@ -354,7 +361,7 @@ FoundGives limit (found.Frame k start end) c s bytes o =
     o ≡ (end, Frame k (slice start end bytes), c, s)
 FoundGives limit (found.Data start end) c s bytes o = DataGives c s start end bytes o
 FoundGives limit (found.TooLarge size n) c s bytes o =
-    o ≡ too_large c s (Some size) n (length bytes)
+    o ≡ too_large c s (Some size) n
 FoundGives limit (found.More n) c s bytes o = o ≡ (n, More, c, s)
 FoundGives limit (found.Fault f) c s bytes o = o ≡ fails c s (fault.Streams f) (length bytes)
 FoundGives limit found.End c s bytes o = EndGives c s (length bytes) o
@@ -381,7 +388,6 @@ pub record GoesOn (limit : ℕ) (c : Connection) (s : Stream) (bytes : List ℕ)
 -- what is due comes first
 abbrev pub DueGives : Due → ℕ → Connection → Stream → List ℕ → Bool → Outcome → Type 0
 DueGives due.Wait limit c s bytes fin o = o ≡ (0, Waits wait.Answer, c, s)
-DueGives due.Excess limit c s bytes fin o = o ≡ malformed c s ContentTooLong (length bytes)
 DueGives (due.Content size) limit c s bytes fin o = ContentGives c s size bytes o
 DueGives due.Spoiled limit c s bytes fin o = o ≡ spoiled c s (length bytes)
 DueGives due.End limit c s bytes fin o = o ≡ last c s End (length bytes)

@@ -3,6 +3,7 @@
 -- sections 2 and 2.1).
 use Rattle.std.specs.Prelude.{nat_lt, ◌&&◌, ◌||◌, Bool, true, false, List, Option, Some, None}
 use Rattle.wtp_qpack.specs.Field.{Field}
+use Rattle.wtp_frames.specs.declared.endpoint.Endpoint.{Endpoint}
 use Rattle.wtp_frames.specs.declared.endpoint.Side.{Side}
 use Rattle.wtp_frames.specs.declared.endpoint.Side.TheVariants.{Client, Server}
 use Rattle.wtp_connection.specs.declared.connection.Known.{Known}
@@ -13,7 +14,7 @@ use Rattle.wtp_connection.specs.declared.stream.Stream.TheVariants as frames
 use Rattle.wtp_messages.specs.declared.response.Asked.{Asked}
 use Rattle.wtp_messages.specs.declared.response.Asked.TheVariants as asked
 use Rattle.wtp_messages.specs.Request.{is_connect, asks_for_session}
-use Rattle.wtp_wire.specs.Held.{Held}
+use Rattle.wtp_webtransport.specs.Capsules.{Place}
 use Rattle.wtp_webtransport.specs.declared.connection.Connection.{Connection}
 use Rattle.wtp_webtransport.specs.declared.connection.messages.Asks.{Asks}
 use Rattle.wtp_webtransport.specs.declared.connection.messages.Asks.TheVariants as asks
@@ -28,18 +29,24 @@ abbrev pub enables_webtransport : PeerSettings → Bool
 enables_webtransport v =
     v.enable_webtransport || nat_lt 0 v.webtransport_max_sessions || nat_lt 0 v.wt_max_sessions
 
--- a server has to allow extended CONNECT
-abbrev pub allows_connect : Side → PeerSettings → Bool
-allows_connect Client v = v.enable_connect_protocol
-allows_connect Server v = true
+-- the server has to allow extended CONNECT
+abbrev pub allows_connect : Side → Bool → PeerSettings → Bool
+allows_connect Client own v = v.enable_connect_protocol
+allows_connect Server own v = own
 
--- the settings of both ends allow sessions
+-- the own settings enable WebTransport and datagrams
+abbrev pub enables_sessions : Endpoint → Bool
+enables_sessions e = e.webtransport && e.datagrams
+
+-- The settings of both ends allow sessions: both enable WebTransport and datagrams, and the server
+-- extended CONNECT.
 abbrev pub allows_sessions : Connection → Bool
 allows_sessions c =
     c.configured
-    && (c.endpoint.webtransport
+    && (enables_sessions c.endpoint
     && (c.streams.peer.h3_datagram
-    && (enables_webtransport c.streams.peer && allows_connect c.endpoint.side c.streams.peer)))
+    && (enables_webtransport c.streams.peer
+    && allows_connect c.endpoint.side c.extended c.streams.peer)))
 
 -- ---- requests
 
@@ -66,9 +73,9 @@ asks_of c fields = asks_by c (is_connect fields) (asks_for_session fields)
 -- A message goes on that is no session's. If its request asked for a session, that was refused: at a
 -- server its capsules have begun, and a client knows what it asked for. Any other request has no use
 -- for datagrams (RFC 9297, section 2).
-abbrev pub message_at_server : Option Held → Known
+abbrev pub message_at_server : Option Place → Known
 message_at_server None = known.Other
-message_at_server (Some h) = known.Refused
+message_at_server (Some p) = known.Refused
 
 abbrev pub message_at_client : Option Asked → Known
 message_at_client None = known.Impossible

@@ -1,6 +1,6 @@
 -- Connections, streams and their messages (RFC 9114, sections 4.1, 4.4 and 6;
 -- draft-ietf-webtrans-http3-02, sections 4 and 5).
-use Rattle.std.specs.Prelude.{◌≡◌, ℕ, nat_le, nat_lt, ◌||◌, not, if◌then◌else◌, Bool, true, false, List, [], Option, Some, None, Result, Err}
+use Rattle.std.specs.Prelude.{◌≡◌, ℕ, nat_le, nat_lt, ◌||◌, not, if◌then◌else◌, Bool, true, false, List, Option, Some, None, Err}
 use Rattle.wtp_frames.specs.declared.endpoint.Endpoint.{Endpoint}
 use Rattle.wtp_frames.specs.declared.endpoint.Side.{Side}
 use Rattle.wtp_frames.specs.declared.endpoint.Side.TheVariants.{Client}
@@ -8,7 +8,7 @@ use Rattle.wtp_frames.specs.Start.{message_reader}
 use Rattle.wtp_connection.specs.declared.connection.Connection.{Connection as Streams}
 use Rattle.wtp_connection.specs.declared.stream.Stream.{Stream as Frames}
 use Rattle.wtp_connection.specs.declared.stream.Stream.TheVariants as frames
-use Rattle.wtp_connection.specs.Opening.{waits_for as session_waited_for}
+use Rattle.wtp_connection.specs.Opening.{waits_for as session_waited_for, connected}
 use Rattle.wtp_connection.specs.Streams.{connection_of as streams_of, accepts}
 use Rattle.wtp_messages.specs.declared.message.Message.{Message}
 use Rattle.wtp_messages.specs.declared.message.Role.{Role}
@@ -16,12 +16,8 @@ use Rattle.wtp_messages.specs.declared.message.Role.TheVariants as role
 use Rattle.wtp_messages.specs.declared.response.Asked.{Asked}
 use Rattle.wtp_messages.specs.Message.{message_of}
 use Rattle.wtp_messages.specs.Response.{is_success}
-use Rattle.wtp_wire.specs.declared.capsule.CapsuleError.{CapsuleError}
 use Rattle.wtp_wire.specs.declared.capsule.CapsuleError.TheVariants as capsule_error
-use Rattle.wtp_wire.specs.declared.capsule.CapsuleKind.{CapsuleKind}
-use Rattle.wtp_wire.specs.CapsuleFront.{End}
-use Rattle.wtp_wire.specs.CapsuleStream.{NextGiven, next_held}
-use Rattle.wtp_wire.specs.Held.{Held, new_held}
+use Rattle.wtp_webtransport.specs.Capsules.{Place, between, Found, CapsuleIs}
 use Rattle.wtp_webtransport.specs.declared.connection.Connection.{Connection}
 use Rattle.wtp_webtransport.specs.declared.stream.Stream.{Stream}
 use Rattle.wtp_webtransport.specs.declared.stream.Part.{Part}
@@ -145,12 +141,15 @@ abbrev pub after_success : Bool → Part
 after_success true = part.Session 0
 after_success false = part.Tunnel
 
--- a request that is answered with this status: 1xx is no answer yet, and after 2xx there is a session
--- or a tunnel
+-- after 2xx there is a session or a tunnel, and the stream has DATA alone
+abbrev pub connects : Stream → Bool → Stream
+connects s session = record s { frames = connected s.frames; part = after_success session }
+
+-- a request that is answered with this status: 1xx is no answer yet
 abbrev pub answered_with : Stream → Bool → Message → ℕ → Stream
 answered_with s session m status =
     if is_success (Some status)
-    then with_part s (after_success session)
+    then connects s session
     else (if nat_le 300 status then with_part s (part.Body m) else s)
 
 abbrev pub answered_by : Stream → Part → ℕ → Stream
@@ -189,7 +188,6 @@ content_due size = if nat_lt 0 size then due.Content size else due.Nothing
 -- nothing may follow the capsule that closes a session
 abbrev pub due_by : Part → Bool → Due
 due_by (part.Unanswered session m) empty = due.Wait
-due_by part.Exceeded empty = due.Excess
 due_by (part.Closed more) empty = spoiled_if (more || not empty)
 due_by (part.Session size) empty = content_due size
 due_by part.Ending empty = due.End
@@ -200,21 +198,18 @@ due_by _ empty = due.Nothing
 
 -- the capsules of a session begin
 abbrev pub with_session : Stream → Stream
-with_session s = record s { capsules = Some new_held }
+with_session s = record s { capsules = Some between }
 
-abbrev pub Found : Type 0
-Found = Result (Option (CapsuleKind × List ℕ)) CapsuleError
-
--- the next capsule of what is held and of the bytes a, with the bytes b left
-abbrev pub GivesNext : Option Held → Found → Stream → List ℕ → Stream → List ℕ → Type 0
+-- what comes of the bytes a of the content of a session, with the bytes b left
+abbrev pub GivesNext : Option Place → Found → Stream → List ℕ → Stream → List ℕ → Type 0
 GivesNext None r s a t b = (r ≡ Err capsule_error.TooLong) × (t ≡ s) × (b ≡ a)
-GivesNext (Some h) r s a t b =
-    (g : Held) × NextGiven r h a g b × (t ≡ record s { capsules = Some g })
+GivesNext (Some p) r s a t b =
+    (q : Place) × CapsuleIs r p a q b × (t ≡ record s { capsules = Some q })
 
 abbrev pub GivesCapsule : Found → Stream → List ℕ → Stream → List ℕ → Type 0
 GivesCapsule r s a t b = GivesNext s.capsules r s a t b
 
 -- no capsule has begun
-abbrev pub EndsBetween : Option Held → Type 0
+abbrev pub EndsBetween : Option Place → Type 0
 EndsBetween None = ⊥
-EndsBetween (Some h) = next_held h [] ≡ End
+EndsBetween (Some p) = p ≡ between

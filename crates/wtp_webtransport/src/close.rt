@@ -2,16 +2,16 @@
 ghost use Rattle.std.specs.Prelude.{◌≡◌, [], None, Some, MatchOption};
 ghost use Rattle.wtp_wire.specs.CloseSession.{close_in};
 
+use crate::capsules::SessionCapsule;
 use std::marker::Model;
 use wtp_wire::capsule::capsules::CloseWebTransportSession;
-use wtp_wire::capsule::{CapsuleKind, CapsuleOwned};
 
 /// How the peer closed a session: an error code and a reason of its application.
 #[derive(Drop)]
 pub struct Close {
     code: u32,
     /// The capsule that has the reason.
-    capsule: Option<CapsuleOwned>,
+    capsule: Option<SessionCapsule>,
 }
 
 impl Model for Close {
@@ -36,11 +36,10 @@ impl Close {
 
     // Reads the code and the reason of a capsule that closes its session. Returns `None` if it is not
     // valid.
-    pub(crate) fn read(capsule: CapsuleOwned) -> Option<Self>
-        requires { capsule.0 ≡ CapsuleKind.CloseWebTransportSession }
-        ensures { MatchOption result (close_in capsule.entry.1 ≡ None) (λ c. close_in capsule.entry.1 ≡ Some c) }
+    pub(crate) fn read(capsule: SessionCapsule) -> Option<Self>
+        ensures { MatchOption result (close_in capsule.1 ≡ None) (λ c. close_in capsule.1 ≡ Some c) }
     {
-        let (code, _) = CloseWebTransportSession::code_and_reason(capsule.payload())?;
+        let (code, _) = CloseWebTransportSession::code_and_reason(capsule.value())?;
         Some(Close {
             code,
             capsule: Some(capsule),
@@ -59,7 +58,7 @@ impl Close {
         ensures { result.now ≡ self.now.1 }
     {
         match &self.capsule {
-            Some(capsule) => capsule.payload().get(4..).unwrap_or(&[]),
+            Some(capsule) => capsule.value().get(4..).unwrap_or(&[]),
             None => &[],
         }
     }

@@ -127,7 +127,6 @@ impl Connection {
                 consumed: 0,
                 event: Event::Waits(Waits::Answer),
             },
-            Due::Excess => self.malformed(stream, Malformed::ContentTooLong, bytes.len()),
             Due::Content(size) => self.capsules_again(stream, size, bytes),
             Due::Spoiled => self.spoil(stream, bytes.len()),
             Due::End => last(stream, Event::End, bytes.len()),
@@ -176,7 +175,7 @@ impl Connection {
             }
             Found::Data(start, end) => return self.data(stream, start, end, bytes),
             Found::TooLarge(size, n) => {
-                return self.too_large(stream, Some(size), n, bytes.len());
+                return self.too_large(stream, Some(size), n);
             }
             Found::More(n) => {
                 return Received {

@@ -46,7 +46,9 @@ pub enum Event<'a> {
     /// SETTINGS of the peer: what they define, and their payload.
     Settings(PeerSettings, &'a [u8]),
     /// GOAWAY: at a client the ID of the first request that is not processed, at a server that of a
-    /// push (RFC 9114, section 5.2). Open sessions go on.
+    /// push (RFC 9114, section 5.2). Open sessions go on, and each of them is to be told as with
+    /// `Draining` (draft-ietf-webtrans-http3-07, section 4.6): those are the sessions of the streams
+    /// that are [`Open`](wtp_connection::connection::Known::Open) for `Connection::known`.
     GoAway(u64),
     /// Another frame of the control stream: its type and its payload.
     Frame(FrameType, &'a [u8]),
@@ -62,9 +64,19 @@ pub enum Event<'a> {
     /// The peer closed the session whose own stream this is. The streams of the session are to be
     /// reset and stopped, and the own half of this one is to be ended.
     SessionClosed(Close),
-    /// The session whose own stream this is ended otherwise: by a reset of this stream, or by an
-    /// error of it, after `StreamError`. The streams of the session are to be reset and stopped.
+    /// The session whose own stream this is ended otherwise: the peer reset this stream or asked to
+    /// stop the own half of it, the application abandoned it, or there was an error of it, after
+    /// `StreamError`. The streams of the session are to be reset and stopped.
+    ///
+    /// Each session ends once, with this event or with `SessionClosed`, unless `ConnectionError` comes
+    /// first: that ends all sessions, and no other event follows.
     SessionLost,
+    /// A datagram of the session whose own stream this is, which came in a capsule (RFC 9297, section
+    /// 3.5). It is as one that [`datagram`](crate::connection::Connection::datagram) returns.
+    Datagram(Vec<u8>),
+    /// The peer asks to wind up the session whose own stream this is: no new streams should be opened
+    /// in it. Its streams and datagrams go on (draft-ietf-webtrans-http3-07, section 4.6).
+    Draining,
     /// The bytes had nothing for the application.
     Skipped,
     /// A piece of the content of the message, of at least one byte.
@@ -82,7 +94,8 @@ pub enum Event<'a> {
     /// An error of the stream: its own half is to be reset with the code, and the peer is to be asked
     /// to stop.
     StreamError(Fault),
-    /// An error of the connection, which is to be closed with the code.
+    /// An error of the connection, which is to be closed with the code. No event follows on any
+    /// stream, and every session is lost.
     ConnectionError(Fault),
     /// The peer reset the stream. The own half is to be reset with the code of the error, if there
     /// is one.

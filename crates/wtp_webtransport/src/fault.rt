@@ -14,9 +14,9 @@ pub enum Fault {
     Streams(StreamsFault),
     /// A field section cannot be decoded (RFC 9204, section 6).
     Section(DecodingError),
-    /// A field section follows a CONNECT request that was answered with a 2xx status (RFC 9114,
-    /// section 4.4).
-    SectionInTunnel,
+    /// The prefix of a field section refers to a dynamic table, and none is allowed: its Required
+    /// Insert Count is not 0, or its Sign bit is 1 (RFC 9204, sections 4.5.1.1 and 4.5.1.2).
+    SectionPrefix,
     /// A capsule of a session is invalid, cut off by the end of the stream, or follows the one that
     /// closes the session (RFC 9297, section 3.3; draft-ietf-webtrans-http3-02, section 5).
     Capsule,
@@ -30,7 +30,7 @@ impl Fault {
         match self {
             Fault::Streams(fault) => fault.code(),
             Fault::Section(_) => Code::QPACK_DECOMPRESSION_FAILED,
-            Fault::SectionInTunnel => Code::H3_FRAME_UNEXPECTED,
+            Fault::SectionPrefix => Code::QPACK_DECOMPRESSION_FAILED,
             Fault::Capsule => Code::H3_MESSAGE_ERROR,
         }
     }

@@ -1,5 +1,6 @@
 //! The memory for the field sections of a connection, and their limit.
 ghost use Rattle.std.specs.Prelude.{◌≡◌};
+ghost use Rattle.wtp_webtransport.specs.Prefix.{names_table as names_table_is};
 
 use std::alloc::Global;
 use wtp_connection::fields::Fields as Entries;
@@ -32,5 +33,16 @@ impl Fields {
         ensures { result ≡ self.now.limit }
     {
         self.limit
+    }
+}
+
+// Returns whether the prefix of a field section refers to a dynamic table (RFC 9204, section 4.5.1).
+pub(crate) fn names_table(section: &[u8]) -> bool
+    ensures { result ≡ names_table_is section.now }
+{
+    match section {
+        [] => false,
+        [count] => *count != 0,
+        [count, base, ..] => *count != 0 || *base >= 0x80,
     }
 }

@@ -1,15 +1,77 @@
 //! Laws of the definitions that the contracts cite. Each function does nothing: its contract is the
 //! law.
-ghost use Rattle.std.specs.Prelude.{◌≡◌, ℕ, Bool, List};
+ghost use Rattle.std.specs.Prelude.{◌≡◌, ◌||◌, ◌+◌, ◌<◌, ◌≤◌, ℕ, Bool, true, false, List, ◌∷◌, ◌++◌, length, Option};
 ghost use Rattle.wtp_webtransport.specs.declared.connection.Connection.{Connection};
 ghost use Rattle.wtp_webtransport.specs.declared.stream.Stream.{Stream};
 ghost use Rattle.wtp_webtransport.specs.Receiving.{Outcome, Receives};
-ghost use Rattle.wtp_webtransport.specs.Endings.{KeepsSession};
+ghost use Rattle.wtp_webtransport.specs.Endings.{KeepsSession, KeepsAfter, accepts_session};
+ghost use Rattle.wtp_webtransport.specs.Joining.{resets, stops_half, abandons, joins};
+ghost use Rattle.wtp_webtransport.specs.Streams.{is_held, answered};
+ghost use Rattle.wtp_connection.specs.declared.connection.Known.{Known};
+ghost use Rattle.wtp_messages.specs.Content.{fits, left_after};
+ghost use Rattle.wtp_qpack.specs.Integer.{IsInt};
+ghost use Rattle.wtp_wire.specs.Front.{EncodesPair};
+ghost use Rattle.wtp_webtransport.specs.declared.capsules.CapsuleType.{CapsuleType};
+ghost use Rattle.wtp_webtransport.specs.declared.capsules.Sort.TheVariants.{Read, Skip, Refuse};
+ghost use Rattle.wtp_webtransport.specs.Capsules.{Found, Place, between, place_by, sort_of, CapsuleIs, IsPlace};
+ghost use Rattle.wtp_webtransport.specs.Cuts.{breaks, followed, after_found, run, IsProper};
+ghost use Rattle.wtp_webtransport.specs.Prefix.{names_table};
 
 /// A session ends once: `SessionClosed` and `SessionLost` come only on the own stream of a session that
-/// is held, and it is held no longer after them. Without them it is held after a call of `receive`
-/// exactly if it was before, or if `SessionReady` came.
+/// is held, and it is held no longer after them. Without them it is held after a call exactly if it was
+/// before, or if `SessionReady` came; and after an answer exactly if it was before, or if the answer
+/// accepts it.
 pub fn sessions_end_once()
-    ensures { (limit : ℕ) (c : Connection) (s : Stream) (bytes : List ℕ) (fin : Bool) (o : Outcome)
+    ensures receive { (limit : ℕ) (c : Connection) (s : Stream) (bytes : List ℕ) (fin : Bool) (o : Outcome)
         → Receives limit c s bytes fin o → KeepsSession s o }
+    ensures reset { (c : Connection) (s : Stream) → KeepsAfter s (resets c s) }
+    ensures stop { (c : Connection) (s : Stream) → KeepsAfter s (stops_half c s) }
+    ensures abandon { (c : Connection) (s : Stream) → KeepsAfter s (abandons c s) }
+    ensures join { (c : Connection) (s : Stream) (k : Known) → KeepsAfter s (joins c s k) }
+    ensures answer { (s : Stream) (status : ℕ) → is_held (answered s status).part
+        ≡ (is_held s.part || accepts_session s.part status) }
+{}
+
+/// The content of a session may be cut anywhere, also where allocation failed: whatever follows the
+/// bytes of a call, the capsules of all are the one that it returned, and then those of the bytes that
+/// it left.
+pub fn content_of_sessions_may_be_cut()
+    ensures capsules { (found : Found) (p q : Place) (a b more : List ℕ)
+        → IsProper p → IsProper q → CapsuleIs found p a q b
+        → run p (a ++ more) ≡ after_found found (run q (b ++ more)) }
+    ensures places { (begun : Option CapsuleType) (missing : ℕ) (head value : List ℕ)
+        → IsPlace begun missing head value → IsProper (place_by begun missing head value) }
+{}
+
+/// Capsules are read as they are written, whatever encodings their numbers have (RFC 9297, section
+/// 3.2).
+pub fn written_capsules_are_read()
+    ensures read { (id : ℕ) (k : CapsuleType) (value head more : List ℕ)
+        → EncodesPair id (length value) head → sort_of id (length value) ≡ Read k
+        → run between (head ++ (value ++ more)) ≡ followed (k, value) (run between more) }
+    ensures skipped { (id : ℕ) (value head more : List ℕ)
+        → EncodesPair id (length value) head → sort_of id (length value) ≡ Skip
+        → run between (head ++ (value ++ more)) ≡ run between more }
+    ensures refused { (id n : ℕ) (head more : List ℕ)
+        → EncodesPair id n head → sort_of id n ≡ Refuse → run between (head ++ more) ≡ breaks }
+{}
+
+/// Content is judged by its DATA frames, however these are cut: a piece and the bytes of its frame
+/// after it are within an announced length exactly if the frame is.
+pub fn content_is_judged_by_frames()
+    ensures alike { (left : Option ℕ) (a b rest : ℕ)
+        → fits left ((a + b) + rest) ≡ fits left (a + (b + rest)) }
+    ensures later { (left : Option ℕ) (a rest : ℕ)
+        → fits left (a + rest) ≡ true → fits (left_after left a) rest ≡ true }
+    ensures counted { (left : Option ℕ) (a b : ℕ)
+        → left_after (left_after left a) b ≡ left_after left (a + b) }
+{}
+
+/// The prefix of a field section refers to a table exactly by its Required Insert Count and its Sign
+/// bit (RFC 9204, sections 4.5.1.1 and 4.5.1.2).
+pub fn prefixes_that_name_a_table_are_refused()
+    ensures count { (count : ℕ) (s more : List ℕ)
+        → IsInt 8 count s → 0 < count → names_table (s ++ more) ≡ true }
+    ensures sign { (b : ℕ) (more : List ℕ) → 128 ≤ b → names_table (0 ∷ b ∷ more) ≡ true }
+    ensures neither { (b : ℕ) (more : List ℕ) → b < 128 → names_table (0 ∷ b ∷ more) ≡ false }
 {}

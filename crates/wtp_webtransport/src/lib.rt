@@ -3,6 +3,7 @@
 //! draft-ietf-webtrans-http3-02). The caller keeps the streams and their bytes.
 #![tactic(auto)]
 
+mod capsules;
 pub mod close;
 pub mod connection;
 pub mod event;

@@ -1,13 +1,14 @@
 //! The state of one stream: of its frames, and of its message or its session.
 ghost use Rattle.std.specs.Prelude.{◌≡◌, ◌↔◌, IsTrue};
-ghost use Rattle.wtp_webtransport.specs.Streams.{stream_of, asking_stream, session_stream, with_head, with_session, after_end, ended, answered, waits_for as waits_for_is, is_held, due_by, GivesCapsule, EndsBetween};
+ghost use Rattle.wtp_webtransport.specs.Streams.{stream_of, asking_stream, session_stream, with_head, with_session, connects, after_end, ended, answered, waits_for as waits_for_is, is_held, due_by, GivesCapsule, EndsBetween};
 
+use crate::capsules::{Capsules, SessionCapsule};
 use crate::event::Waits;
 use std::alloc::Global;
 use wtp_connection::stream::Stream as Frames;
 use wtp_messages::message::{Message, Role};
 use wtp_messages::response::Asked;
-use wtp_wire::capsule::{CapsuleError, CapsuleOwned, CapsuleReading};
+use wtp_wire::capsule::CapsuleError;
 
 /// How far the message of a stream went.
 #[derive(Clone, Copy)]
@@ -22,10 +23,8 @@ pub(crate) enum Part {
     Unanswered(bool, Message),
     /// A CONNECT request with a 2xx answer: only DATA may follow (RFC 9114, section 4.4).
     Tunnel,
-    /// A message of which more content came than was announced, up to the announced length.
-    Exceeded,
     /// The own stream of an open session, whose content has capsules, and how many of the next bytes
-    /// are content for which there was no memory.
+    /// are content that was not read yet.
     Session(usize),
     /// That of a session that a capsule closed, and whether more content came.
     Closed(bool),
@@ -55,8 +54,6 @@ pub(crate) enum Due {
     Nothing,
     /// That it waits for an answer.
     Wait,
-    /// That there is too much content.
-    Excess,
     /// That something follows the capsule that closed the session.
     Spoiled,
     /// What so many bytes of the content of a session have.
@@ -79,7 +76,7 @@ pub struct Stream {
     /// What is next in the bytes.
     pub(crate) unread: Unread,
     /// The state of its capsules, if it asks for a session.
-    pub(crate) capsules: Option<CapsuleReading>,
+    pub(crate) capsules: Option<Capsules>,
 }
 
 impl Stream {
@@ -160,7 +157,6 @@ impl Stream {
     {
         match self.part {
             Part::Unanswered(_, _) => Due::Wait,
-            Part::Exceeded => Due::Excess,
             Part::Closed(more) => {
                 if more || !empty {
                     Due::Spoiled
@@ -181,15 +177,15 @@ impl Stream {
         }
     }
 
-    // Takes the next capsule of the session from its content.
+    // Takes bytes up to the end of one capsule from the content of the session.
     pub(crate) fn next_capsule(
         &mut self,
         bytes: &mut &[u8],
-    ) -> Result<Option<CapsuleOwned>, CapsuleError>
+    ) -> Result<Option<SessionCapsule>, CapsuleError>
         ensures { GivesCapsule result self.old bytes.old.now self.new bytes.new.now }
     {
         match &mut self.capsules {
-            Some(reading) => reading.next(bytes),
+            Some(capsules) => capsules.next(bytes),
             None => Err(CapsuleError::TooLong),
         }
     }
@@ -199,7 +195,7 @@ impl Stream {
         ensures { IsTrue result ↔ EndsBetween self.now.capsules }
     {
         match &self.capsules {
-            Some(reading) => reading.finish().is_ok(),
+            Some(capsules) => capsules.is_between(),
             None => false,
         }
     }
@@ -208,7 +204,19 @@ impl Stream {
     pub(crate) fn begin_capsules(&mut self, alloc: Global)
         ensures { self.new ≡ with_session self.old }
     {
-        self.capsules = Some(CapsuleReading::new(alloc));
+        self.capsules = Some(Capsules::new(alloc));
+    }
+
+    // Goes on after a 2xx response to a CONNECT request: with a session, or with a tunnel.
+    pub(crate) fn connect(&mut self, session: bool)
+        ensures { self.new ≡ connects self.old session }
+    {
+        self.frames.tunnel();
+        self.part = if session {
+            Part::Session(0)
+        } else {
+            Part::Tunnel
+        };
     }
 
     /// Says that a CONNECT request is answered with this status. With 2xx its session is open, or its
@@ -219,11 +227,7 @@ impl Stream {
     {
         if let Part::Unanswered(session, message) = self.part {
             if status >= 200 && status < 300 {
-                self.part = if session {
-                    Part::Session(0)
-                } else {
-                    Part::Tunnel
-                };
+                self.connect(session);
             } else if status >= 300 {
                 self.part = Part::Body(message);
             }

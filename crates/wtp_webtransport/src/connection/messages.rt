@@ -1,15 +1,16 @@
 //! Messages: their field sections, content and end (RFC 9114, section 4.1).
-ghost use Rattle.std.specs.Prelude.{◌≡◌, ◌≤◌, ◌<◌, length};
+ghost use Rattle.std.specs.Prelude.{◌≡◌, ◌≤◌, ◌<◌, ◌+◌, length};
+ghost use Rattle.wtp_messages.specs.Content.{fits as fits_is};
 ghost use Rattle.wtp_messages.specs.Names.{has_value as has_value_of};
 ghost use Rattle.wtp_webtransport.specs.Events.{told_of};
-ghost use Rattle.wtp_webtransport.specs.Receiving.{UnreadGives, SectionGives, ReadGives, DataGives, taken_of, headers_given, interim_found, request_found, response_found, too_large as too_large_is, content_found, EndGives};
+ghost use Rattle.wtp_webtransport.specs.Receiving.{UnreadGives, SectionGives, DecodedGives, ReadGives, DataGives, taken_of, headers_given, interim_found, request_found, response_found, too_large as too_large_is, content_found, EndGives};
 ghost use Rattle.wtp_webtransport.specs.Sessions.{asks_of};
 ghost use Rattle.wtp_webtransport.specs.Streams.{with_message as with_message_is};
 
 use crate::connection::{Connection, last};
 use crate::event::{Event, HeadersKind, Received, Waits};
 use crate::fault::Fault;
-use crate::fields::Fields;
+use crate::fields::{Fields, names_table};
 use crate::stream::{Part, Stream, Unread};
 use std::alloc::Global;
 use wtp_fields::fields::{FieldList, FieldSectionError};
@@ -55,36 +56,50 @@ impl Connection {
     {
         match stream.part {
             Part::Head(message) | Part::Body(message) => {
-                let list = FieldList::decode(fields.alloc, &bytes[start..end], fields.limit);
                 let span = Span {
                     start,
                     end,
                     len: bytes.len(),
                 };
-                match list {
-                    Ok(list) => self.take(stream, message, list, span, fields.alloc),
-                    Err(FieldSectionError::TooLarge) => {
-                        self.too_large(stream, None, end, bytes.len())
-                    }
-                    Err(FieldSectionError::Memory) => {
-                        stream.unread = Unread::Section(end - start);
-                        Received {
-                            consumed: start,
-                            event: Event::NoMemory,
-                        }
-                    }
-                    Err(FieldSectionError::Decoding(fault)) => {
-                        self.fail(stream, Fault::Section(fault), bytes.len())
-                    }
-                }
-            }
-            Part::Tunnel | Part::Session(_) => {
-                self.fail(stream, Fault::SectionInTunnel, bytes.len())
+                self.decode(stream, message, span, bytes, fields)
             }
             _ => Received {
                 consumed: end,
                 event: Event::Frame(FrameType::Headers, &bytes[start..end]),
             },
+        }
+    }
+
+    // Decodes the next field section of a message.
+    fn decode<'a>(
+        &mut self,
+        stream: &mut Stream,
+        message: Message,
+        span: Span,
+        bytes: &'a [u8],
+        fields: &Fields,
+    ) -> Received<'a>
+        requires { (span.start ≤ span.end) × (span.end ≤ length bytes.now) }
+        ensures { DecodedGives fields.now.limit self.old stream.old message span bytes.now
+            (result.consumed, told_of result.event, self.new, stream.new) }
+    {
+        let section = &bytes[span.start..span.end];
+        if names_table(section) {
+            return self.fail(stream, Fault::SectionPrefix, span.len);
+        }
+        match FieldList::decode(fields.alloc, section, fields.limit) {
+            Ok(list) => self.take(stream, message, list, span, fields.alloc),
+            Err(FieldSectionError::TooLarge) => self.too_large(stream, None, span.end),
+            Err(FieldSectionError::Memory) => {
+                stream.unread = Unread::Section(span.end - span.start);
+                Received {
+                    consumed: span.start,
+                    event: Event::NoMemory,
+                }
+            }
+            Err(FieldSectionError::Decoding(fault)) => {
+                self.fail(stream, Fault::Section(fault), span.len)
+            }
         }
     }
 
@@ -191,26 +206,19 @@ impl Connection {
         }
     }
 
-    // Returns that a field section is larger than the limits, after `n` of all `len` bytes.
+    // Returns that a field section is larger than the limits, after `n` bytes.
     pub(super) fn too_large<'a>(
         &mut self,
         stream: &mut Stream,
         size: Option<u64>,
         n: usize,
-        len: usize,
     ) -> Received<'a>
         ensures { (result.consumed, told_of result.event, self.new, stream.new)
-            ≡ too_large_is self.old stream.old size n len }
+            ≡ too_large_is self.old stream.old size n }
     {
-        match stream.part {
-            Part::Tunnel | Part::Session(_) => {
-                return self.fail(stream, Fault::SectionInTunnel, len);
-            }
-            Part::Body(_) => {}
-            _ => {
-                self.streams.abandon(&mut stream.frames);
-                stream.part = Part::NoMessage;
-            }
+        if let Part::Head(_) = stream.part {
+            self.streams.abandon(&mut stream.frames);
+            stream.part = Part::NoMessage;
         }
         Received {
             consumed: n,
@@ -246,7 +254,7 @@ impl Connection {
         }
     }
 
-    // Returns a piece of the content of a message, up to its announced length.
+    // Returns a piece of the content of a message, unless its DATA frame exceeds the announced length.
     fn content<'a>(
         &mut self,
         stream: &mut Stream,
@@ -260,24 +268,16 @@ impl Connection {
             ≡ content_found self.old stream.old message start end bytes.now }
     {
         let mut message = message;
-        match message.left() {
-            Some(0) => self.malformed(stream, Malformed::ContentTooLong, bytes.len()),
-            Some(left) if left < (end - start) as u64 => {
-                stream.part = Part::Exceeded;
-                Received {
-                    consumed: end,
-                    event: Event::Data(&bytes[start..start + left as usize]),
-                }
-            }
-            _ => {
-                let counted = message.data((end - start) as u64);
-                prove!(counted.is_ok());
-                stream.part = with_message(stream.part, message);
-                Received {
-                    consumed: end,
-                    event: Event::Data(&bytes[start..end]),
-                }
-            }
+        let size = (end - start) as u64;
+        if !fits(message.left(), size, stream.frames.remaining()) {
+            return self.malformed(stream, Malformed::ContentTooLong, bytes.len());
+        }
+        let counted = message.data(size);
+        prove!(counted.is_ok());
+        stream.part = with_message(stream.part, message);
+        Received {
+            consumed: end,
+            event: Event::Data(&bytes[start..end]),
         }
     }
 
@@ -384,7 +384,7 @@ fn respond<'a>(
     let success = status >= 200 && status < 300;
     match stream.asked {
         Some(Asked::Session) if success => {
-            stream.part = Part::Session(0);
+            stream.connect(true);
             stream.begin_capsules(alloc);
             Received {
                 consumed: span.end,
@@ -399,13 +399,24 @@ fn respond<'a>(
             }
         }
         Some(Asked::Connect) if success => {
-            stream.part = Part::Tunnel;
+            stream.connect(false);
             given(HeadersKind::Response(status), list, span.end)
         }
         _ => {
             stream.part = Part::Body(message);
             given(HeadersKind::Response(status), list, span.end)
         }
+    }
+}
+
+// Returns whether what is left of an announced length is enough for a piece of a DATA frame and the
+// bytes of the frame that remain after it.
+fn fits(left: Option<u64>, piece: u64, remaining: u64) -> bool
+    ensures { result ≡ fits_is left (piece + remaining) }
+{
+    match left {
+        Some(left) => piece <= left && remaining <= left - piece,
+        None => true,
     }
 }
 

@@ -3,9 +3,10 @@
 ghost use Rattle.std.specs.Prelude.{◌≡◌};
 ghost use Rattle.wtp_connection.specs.Streams.{known_alone};
 ghost use Rattle.wtp_webtransport.specs.Events.{told_of};
-ghost use Rattle.wtp_webtransport.specs.Receiving.{CapsulesGive, ContentGives, SessionEndGives, complete as complete_is, spoiled};
+ghost use Rattle.wtp_webtransport.specs.Receiving.{CapsulesGive, ContentGives, SessionEndGives, goes_on_with, complete as complete_is, spoiled};
 ghost use Rattle.wtp_webtransport.specs.Sessions.{allows_sessions as allows_sessions_is, known_of, known_of_message as known_of_message_is, known_of_other as known_of_other_is};
 
+use crate::capsules::{CapsuleType, SessionCapsule};
 use crate::close::Close;
 use crate::connection::Connection;
 use crate::event::{Event, Received};
@@ -15,12 +16,13 @@ use wtp_connection::connection::Known;
 use wtp_connection::stream::Stream as Frames;
 use wtp_frames::endpoint::Side;
 use wtp_messages::response::Asked;
-use wtp_wire::capsule::{CapsuleError, CapsuleKind, CapsuleOwned};
+use wtp_wire::capsule::CapsuleError;
 
 impl Connection {
     /// Returns whether the SETTINGS of the peer, if they came, and the own ones allow sessions: both
-    /// enable WebTransport, and the peer datagrams; a server also extended CONNECT (RFC 9220, section
-    /// 3).
+    /// enable WebTransport and datagrams, and those of the server extended CONNECT (RFC 9220, section
+    /// 3). The peer may enable WebTransport by the setting of any draft that
+    /// [`PeerSettings`](wtp_connection::settings::PeerSettings) knows.
     pub fn allows_sessions(&self) -> bool
         ensures { result ≡ allows_sessions_is self.now }
     {
@@ -30,9 +32,10 @@ impl Connection {
             || peer.wt_max_sessions > 0;
         let connects = match self.endpoint.side {
             Side::Client => peer.enable_connect_protocol,
-            Side::Server => true,
+            Side::Server => self.extended,
         };
-        self.configured && self.endpoint.webtransport && peer.h3_datagram && enabled && connects
+        let own = self.endpoint.webtransport && self.endpoint.datagrams;
+        self.configured && own && peer.h3_datagram && enabled && connects
     }
 
     /// Returns what is known of the session whose ID is that of this stream. It is `Other` while a
@@ -128,42 +131,29 @@ impl Connection {
     {
         let mut rest = piece;
         match stream.next_capsule(&mut rest) {
-            Ok(None) => {
-                stream.part = Part::Session(0);
-                Received {
-                    consumed: end,
-                    event: Event::Skipped,
-                }
-            }
-            Ok(Some(capsule)) => self.complete(stream, capsule, !rest.is_empty(), end, len),
+            Ok(None) => go_on(stream, Event::Skipped, rest.len(), end),
+            Ok(Some(capsule)) => self.complete(stream, capsule, rest.len(), end, len),
             Err(CapsuleError::TooLong) => self.spoil(stream, len),
-            Err(CapsuleError::Memory) => {
-                stream.part = Part::Session(rest.len());
-                Received {
-                    consumed: end.saturating_sub(rest.len()),
-                    event: Event::NoMemory,
-                }
-            }
+            Err(CapsuleError::Memory) => go_on(stream, Event::NoMemory, rest.len(), end),
         }
     }
 
-    // Returns what a complete capsule does to its session, by its kind. `more`: other content follows
-    // it.
+    // Returns what a capsule is to its session, with `left` bytes left of the content.
     fn complete<'a>(
         &mut self,
         stream: &mut Stream,
-        capsule: CapsuleOwned,
-        more: bool,
+        capsule: SessionCapsule,
+        left: usize,
         end: usize,
         len: usize,
     ) -> Received<'a>
         ensures { (result.consumed, told_of result.event, self.new, stream.new)
-            ≡ complete_is capsule.entry.0 self.old stream.old capsule.entry.1 more end len }
+            ≡ complete_is capsule.0 self.old stream.old capsule.1 left end len }
     {
-        match capsule.kind() {
-            CapsuleKind::CloseWebTransportSession => match Close::read(capsule) {
+        match capsule.kind {
+            CapsuleType::Close => match Close::read(capsule) {
                 Some(close) => {
-                    stream.part = Part::Closed(more);
+                    stream.part = Part::Closed(left > 0);
                     Received {
                         consumed: end,
                         event: Event::SessionClosed(close),
@@ -171,6 +161,8 @@ impl Connection {
                 }
                 None => self.spoil(stream, len),
             },
+            CapsuleType::Datagram => go_on(stream, Event::Datagram(capsule.value), left, end),
+            CapsuleType::Drain => go_on(stream, Event::Draining, left, end),
         }
     }
 
@@ -196,5 +188,17 @@ impl Connection {
             consumed: len,
             event: Event::SessionClosed(Close::clean()),
         }
+    }
+}
+
+// Goes on with a session, of whose content `left` bytes before `end` are left.
+fn go_on<'a>(stream: &mut Stream, event: Event<'a>, left: usize, end: usize) -> Received<'a>
+    ensures { (result.consumed, told_of result.event, stream.new)
+        ≡ goes_on_with stream.old (told_of event.entry) left end }
+{
+    stream.part = Part::Session(left);
+    Received {
+        consumed: end.saturating_sub(left),
+        event,
     }
 }

@@ -1,7 +1,7 @@
 //! Streams of sessions, streams that end before their last byte, and datagrams.
 ghost use Rattle.std.specs.Prelude.{◌≡◌, Ok, Err, MatchResult, option_map};
 ghost use Rattle.wtp_webtransport.specs.Events.{told_of};
-ghost use Rattle.wtp_webtransport.specs.Joining.{joins, resets, abandons, joining_of, joined_told, stops, takes, after_datagram};
+ghost use Rattle.wtp_webtransport.specs.Joining.{joins, resets, reset_told, stops_half, abandons, joining_of, joined_told, stops, takes, after_datagram};
 
 use crate::connection::Connection;
 use crate::event::{Event, Waits};
@@ -35,38 +35,71 @@ impl Connection {
     /// Says that the peer reset a stream. Its bytes that were not returned are lost, and the stream
     /// is over.
     ///
-    /// Returns `SessionLost` if it is the own stream of an open session, otherwise `Reset`, or `ConnectionError` for the control stream (RFC 9114, section 6.2.1) and
-    /// those of QPACK (RFC 9204, section 4.2), and `More` after an error of the connection.
+    /// Returns `SessionLost` if it is the own stream of an open session, and otherwise `Reset`.
+    /// `ConnectionError` is for the control stream (RFC 9114, section 6.2.1) and those of QPACK (RFC
+    /// 9204, section 4.2). After an error of the connection it returns `More`, and nothing changes.
     pub fn reset(&mut self, stream: &mut Stream) -> Event<'static>
         ensures { (told_of result, self.new, stream.new) ≡ resets self.old stream.old }
     {
         if self.over {
             return Event::More;
         }
-        let lost = stream.holds_session();
-        stream.end();
+        let held = stream.holds_session();
         match self.streams.reset(&mut stream.frames) {
             Some(fault) => match fault.scope() {
-                ErrorScope::Stream => Event::Reset(Some(Fault::Streams(fault))),
+                ErrorScope::Stream => {
+                    stream.end();
+                    was_reset(held, Some(Fault::Streams(fault)))
+                }
                 _ => self.close(Fault::Streams(fault)),
             },
-            None if lost => Event::SessionLost,
-            None => Event::Reset(None),
+            None => {
+                stream.end();
+                was_reset(held, None)
+            }
         }
+    }
+
+    /// Says that the peer asked to stop the own half of a bidirectional stream (STOP_SENDING). The
+    /// own half is to be reset (RFC 9000, section 3.5).
+    ///
+    /// Returns `SessionLost` if it is the own stream of an open session, which ends by that: the
+    /// stream is over. Otherwise the other half goes on, and it returns `More`. Of a stream that is
+    /// opened in one direction see [`stopped`](Self::stopped).
+    pub fn stop(&mut self, stream: &mut Stream) -> Event<'static>
+        ensures { (told_of result, self.new, stream.new) ≡ stops_half self.old stream.old }
+    {
+        if !stream.holds_session() {
+            return Event::More;
+        }
+        self.abandon(stream)
     }
 
     /// Ends the reading of a stream, for a reason of the application. The stream is over: its bytes
     /// are discarded. The control stream and those of QPACK stay as they are: the peer must not be
     /// asked to close them (RFC 9114, section 6.2.1; RFC 9204, section 4.2).
-    pub fn abandon(&mut self, stream: &mut Stream)
-        ensures { (self.new, stream.new) ≡ abandons self.old stream.old }
+    ///
+    /// Returns `SessionLost` if it is the own stream of an open session, and otherwise `More`. After
+    /// an error of the connection nothing changes.
+    pub fn abandon(&mut self, stream: &mut Stream) -> Event<'static>
+        ensures { (told_of result, self.new, stream.new) ≡ abandons self.old stream.old }
     {
+        if self.over {
+            return Event::More;
+        }
+        let held = stream.holds_session();
         stream.end();
         self.streams.abandon(&mut stream.frames);
+        if held {
+            Event::SessionLost
+        } else {
+            Event::More
+        }
     }
 
     /// Says that the peer asked to stop a stream that was opened here (STOP_SENDING). `own` is what
-    /// that stream is for. If there is no error, the own half is to be reset (RFC 9000, section 3.5);
+    /// that stream is for; of the own half of a bidirectional stream [`stop`](Self::stop) says what
+    /// comes of its session. If there is no error, the own half is to be reset (RFC 9000, section 3.5);
     /// the other half goes on, and what else to do is the application's.
     ///
     /// # Errors
@@ -116,6 +149,17 @@ impl Connection {
                 Err(Fault::Streams(fault))
             }
         }
+    }
+}
+
+// Returns the event of a reset. `held`: the stream has an open session.
+fn was_reset(held: bool, fault: Option<Fault>) -> Event<'static>
+    ensures { told_of result ≡ reset_told held fault }
+{
+    if held {
+        Event::SessionLost
+    } else {
+        Event::Reset(fault)
     }
 }
 
