@@ -19,10 +19,10 @@ use Rattle.wtp_connection.specs.declared.stream.Stream.TheVariants.{Joining, Wai
 use Rattle.wtp_connection.specs.Opening.{is_critical, is_for_critical, has_no_headers, over_from}
 use Rattle.wtp_connection.specs.Requests.{with_request}
 use Rattle.wtp_connection.specs.Streams.{connection_of, with_stream, closed_by, Seen, StreamRun, most_waiting, Joined, other_fault, refuses, settles, waits, freed, joins_open, without, reset_answer_at, reset_answer, overflows_open}
-use Rattle.wtp_transcripts.specs.Transcript.{read, Held, Event, Came, Told, Reset, Overflowed, Abandoned, Outcome, answered, called, unread, ends, reads_on, happens, alone, Table, with_held, Step, Accepted, Stopped, On, Transcript, State, begin, at_stream, next, after, marked, found_by, seen_in, on_stream, events_of, places, HasPlace, HasPlaces, is_opened as flag}
+use Rattle.wtp_transcripts.specs.Transcript.{read, Held, Event, Came, Told, Reset, Overflowed, Abandoned, Outcome, answered, called, unread, ends, reads_on, happens, alone, Table, Step, Accepted, Stopped, On, Transcript, State, begin, at_stream, next, after, marked, found_by, seen_in, on_stream, events_of, places, HasPlace, HasPlaces, is_opened as flag}
 use Rattle.wtp_transcripts.proofs.AlikeLemmas.{Flags, Goes, goes_then, goes_same, closed_goes, closed_over, RunsAlike, AgreesOn, read_alike, opened_first, Agree, plain_agree}
 use Rattle.wtp_transcripts.proofs.OverLemmas.{read_from, before_steps, nothing_seen, seen_append}
-use Rattle.wtp_transcripts.proofs.WaitLemmas.{EventCounts, event_counts}
+use Rattle.wtp_transcripts.proofs.WaitLemmas.{EventCounts, event_counts, held_at, held_other}
 
 -- ---- calls
 
@@ -211,12 +211,6 @@ on_other : (n m : ℕ) (seen : List Seen) → eqb m n ≡ false → on_stream n 
 on_other n m [] e = refl
 on_other n m (i ∷ seen) e = rw e (on_other n m seen e)
 
-pub with_same : (n m : ℕ) (h : Held) (t : Table) → eqb m n ≡ true → with_held m h t n ≡ h
-with_same n m h t e = rw e refl
-
-pub with_other : (n m : ℕ) (h : Held) (t : Table) → eqb m n ≡ false → with_held m h t n ≡ t n
-with_other n m h t e = rw e refl
-
 -- the stream gives what it gives alone, and the same is held of it
 pub record IsAlone (n : ℕ) (x : State) (d : Connection) (steps : Transcript) : Type 0 where
   pub seen : on_stream n (seen_in x steps) ≡ (alone d (x.streams n) (events_of n steps)).seen
@@ -246,7 +240,7 @@ passes n a x d steps none same rest h = record {
 goes_on : (n m : ℕ) (e : Event) (x : State) (d : Connection) (steps : Transcript) → EventsAlike x.connection d (at_stream x m e) (happens d (x.streams m) e) → eqb m n ≡ true → IsAlone n (next x (On m e)) (happens d (x.streams m) e).connection steps → IsAlone n x d (On m e ∷ steps)
 goes_on n m e x d steps k is h =
     let y : Outcome = happens d (x.streams m) e in
-    let same : (next x (On m e)).streams n ≡ y.held = with_same n m (at_stream x m e).held x.streams is ∙ sym k.held in
+    let same : (next x (On m e)).streams n ≡ y.held = held_at m n (at_stream x m e).held x.streams is ∙ sym k.held in
     let events : events_of n (On m e ∷ steps) ≡ e ∷ events_of n steps = rw is refl in
     let one : m ≡ n = eqb-true m n is in
     record {
@@ -336,12 +330,12 @@ stays_alone (On m e ∷ steps) n x d w k o h =
           let one : m ≡ n = eqb-true m n same in
           let mine : d.waiting ≡ places (x.streams m).stream = k ∙ ap (λ (i : ℕ). places (x.streams i).stream) (sym one) in
           let a : EventsAlike x.connection d (at_stream x m e) (happens d (x.streams m) e) = event_within e (x.streams m) x.connection d w (both_places x.connection d (x.streams m).stream e (h.0 one) mine) goes in
-          let is : (happens d (x.streams m) e).held ≡ (next x (On m e)).streams n = a.held ∙ sym (with_same n m (at_stream x m e).held x.streams same) in
+          let is : (happens d (x.streams m) e).held ≡ (next x (On m e)).streams n = a.held ∙ sym (held_at m n (at_stream x m e).held x.streams same) in
           goes_on n m e x d steps a same (
           stays_alone steps n (next x (On m e)) (happens d (x.streams m) e).connection (within_goes x.connection d (at_stream x m e).connection (happens d (x.streams m) e).connection w a.goes goes a.over) (still_counted e (x.streams m) d ((next x (On m e)).streams n) is mine) o h.1)
       | inr other ↦
-          passes n (On m e) x d steps (on_other n m (at_stream x m e).seen other) (with_other n m (at_stream x m e).held x.streams other) (rw other refl) (
-          stays_alone steps n (next x (On m e)) d (within_opens x.connection (next x (On m e)).connection d w (event_opens e (x.streams m) x.connection) goes) (k ∙ ap (λ (z : Held). places z.stream) (sym (with_other n m (at_stream x m e).held x.streams other))) o h.1)
+          passes n (On m e) x d steps (on_other n m (at_stream x m e).seen other) (held_other m n (at_stream x m e).held x.streams other) (rw other refl) (
+          stays_alone steps n (next x (On m e)) d (within_opens x.connection (next x (On m e)).connection d w (event_opens e (x.streams m) x.connection) goes) (k ∙ ap (λ (z : Held). places z.stream) (sym (held_other m n (at_stream x m e).held x.streams other))) o h.1)
     ]
 
 -- from the first byte on

@@ -100,7 +100,7 @@ reads_more old fin l b x h =
     ap (λ (z : StreamRun). after_seen (answered x.2) (outcome_of (old || fin) z)) (read_more old fin x.0 x.1 l b h)
     ∙ sym (after_twice (answered x.2) y.seen (outcome_of (old || fin) (read (old || fin) y.connection y.stream (y.left ++ b))))
 
-or_twice : (a b c : Bool) → ((a || b) || c) ≡ (a || (b || c))
+pub or_twice : (a b c : Bool) → ((a || b) || c) ≡ (a || (b || c))
 or_twice true b c = refl
 or_twice false b c = refl
 
@@ -300,7 +300,7 @@ valid_told : (o : Option Known) (c : Connection) (h : Held) (a : List ℕ) (f : 
 valid_told None c h a f j v t = t
 valid_told (Some k) c h a f j v t = v
 
-or_none : (f : Bool) → (f || false) ≡ f
+pub or_none : (f : Bool) → (f || false) ≡ f
 or_none true = refl
 or_none false = refl
 

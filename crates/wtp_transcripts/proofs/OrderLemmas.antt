@@ -18,9 +18,10 @@ use Rattle.wtp_connection.specs.Requests.{with_request}
 use Rattle.wtp_connection.specs.Streams.{connection_of, with_stream, closed_by, Joined, stops}
 use Rattle.wtp_transcripts.specs.Transcript.{Held, Event, Came, Outcome, called, unread, ends, happens, alone, bytes_in, end_in, last_said, said, at_once, IsRead, IsStill, Table, Accepted, Stopped, On, Transcript, State, begin, at_stream, next, after, seen_in, on_stream, events_of, places, HasPlace, HasPlaces, is_opened as flag, alone_on, StopsNone, KeepsRules, AllHavePlaces, NoneWaits, SameBytes, SameOn}
 use Rattle.wtp_transcripts.proofs.AlikeLemmas.{Flags, opened_first, opened_then, plain_agree}
+use Rattle.wtp_transcripts.proofs.WaitLemmas.{held_at, held_other}
 use Rattle.wtp_transcripts.proofs.OverLemmas.{read_from, accepted_over}
 use Rattle.wtp_transcripts.proofs.OnceLemmas.{alone_from, once, once_back}
-use Rattle.wtp_transcripts.proofs.IndependentLemmas.{SamePlace, CallsAlike, call_alike, EventsAlike, event_alike, event_goes, AgreesAt, with_same, with_other, both_places, still_counted, begun_flags, accepted_opens, IsAlone, stands_alone}
+use Rattle.wtp_transcripts.proofs.IndependentLemmas.{SamePlace, CallsAlike, call_alike, EventsAlike, event_alike, event_goes, AgreesAt, both_places, still_counted, begun_flags, accepted_opens, IsAlone, stands_alone}
 
 -- ---- what is opened stays so
 
@@ -109,12 +110,12 @@ last_same x d m e steps n a = elim (cases_Bool (eqb m n)) [
       let y : Outcome = happens (d m) (x.streams m) e in
       let one : m ≡ n = eqb-true m n same in
       ap (λ (c : Connection). (alone c ((next x (On m e)).streams n) (events_of n steps)).connection) (same_alone n m y.connection d same)
-      ∙ ap (λ (h : Held). (alone y.connection h (events_of n steps)).connection) (with_same n m (at_stream x m e).held x.streams same ∙ sym a.held)
+      ∙ ap (λ (h : Held). (alone y.connection h (events_of n steps)).connection) (held_at m n (at_stream x m e).held x.streams same ∙ sym a.held)
       ∙ ap (λ (i : ℕ). (alone (d i) (x.streams i) (e ∷ events_of n steps)).connection) one
       ∙ ap (λ (l : List Event). (alone (d n) (x.streams n) l).connection) (sym (its_events n m e steps same))
   | inr other ↦
       ap (λ (c : Connection). (alone c ((next x (On m e)).streams n) (events_of n steps)).connection) (other_alone n m (happens (d m) (x.streams m) e).connection d other)
-      ∙ ap (λ (h : Held). (alone (d n) h (events_of n steps)).connection) (with_other n m (at_stream x m e).held x.streams other)
+      ∙ ap (λ (h : Held). (alone (d n) h (events_of n steps)).connection) (held_other m n (at_stream x m e).held x.streams other)
       ∙ ap (λ (l : List Event). (alone (d n) (x.streams n) l).connection) (sym (other_events n m e steps other))
 ]
 
@@ -139,8 +140,8 @@ allowed_event x d m e steps w h =
         | inr other ↦ ap (λ (c : Connection). c.endpoint) (other_alone n m y.connection d other) ∙ w.endpoint n ∙ sym a.goes.endpoint
       ];
       counted = λ n. elim (cases_Bool (eqb m n)) [
-        | inl same ↦ ap (λ (c : Connection). c.waiting) (same_alone n m y.connection d same) ∙ still_counted e (x.streams m) (d m) ((next x (On m e)).streams n) (a.held ∙ sym (with_same n m (at_stream x m e).held x.streams same)) (w.counted m)
-        | inr other ↦ ap (λ (c : Connection). c.waiting) (other_alone n m y.connection d other) ∙ w.counted n ∙ ap (λ (z : Held). places z.stream) (sym (with_other n m (at_stream x m e).held x.streams other))
+        | inl same ↦ ap (λ (c : Connection). c.waiting) (same_alone n m y.connection d same) ∙ still_counted e (x.streams m) (d m) ((next x (On m e)).streams n) (a.held ∙ sym (held_at m n (at_stream x m e).held x.streams same)) (w.counted m)
+        | inr other ↦ ap (λ (c : Connection). c.waiting) (other_alone n m y.connection d other) ∙ w.counted n ∙ ap (λ (z : Held). places z.stream) (sym (held_other m n (at_stream x m e).held x.streams other))
       ];
       opened = λ p f. opened_by p f (a.goes.flags p);
       sound = λ n. ap (λ (c : Connection). c.over) (last_same x d m e steps n a) ∙ w.sound n;

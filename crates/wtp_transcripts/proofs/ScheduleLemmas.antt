@@ -20,10 +20,11 @@ use Rattle.wtp_transcripts.specs.Transcript.{read, Held, called, end_seen, Table
 use Rattle.wtp_transcripts.specs.Calls.{Call, Arrived, Returned, Interim, Made, CallIs, CallStep, Accepts, Stops, At, Leads, calls_on, AreReads, arrived, end_arrived, found_in, IsIdle}
 use Rattle.wtp_transcripts.proofs.AlikeLemmas.{Goes, goes_same, closed_goes, RunsAlike, read_alike, opened_first, plain_agree}
 use Rattle.wtp_transcripts.proofs.CallLemmas.{call_finds}
-use Rattle.wtp_transcripts.proofs.IndependentLemmas.{call_alike, its_place, flags_open, Opens, accepted_opens, stopped_opens, with_same, with_other}
+use Rattle.wtp_transcripts.proofs.IndependentLemmas.{call_alike, its_place, flags_open, Opens, accepted_opens, stopped_opens}
+use Rattle.wtp_transcripts.proofs.OnceLemmas.{or_twice, or_none}
 use Rattle.wtp_transcripts.proofs.OverLemmas.{over_read, read_from, call_over, accepted_over, stopped_over}
 use Rattle.wtp_transcripts.proofs.ShowLemmas.{has_broke, has_opening, opening_later, read_shows, read_hides}
-use Rattle.wtp_transcripts.proofs.WaitLemmas.{keeps_waiting, open_gives}
+use Rattle.wtp_transcripts.proofs.WaitLemmas.{held_at, held_other, keeps_waiting, open_gives}
 
 -- ---- what any call does to the connection
 
@@ -145,14 +146,6 @@ reads_before c d h calls k q f r =
       over = a.over ∙ r.over;
     }
 
-or_twice : (a b c : Bool) → ((a || b) || c) ≡ (a || (b || c))
-or_twice true b c = refl
-or_twice false b c = refl
-
-or_none : (f : Bool) → (f || false) ≡ f
-or_none true = refl
-or_none false = refl
-
 ends_once : (calls : List Call) → AreReads true calls → arrived calls ≡ []
 ends_once [] r = refl
 ends_once (Arrived bytes fin ∷ calls) r = ap (λ (l : List ℕ). l ++ arrived calls) (r.0 refl) ∙ ends_once calls r.1
@@ -237,14 +230,14 @@ interleaved (At m x ∷ steps) c d t u n q (e, k, is, l) o a i = elim (cases_Boo
   | inl same ↦
       let one : m ≡ n = eqb-true m n same in
       let calls : calls_on n (At m x ∷ steps) ≡ x ∷ calls_on n steps = rw same refl in
-      let held : with_held m k t n ≡ k = with_same n m k t same in
+      let held : with_held m k t n ≡ k = held_at m n k t same in
       subst (λ (z : List Call). ReadsAs c (t n) z (u n)) (sym calls) (
       reads_its x c e (t n) k (calls_on n steps) (u n) (subst (λ (j : ℕ). CallIs x c (t j) e k) one is) (subst (λ (z : List Call). AreReads (t n).fin z) calls a) (λ b.
       subst (λ (z : Held). ReadsAs e z (calls_on n steps) (u n)) held (
       interleaved steps e d (with_held m k t) u n ((call_follows x c e (t m) k is).plain q) l o (subst (λ (z : Held). AreReads z.fin (calls_on n steps)) (sym held) b) i)))
   | inr other ↦
       let calls : calls_on n (At m x ∷ steps) ≡ calls_on n steps = rw other refl in
-      let held : with_held m k t n ≡ t n = with_other n m k t other in
+      let held : with_held m k t n ≡ t n = held_other m n k t other in
       subst (λ (z : List Call). ReadsAs c (t n) z (u n)) (sym calls) (
       reads_before c e (t n) (calls_on n steps) (u n) q (call_follows x c e (t m) k is) (
       subst (λ (z : Held). ReadsAs e z (calls_on n steps) (u n)) held (

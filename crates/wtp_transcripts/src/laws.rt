@@ -26,29 +26,30 @@ pub fn calls_find_everything()
 /// Calls on many streams may be interleaved in any order, and a stream need not be read to its last byte
 /// before another one is. While no error ends the connection, and nothing but `receive` is called on a
 /// stream, what its calls find is what is in all of its bytes, joined, as the connection was before
-/// them, once they find nothing more. The connection resumes no session, or SETTINGS came. A stream that waits gives nothing and loses no byte; one of an
-/// open session gives exactly its bytes, and its end.
+/// them, once they find nothing more. A stream that waits gives nothing and loses no byte; one of an
+/// open session gives exactly its bytes, and its end. The connection resumes no session, or SETTINGS
+/// came.
 pub fn calls_may_be_interleaved()
     ensures seen { (steps : List CallStep) (c d : Connection) (t u : Table) (n : ℕ)
-        → c.resumed ≡ false → Leads steps c t d u → d.over ≡ false → AreReads (t n).fin (calls_on n steps)
-        → IsIdle d (u n)
+        → c.resumed ≡ false → Leads steps c t d u → d.over ≡ false
+        → AreReads (t n).fin (calls_on n steps) → IsIdle d (u n)
         → found_in (calls_on n steps) (t n).left
         ≡ (read ((t n).fin || end_arrived (calls_on n steps)) c (t n).stream
         ((t n).left ++ arrived (calls_on n steps))).seen }
     ensures stream { (steps : List CallStep) (c d : Connection) (t u : Table) (n : ℕ)
-        → c.resumed ≡ false → Leads steps c t d u → d.over ≡ false → AreReads (t n).fin (calls_on n steps)
-        → IsIdle d (u n)
+        → c.resumed ≡ false → Leads steps c t d u → d.over ≡ false
+        → AreReads (t n).fin (calls_on n steps) → IsIdle d (u n)
         → (u n).stream
         ≡ (read ((t n).fin || end_arrived (calls_on n steps)) c (t n).stream
         ((t n).left ++ arrived (calls_on n steps))).stream }
     ensures waiting { (steps : List CallStep) (c d : Connection) (t u : Table) (n s : ℕ)
-        → c.resumed ≡ false → Leads steps c t d u → d.over ≡ false → AreReads (t n).fin (calls_on n steps)
-        → IsIdle d (u n) → (t n).stream ≡ Waiting s
+        → c.resumed ≡ false → Leads steps c t d u → d.over ≡ false
+        → AreReads (t n).fin (calls_on n steps) → IsIdle d (u n) → (t n).stream ≡ Waiting s
         → (found_in (calls_on n steps) (t n).left ≡ [])
         × ((u n).left ≡ (t n).left ++ arrived (calls_on n steps)) }
     ensures session { (steps : List CallStep) (c d : Connection) (t u : Table) (n s : ℕ)
-        → c.resumed ≡ false → Leads steps c t d u → d.over ≡ false → AreReads (t n).fin (calls_on n steps)
-        → IsIdle d (u n) → (t n).stream ≡ Session s
+        → c.resumed ≡ false → Leads steps c t d u → d.over ≡ false
+        → AreReads (t n).fin (calls_on n steps) → IsIdle d (u n) → (t n).stream ≡ Session s
         → found_in (calls_on n steps) (t n).left
         ≡ bytes_seen ((t n).left ++ arrived (calls_on n steps))
         ++ end_seen ((t n).fin || end_arrived (calls_on n steps)) }
