@@ -19,14 +19,17 @@ use wtp_dynamic::error::DecoderStreamError;
 use wtp_dynamic::ledger::{Ledger, Sent};
 use wtp_dynamic::table::DynamicTable;
 
-/// Returns below which absolute index a section of a stream may refer to entries: to all that were
-/// inserted if the stream may be blocked, and otherwise to those that are known to be received.
-fn bound_of(table: &DynamicTable, ledger: &Ledger, stream: u64, most: u64) -> u64
+/// Returns below which absolute index a section of a stream may refer to entries: to none if as many
+/// sections as may be are not acknowledged; to all that were inserted if the stream may be blocked;
+/// and otherwise to those that are known to be received.
+fn bound_of(policy: Policy, table: &DynamicTable, ledger: &Ledger, stream: u64, most: u64) -> u64
     requires { ledger.now.0 ≤ insert_count table.now }
     ensures within { result ≤ insert_count table.now }
-    ensures value { result ≡ bound_for stream most ledger.now table.now }
+    ensures value { result ≡ bound_for stream most policy ledger.now table.now }
 {
-    if ledger.may_block(stream, most) {
+    if ledger.len() as u64 >= policy.unacknowledged {
+        0
+    } else if ledger.may_block(stream, most) {
         table.insert_count()
     } else {
         ledger.known()
@@ -178,8 +181,8 @@ impl QpackEncoder {
     }
 
     /// Sets the capacity of the table, and appends the instruction to the encoder stream (section
-    /// 4.3.1). Returns whether it was set: it is at most the limit, and no entry has to go that may
-    /// not.
+    /// 4.3.1). Returns whether it was set: the limit is not 0 (section 3.2.3), the capacity is at
+    /// most the limit, and no entry has to go that may not.
     ///
     /// Returns [`AllocError`] if it may be set and allocation failed; nothing has changed then.
     #[tactic(auto, using(crate::proofs::Orders::one_step))]
@@ -245,8 +248,9 @@ impl QpackEncoder {
     /// has the texts. A field that is never indexed is a literal with the bit N (section 7.1.3).
     ///
     /// No line refers to an entry that is draining, or that the decoder may not have received while
-    /// the stream may not be blocked. The Base is the count of insertions, or 0 if no line refers
-    /// to the dynamic table.
+    /// the stream may not be blocked; nor to any entry of the dynamic table while as many sections
+    /// are unacknowledged as the [`Policy`] allows. The Base is the count of insertions, or 0 if no
+    /// line refers to the dynamic table.
     ///
     /// Returns [`AllocError`] if allocation failed. No section is appended then; entries may have
     /// been inserted, and their instructions are in the encoder stream.
@@ -269,7 +273,7 @@ impl QpackEncoder {
             encoder_stream,
         )?;
         let low = draining_index(self.policy, &self.table);
-        let bound = bound_of(&self.table, &self.ledger, stream, self.most);
+        let bound = bound_of(self.policy, &self.table, &self.ledger, stream, self.most);
         let lines = match write_lines(self.alloc, &self.table, low, bound, proposals) {
             Ok(lines) => lines,
             Err(fault) => return Err(fault),

@@ -37,12 +37,12 @@ fn may_insert(table: &DynamicTable, ledger: &Ledger, name: &[u8], value: &[u8]) 
     }
 }
 
-/// Returns whether the capacity may be changed: it is within the limit, and only entries have to go
-/// that may go.
+/// Returns whether the capacity may be changed: the limit is not 0 (section 3.2.3), the capacity is
+/// within it, and only entries have to go that may go.
 fn may_resize(table: &DynamicTable, ledger: &Ledger, capacity: u64) -> bool
     ensures { result ≡ may_resize capacity (encoder_of table.now ledger.now) }
 {
-    capacity <= table.limit() && ledger.may_evict(table.dropped_for(capacity))
+    table.limit() > 0 && capacity <= table.limit() && ledger.may_evict(table.dropped_for(capacity))
 }
 
 /// Inserts an entry if it may be, and appends the order. Returns whether it was inserted.

@@ -5,7 +5,7 @@ use Rattle.wtp_dynamic_encoder.proofs.encoder.QpackEncoder.encode.Goals as goal
 
 pub invariant_of-self-2 : goal.invariant_of-self-2
 invariant_of-self-2 c =
-    sent_keeps c.send.result c.args.stream c.self.inside.most c.draining_index-low.result c.bound_of-bound.result c.insert_all.new.table _ _ _ _ c.self.inside.ledger c.send.new.ledger _ _
+    sent_keeps c.send.result c.args.stream c.self.inside.most c.self.inside.policy c.draining_index-low.result c.bound_of-bound.result c.insert_all.new.table _ _ _ _ c.self.inside.ledger c.send.new.ledger _ _
     c.send.ensures c.in-Ok.ensures.lines c.bound_of-bound.ensures.within c.bound_of-bound.ensures.value (c.insert_all.ensures.owes c.self.invariant.0, c.self.invariant.1)
 
 pub returns : goal.returns
