@@ -166,6 +166,14 @@ impl DynamicTable {
         self.dropped + self.entries.len() as u64
     }
 
+    /// Returns how many entries were evicted: the absolute index of the oldest that is left.
+    pub fn dropped(&self) -> u64
+        ensures value { result ≡ self.now.dropped }
+        ensures few { result + length self.now.live ≤ 2 ^ 62 }
+    {
+        self.dropped
+    }
+
     /// Returns the size of the entries that are left, which is at most the capacity.
     pub fn size(&self) -> u64
         ensures value { result ≡ table_size self.now.live }

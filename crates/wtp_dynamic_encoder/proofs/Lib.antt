@@ -6,3 +6,6 @@ pub mod Orders
 pub mod Kept
 pub mod Read
 pub mod Encoded
+pub mod Chained
+pub mod Hashed
+pub mod Walks

@@ -10,7 +10,9 @@ ghost use Rattle.wtp_dynamic_encoder.specs.Encoding.{Runs, State, held_count, en
 
 use crate::choice::draining_index;
 use crate::decoder_stream::DecoderStream;
+use crate::indexed::IndexedTable;
 use crate::insertion;
+use crate::key::Key;
 use crate::proposal::{Policy, Proposal};
 use crate::section::{Lines, write_lines};
 use std::alloc::{AllocError, Global};
@@ -22,7 +24,7 @@ use wtp_dynamic::table::DynamicTable;
 /// Returns below which absolute index a section of a stream may refer to entries: to none if as many
 /// sections as may be are not acknowledged; to all that were inserted if the stream may be blocked;
 /// and otherwise to those that are known to be received.
-fn bound_of(policy: Policy, table: &DynamicTable, ledger: &Ledger, stream: u64, most: u64) -> u64
+fn bound_of(policy: Policy, table: &IndexedTable, ledger: &Ledger, stream: u64, most: u64) -> u64
     requires { ledger.now.0 ≤ insert_count table.now }
     ensures within { result ≤ insert_count table.now }
     ensures value { result ≡ bound_for stream most policy ledger.now table.now }
@@ -42,7 +44,7 @@ fn bound_of(policy: Policy, table: &DynamicTable, ledger: &Ledger, stream: u64, 
 fn send(
     alloc: Global,
     stream: u64,
-    table: &DynamicTable,
+    table: &IndexedTable,
     ledger: &mut Ledger,
     lines: &Lines,
     out: &mut Vec<u8>,
@@ -82,7 +84,7 @@ fn send(
 #[derive(Drop)]
 pub struct QpackEncoder {
     alloc: Global,
-    table: DynamicTable,
+    table: IndexedTable,
     ledger: Ledger,
     decoder: DecoderStream,
     fault: Option<DecoderStreamError>,
@@ -127,7 +129,7 @@ impl QpackEncoder {
     {
         QpackEncoder {
             alloc,
-            table: DynamicTable::new(alloc, limit),
+            table: IndexedTable::new(alloc, limit),
             ledger: Ledger::new(alloc),
             decoder: DecoderStream::new(alloc),
             fault: None,
@@ -154,7 +156,7 @@ impl QpackEncoder {
     pub fn table(&self) -> &DynamicTable
         ensures { result.now ≡ self.now.table }
     {
-        &self.table
+        self.table.table()
     }
 
     /// Returns the Known Received Count: how many entries the decoder is known to have received
@@ -232,6 +234,7 @@ impl QpackEncoder {
             self.alloc,
             &mut self.table,
             &self.ledger,
+            Key::of(name, value),
             name,
             value,
             encoder_stream,

@@ -4,18 +4,21 @@
 ghost use Rattle.std.specs.Prelude.{◌≡◌, ◌-◌, ◌<◌, ◌≤◌, MatchOption, MatchResult};
 ghost use Rattle.wtp_dynamic.specs.Table.{entry_size};
 ghost use Rattle.wtp_dynamic.specs.EncoderState.{Owes, may_resize};
+ghost use Rattle.wtp_dynamic_encoder.specs.Keys.{IsKey};
 ghost use Rattle.wtp_dynamic_encoder.specs.Encoding.{encoder_of, can_insert, InsertsIf, ResizesIf, Offered, AreOffered, IsInserted, StoppedAt, Ordered};
 
 use crate::choice::{are_octets, is_wanted, order_for};
+use crate::indexed::IndexedTable;
+use crate::key::Key;
 use crate::plan::{Order, write_order};
 use crate::proposal::{Policy, Proposal};
 use std::alloc::{AllocError, Global};
 use wtp_dynamic::ledger::Ledger;
-use wtp_dynamic::table::{DynamicTable, Entry};
+use wtp_dynamic::table::Entry;
 
 /// Returns how many bytes of the capacity an entry leaves to others, or `None` if it is larger than
 /// the table.
-fn room_beside(table: &DynamicTable, name: &[u8], value: &[u8]) -> Option<u64>
+fn room_beside(table: &IndexedTable, name: &[u8], value: &[u8]) -> Option<u64>
     ensures { let size = entry_size (name.now, value.now) in MatchOption result
         (table.now.capacity < size)
         (λ room. (size ≤ table.now.capacity) × (room ≡ table.now.capacity - size)) }
@@ -26,7 +29,7 @@ fn room_beside(table: &DynamicTable, name: &[u8], value: &[u8]) -> Option<u64>
 
 /// Returns whether an entry may be inserted: it is not larger than the table, and only entries have
 /// to go that are known to be received, and to which no section refers that is not acknowledged.
-fn may_insert(table: &DynamicTable, ledger: &Ledger, name: &[u8], value: &[u8]) -> bool
+fn may_insert(table: &IndexedTable, ledger: &Ledger, name: &[u8], value: &[u8]) -> bool
     ensures { result ≡ can_insert (name.now, value.now) (encoder_of table.now ledger.now) }
 {
     match room_beside(table, name, value) {
@@ -39,23 +42,25 @@ fn may_insert(table: &DynamicTable, ledger: &Ledger, name: &[u8], value: &[u8]) 
 
 /// Returns whether the capacity may be changed: the limit is not 0 (section 3.2.3), the capacity is
 /// within it, and only entries have to go that may go.
-fn may_resize(table: &DynamicTable, ledger: &Ledger, capacity: u64) -> bool
+fn may_resize(table: &IndexedTable, ledger: &Ledger, capacity: u64) -> bool
     ensures { result ≡ may_resize capacity (encoder_of table.now ledger.now) }
 {
     table.limit() > 0 && capacity <= table.limit() && ledger.may_evict(table.dropped_for(capacity))
 }
 
-/// Inserts an entry if it may be, and appends the order. Returns whether it was inserted.
+/// Inserts an entry, whose key this is, if it may be, and appends the order. Returns whether it was inserted.
 ///
 /// Returns [`AllocError`] if it may be and allocation failed; nothing has changed then.
 fn insert_if_may(
     alloc: Global,
-    table: &mut DynamicTable,
+    table: &mut IndexedTable,
     ledger: &Ledger,
+    key: Key,
     name: &[u8],
     value: &[u8],
     out: &mut Vec<u8>,
 ) -> Result<bool, AllocError>
+    requires { IsKey key (name.now, value.now) }
     ensures { InsertsIf (name.now, value.now) ledger.now table.old table.new out.old.items
         out.new.items result }
 {
@@ -64,10 +69,10 @@ fn insert_if_may(
     }
     let entry = Entry::new(alloc, name, value)?;
     let mut bytes = Vec::new(alloc);
-    write_order(&mut bytes, order_for(table, name, value))?;
+    write_order(&mut bytes, order_for(table, key, name, value))?;
     let len = out.len();
     out.extend_from_slice(bytes.as_slice())?;
-    match table.insert(entry) {
+    match table.insert(alloc, entry, key.hashes) {
         Ok(()) => Ok(true),
         Err(_) => {
             out.truncate(len);
@@ -80,12 +85,14 @@ fn insert_if_may(
 /// was evicted that may not be.
 pub(crate) fn insert_entry(
     alloc: Global,
-    table: &mut DynamicTable,
+    table: &mut IndexedTable,
     ledger: &Ledger,
+    key: Key,
     name: &[u8],
     value: &[u8],
     out: &mut Vec<u8>,
 ) -> Result<bool, AllocError>
+    requires { IsKey key (name.now, value.now) }
     ensures entry { InsertsIf (name.now, value.now) ledger.now table.old table.new out.old.items
         out.new.items result }
     ensures orders { Ordered table.old table.new out.old.items out.new.items }
@@ -95,7 +102,7 @@ pub(crate) fn insert_entry(
     are_octets(value);
     // An instruction for an entry that fits the limit is not too long.
     let _fits = table.capacity() <= table.limit();
-    insert_if_may(alloc, table, ledger, name, value, out)
+    insert_if_may(alloc, table, ledger, key, name, value, out)
 }
 
 /// Sets the capacity if it may be, and appends the order. Returns whether it was set.
@@ -103,7 +110,7 @@ pub(crate) fn insert_entry(
 /// Returns [`AllocError`] if it may be and allocation failed; nothing has changed then.
 pub(crate) fn set_capacity(
     alloc: Global,
-    table: &mut DynamicTable,
+    table: &mut IndexedTable,
     ledger: &Ledger,
     capacity: u64,
     out: &mut Vec<u8>,
@@ -134,7 +141,7 @@ pub(crate) fn set_capacity(
 fn insert_proposed(
     alloc: Global,
     policy: Policy,
-    table: &mut DynamicTable,
+    table: &mut IndexedTable,
     ledger: &Ledger,
     proposal: Proposal<'_>,
     out: &mut Vec<u8>,
@@ -147,10 +154,19 @@ fn insert_proposed(
     ensures orders { Ordered table.old table.new out.old.items out.new.items }
     ensures owes { Owes (encoder_of table.old ledger.now) → Owes (encoder_of table.new ledger.now) }
 {
-    if !is_wanted(policy, table, proposal) {
+    let key = Key::of(proposal.name, proposal.value);
+    if !is_wanted(policy, table, key, proposal) {
         return Ok(());
     }
-    match insert_entry(alloc, table, ledger, proposal.name, proposal.value, out) {
+    match insert_entry(
+        alloc,
+        table,
+        ledger,
+        key,
+        proposal.name,
+        proposal.value,
+        out,
+    ) {
         Ok(_) => Ok(()),
         Err(fault) => Err(fault),
     }
@@ -163,7 +179,7 @@ fn insert_proposed(
 pub(crate) fn insert_all(
     alloc: Global,
     policy: Policy,
-    table: &mut DynamicTable,
+    table: &mut IndexedTable,
     ledger: &Ledger,
     proposals: &[Proposal<'_>],
     out: &mut Vec<u8>,

@@ -9,10 +9,11 @@ ghost use Rattle.wtp_dynamic_encoder.specs.PlanView.{plan_of};
 ghost use Rattle.wtp_dynamic_encoder.specs.Encoding.{place_of, prefix_for, raised, lowered, AreLines};
 
 use crate::choice::choose;
+use crate::indexed::IndexedTable;
+use crate::key::Key;
 use crate::plan::{Plan, write_line, write_prefix};
 use crate::proposal::Proposal;
 use std::alloc::{AllocError, Global};
-use wtp_dynamic::table::DynamicTable;
 
 /// The lines of a section, the insertions that they need, and an absolute index below which they
 /// refer to no entry.
@@ -31,7 +32,7 @@ impl Lines {
     pub(crate) fn append(
         &self,
         alloc: Global,
-        table: &DynamicTable,
+        table: &IndexedTable,
         out: &mut Vec<u8>,
     ) -> Result<(), AllocError>
         requires { 0 < self.now.required → 0 < most_entries table.now.limit }
@@ -82,7 +83,7 @@ fn note(lines: &mut Lines, place: Option<u64>)
 #[tactic(auto, using(crate::proofs::Sections::lines_push))]
 fn add_line(
     lines: &mut Lines,
-    table: &DynamicTable,
+    table: &IndexedTable,
     low: u64,
     bound: u64,
     proposal: Proposal<'_>,
@@ -95,7 +96,8 @@ fn add_line(
         lines.new.required lines.new.lowest) }
 {
     let base = table.insert_count();
-    let plan = choose(table, low, bound, proposal);
+    let key = Key::of(proposal.name, proposal.value);
+    let plan = choose(table, low, bound, key, proposal);
     write_line(&mut lines.bytes, base, plan)?;
     note(lines, place_of(plan));
     Ok(())
@@ -106,7 +108,7 @@ fn add_line(
 #[tactic(auto, using(crate::proofs::Sections::line_steps))]
 pub(crate) fn write_lines(
     alloc: Global,
-    table: &DynamicTable,
+    table: &IndexedTable,
     low: u64,
     bound: u64,
     proposals: &[Proposal<'_>],
