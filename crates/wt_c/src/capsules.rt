@@ -1,5 +1,5 @@
 //! Capsules that close a session (WebTransport over HTTP/3, "Session Termination").
-ghost use Rattle.std.specs.Prelude.{◌≡◌, ◌⊎◌, ◌≤◌, ◌<◌, length, drop, MatchOption, Some, None};
+ghost use Rattle.std.specs.Prelude.{◌≡◌, ◌⊎◌, ◌≤◌, ◌<◌, length, drop, Some, None};
 ghost use Rattle.std.specs.Prelude.{◌≢◌, [], IsUtf8};
 ghost use Rattle.wtp_wire.specs.CloseSession.{close_in, close_wire};
 ghost use Rattle.wt_c.specs.Output.{WritesPrefix, TooShort};
@@ -10,24 +10,6 @@ use wtp_core::bytes::{BufferWriter, BytesWriter};
 use wtp_core::error::ErrorCode;
 use wtp_wire::capsule::CapsuleError;
 use wtp_wire::capsule::capsules::CloseWebTransportSession;
-
-/// Returns the code in the value of a capsule that closes a session.
-#[tactic(auto, unfolding(wtp_wire::specs::CloseSession::close_in))]
-fn code_in(value: &[u8]) -> Option<u32>
-    ensures { MatchOption result (close_in value.now ≡ None)
-        (λ reset. close_in value.now ≡ Some (reset, drop 4 value.now)) }
-{
-    let Some((code, text)) = value.split_first_chunk::<4>() else {
-        return None;
-    };
-    if text.len() > CloseWebTransportSession::MAX_REASON_LEN {
-        return None;
-    }
-    let Ok(_) = str::from_utf8(text) else {
-        return None;
-    };
-    Some(u32::from_be_bytes(*code))
-}
 
 /// Reads the value of a capsule that closes a session: a code of the application in four bytes, and
 /// then a reason, which is all bytes after them.
@@ -43,8 +25,8 @@ pub extern "C" fn wt_close_read(value: &[u8], reset: &mut u32, code: &mut u64) -
     ensures fault { result ≡ ERROR → (close_in value.now ≡ None) × (code.new ≡ 0x33)
         × (reset.new ≡ reset.old) }
 {
-    match code_in(value) {
-        Some(found) => {
+    match CloseWebTransportSession::code_and_reason(value) {
+        Some((found, _)) => {
             *reset = found;
             OK
         }

@@ -2,6 +2,7 @@
 //! 4.3), and the prefix and lines of a section (section 4.5).
 
 ghost use Rattle.std.specs.Prelude.{◌≡◌, ◌++◌, ◌+◌, ◌*◌, ◌-◌, ◌^◌, ◌<◌, nat_lt, if◌then◌else◌, OnOk};
+ghost use Rattle.wtp_huffman.specs.HuffmanEncoding.{BeginsWith};
 ghost use Rattle.wtp_qpack.specs.Integer.{shortest_int};
 ghost use Rattle.wtp_dynamic.specs.Writing.{written};
 ghost use Rattle.wtp_dynamic.specs.Plans.{planned_line, planned_prefix, never_bit};
@@ -43,8 +44,9 @@ pub enum Order<'a> {
 
 /// Appends the start of an insertion with the name of an entry.
 fn write_inserted_name(out: &mut Vec<u8>, is_static: bool, index: u64) -> Result<(), AllocError>
-    ensures { OnOk result (out.new.items
+    ensures ok { OnOk result (out.new.items
         ≡ out.old.items ++ shortest_int 6 (if is_static then 3 else 2) index) }
+    ensures front { BeginsWith out.old.items out.new.items }
 {
     if is_static {
         write_integer::<6>(out, 3, index)
@@ -63,9 +65,10 @@ fn never_bit(never: bool) -> u8
 
 /// Appends the start of a line with the name of an entry of the dynamic table.
 fn write_name(out: &mut Vec<u8>, never: bool, base: u64, place: u64) -> Result<(), AllocError>
-    ensures { OnOk result (out.new.items ≡ out.old.items ++ (if nat_lt place base
+    ensures ok { OnOk result (out.new.items ≡ out.old.items ++ (if nat_lt place base
         then shortest_int 4 (4 + 2 * never_bit never) (base - 1 - place)
         else shortest_int 3 (never_bit never) (place - base))) }
+    ensures front { BeginsWith out.old.items out.new.items }
 {
     let bit = never_bit(never);
     if place < base {
@@ -76,8 +79,12 @@ fn write_name(out: &mut Vec<u8>, never: bool, base: u64, place: u64) -> Result<(
 }
 
 /// Appends the instruction of an order.
+///
+/// Returns [`AllocError`] if allocation fails. Then `out` begins with what it contained before, and
+/// what follows is unspecified.
 pub fn write_order(out: &mut Vec<u8>, order: Order<'_>) -> Result<(), AllocError>
-    ensures { OnOk result (out.new.items ≡ out.old.items ++ written (order_of order.entry)) }
+    ensures ok { OnOk result (out.new.items ≡ out.old.items ++ written (order_of order.entry)) }
+    ensures front { BeginsWith out.old.items out.new.items }
 {
     match order {
         Order::Sets(capacity) => write_integer::<5>(out, 1, capacity),
@@ -94,6 +101,9 @@ pub fn write_order(out: &mut Vec<u8>, order: Order<'_>) -> Result<(), AllocError
 }
 
 /// Appends the prefix of a section.
+///
+/// Returns [`AllocError`] if allocation fails. Then `out` begins with what it contained before, and
+/// what follows is unspecified.
 pub fn write_prefix(
     out: &mut Vec<u8>,
     most: u64,
@@ -102,7 +112,8 @@ pub fn write_prefix(
 ) -> Result<(), AllocError>
     requires few { most < 2 ^ 59 }
     requires some { 0 < required → 0 < most }
-    ensures { OnOk result (out.new.items ≡ out.old.items ++ planned_prefix most required base) }
+    ensures ok { OnOk result (out.new.items ≡ out.old.items ++ planned_prefix most required base) }
+    ensures front { BeginsWith out.old.items out.new.items }
 {
     write_integer::<8>(out, 0, insert_count::encode(most, required))?;
     if base < required {
@@ -113,8 +124,12 @@ pub fn write_prefix(
 }
 
 /// Appends a line. Indices count from the Base.
+///
+/// Returns [`AllocError`] if allocation fails. Then `out` begins with what it contained before, and
+/// what follows is unspecified.
 pub fn write_line(out: &mut Vec<u8>, base: u64, plan: Plan<'_>) -> Result<(), AllocError>
-    ensures { OnOk result (out.new.items ≡ out.old.items ++ planned_line base (plan_of plan.entry)) }
+    ensures ok { OnOk result (out.new.items ≡ out.old.items ++ planned_line base (plan_of plan.entry)) }
+    ensures front { BeginsWith out.old.items out.new.items }
 {
     match plan {
         Plan::StaticField(index) => write_integer::<6>(out, 3, index),

@@ -1,5 +1,5 @@
 //! How a session was closed (draft-ietf-webtrans-http3-02, section 5).
-ghost use Rattle.std.specs.Prelude.{◌≡◌, [], None, Some, MatchOption, drop};
+ghost use Rattle.std.specs.Prelude.{◌≡◌, [], None, Some, MatchOption};
 ghost use Rattle.wtp_wire.specs.CloseSession.{close_in};
 
 use std::marker::Model;
@@ -40,13 +40,11 @@ impl Close {
         requires { capsule.0 ≡ CapsuleKind.CloseWebTransportSession }
         ensures { MatchOption result (close_in capsule.entry.1 ≡ None) (λ c. close_in capsule.entry.1 ≡ Some c) }
     {
-        match code_in(capsule.payload()) {
-            Some(code) => Some(Close {
-                code,
-                capsule: Some(capsule),
-            }),
-            None => None,
-        }
+        let (code, _) = CloseWebTransportSession::code_and_reason(capsule.payload())?;
+        Some(Close {
+            code,
+            capsule: Some(capsule),
+        })
     }
 
     /// Returns the error code of the application.
@@ -65,22 +63,4 @@ impl Close {
             None => &[],
         }
     }
-}
-
-// Returns the code of a payload, if it is valid.
-#[tactic(auto, unfolding(wtp_wire::specs::CloseSession::close_in))]
-fn code_in(payload: &[u8]) -> Option<u32>
-    ensures { MatchOption result (close_in payload.now ≡ None)
-        (λ code. close_in payload.now ≡ Some (code, drop 4 payload.now)) }
-{
-    let Some((code, text)) = payload.split_first_chunk::<4>() else {
-        return None;
-    };
-    if text.len() > CloseWebTransportSession::MAX_REASON_LEN {
-        return None;
-    }
-    let Ok(_) = str::from_utf8(text) else {
-        return None;
-    };
-    Some(u32::from_be_bytes(*code))
 }

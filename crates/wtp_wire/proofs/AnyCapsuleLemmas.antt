@@ -16,7 +16,7 @@ use Rattle.wtp_wire.specs.declared.capsule.cursor.UnknownCapsule.{UnknownCapsule
 use Rattle.wtp_wire.specs.AnyCapsule.{AnyIs, CapsulesOfAny, FindsKnown, FindsLongHead, FindsUnknown, IsLongStart, IsUnknownStart, IsUnknownHead, IsKnownStart, LeavesPart, between, missing_from, missing_of}
 use Rattle.wtp_wire.specs.Capsule.{capsule_number_of, capsule_kind_of}
 use Rattle.wtp_wire.specs.CapsuleCursor.{FindsLong, IsCapsulePart, IsLeftOver, TakesPlace, WantsMore, capsule_value, held_by}
-use Rattle.wtp_wire.specs.CapsuleFront.{CapsuleFront, Found, IsCapsule, TooLong, Unknown, max_value_len, value_front, capsule_front}
+use Rattle.wtp_wire.specs.CapsuleFront.{CapsuleFront, Found, IsCapsule, TooLong, max_value_len, value_front, capsule_front}
 use Rattle.wtp_wire.specs.CapsuleStream.{Joins, MissesValue, skip_unknown, next_capsule, next_held}
 use Rattle.wtp_wire.specs.FrameNeed.{frame_need, frame_need_grows, frame_need_is, frame_need_some}
 use Rattle.wtp_wire.specs.Front.{EncodesPair}

@@ -3,6 +3,7 @@
 ghost use Rattle.std.specs.Prelude.{◌≡◌, ℕ, List, length, ◌*◌, ◌≤◌, ◌++◌, ◌<◌, IfOk, OnOk, IsTrue};
 ghost use Rattle.std.specs.Prelude.{Err, IsUtf8, string_bytes};
 ghost use Rattle.std.specs.Vec.{vec_len, vec_capacity};
+ghost use Rattle.wtp_huffman.specs.HuffmanEncoding.{BeginsWith};
 ghost use Rattle.wtp_qpack.specs.declared.qpack.DecodingError.TheVariants.{Memory};
 ghost use Rattle.wtp_qpack.specs.declared.qpack.string_literal.Texts.TheVariants.{Utf8};
 ghost use Rattle.wtp_qpack.specs.Field.{IsText};
@@ -307,7 +308,9 @@ fn write_by(
     name: &[u8],
     value: &[u8],
 ) -> Result<(), AllocError>
-    ensures { OnOk result (out.new.items ≡ out.old.items ++ line_of index (name.now, value.now)) }
+    ensures ok { OnOk result (out.new.items
+        ≡ out.old.items ++ line_of index (name.now, value.now)) }
+    ensures front { BeginsWith out.old.items out.new.items }
 {
     match index {
         None => {
@@ -327,10 +330,12 @@ fn write_by(
 
 /// Appends the line of a field.
 ///
-/// Returns [`AllocError`] if allocation fails. The contents of `out` are then unspecified.
+/// Returns [`AllocError`] if allocation fails. Then `out` begins with what it contained before, and
+/// what follows is unspecified.
 #[tactic(auto, unfolding(crate::specs::FieldLine::encoded_line))]
 pub fn write(out: &mut Vec<u8>, name: &str, value: &str) -> Result<(), AllocError>
     ensures ok { OnOk result (out.new.items ≡ out.old.items ++ encoded_line (name.now, value.now)) }
+    ensures front { BeginsWith out.old.items out.new.items }
     ensures texts { IsText name.now × IsText value.now }
 {
     is_text(name);
@@ -345,10 +350,12 @@ pub fn write(out: &mut Vec<u8>, name: &str, value: &str) -> Result<(), AllocErro
 
 /// Appends the line of a field whose name and value need not be UTF-8.
 ///
-/// Returns [`AllocError`] if allocation fails. The contents of `out` are then unspecified.
+/// Returns [`AllocError`] if allocation fails. Then `out` begins with what it contained before, and
+/// what follows is unspecified.
 #[tactic(auto, unfolding(crate::specs::FieldLine::encoded_line))]
 pub fn write_octets(out: &mut Vec<u8>, name: &[u8], value: &[u8]) -> Result<(), AllocError>
-    ensures { OnOk result (out.new.items ≡ out.old.items ++ encoded_line (name.now, value.now)) }
+    ensures ok { OnOk result (out.new.items ≡ out.old.items ++ encoded_line (name.now, value.now)) }
+    ensures front { BeginsWith out.old.items out.new.items }
 {
     write_by(out, static_table::first_entry_of(name), name, value)
 }

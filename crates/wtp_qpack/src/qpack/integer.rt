@@ -2,6 +2,7 @@
 
 ghost use Rattle.std.specs.Prelude.{◌≡◌, ◌+◌, ◌-◌, ◌*◌, ◌^◌, ◌<◌, ◌≤◌, [], ◌∷◌, ◌++◌, OnOk};
 ghost use Rattle.std.specs.Prelude.{SomeIff};
+ghost use Rattle.wtp_huffman.specs.HuffmanEncoding.{BeginsWith};
 ghost use Rattle.wtp_qpack.specs.Integer.{integer_at, groups_at, shortest_int};
 ghost use Rattle.wtp_qpack.specs.Qpack.{Gives};
 
@@ -88,12 +89,14 @@ pub fn only_byte<const N: u32>(flags: u8, value: u64) -> u8
 /// Appends an integer: the flags above the low `N` bits of the first byte, and no unnecessary
 /// group.
 ///
-/// Returns [`AllocError`] if allocation fails. The contents of `out` are then unspecified.
+/// Returns [`AllocError`] if allocation fails. Then `out` begins with what it contained before, and
+/// what follows is unspecified.
 pub fn write<const N: u32>(out: &mut Vec<u8>, flags: u8, value: u64) -> Result<(), AllocError>
     requires some { 1 ≤ N }
     requires few { N ≤ 8 }
     requires above { flags < 2 ^ (8 - N) }
-    ensures { OnOk result (out.new.items ≡ out.old.items ++ shortest_int N flags value) }
+    ensures ok { OnOk result (out.new.items ≡ out.old.items ++ shortest_int N flags value) }
+    ensures front { BeginsWith out.old.items out.new.items }
 {
     let ones = ones::<N>();
     if value < ones {

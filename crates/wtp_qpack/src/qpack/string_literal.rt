@@ -4,6 +4,7 @@ ghost use Rattle.std.specs.Prelude.{◌≡◌, ◌+◌, ◌-◌, ◌*◌, ◌^�
 ghost use Rattle.std.specs.Prelude.{IfOk, IfErr, OnOk, OnErr, SomeIff, IsTrue, true, Err};
 ghost use Rattle.std.specs.Vec.{vec_len, vec_capacity};
 ghost use Rattle.wtp_huffman.specs.Huffman.{coded_len};
+ghost use Rattle.wtp_huffman.specs.HuffmanEncoding.{BeginsWith};
 ghost use Rattle.wtp_qpack.specs.declared.qpack.DecodingError.TheVariants.{InvalidString, Memory};
 ghost use Rattle.wtp_qpack.specs.Integer.{shortest_int, integer_at};
 ghost use Rattle.wtp_qpack.specs.Qpack.{Gives, GivesUnlessMemory};
@@ -80,7 +81,7 @@ fn decode(
     requires fits { vec_len room.old + 2 * length body.now ≤ capacity }
     ensures read { GivesUnlessMemory (λ _. drop (length room.old.items) room.new.items) result
         (text_of texts true body.now) }
-    ensures front { OnOk result (take (length room.old.items) room.new.items ≡ room.old.items) }
+    ensures front { take (length room.old.items) room.new.items ≡ room.old.items }
     ensures size { OnOk result (vec_len room.new ≤ vec_len room.old + 2 * length body.now) }
     ensures once { Grows true capacity (vec_capacity room.old) (vec_capacity room.new) }
     ensures memory { result ≡ Err Memory → vec_capacity room.old < capacity }
@@ -107,7 +108,8 @@ pub fn has_flag<const N: u32>(bytes: &[u8]) -> bool
 
 /// Reads the string at the start, with its length in the low `N` bits of the first byte. Returns
 /// its text, or `None` if it was appended to `room`, and the bytes after it. The room allocates
-/// `capacity` bytes at once. After an error its contents are unspecified.
+/// `capacity` bytes at once. After an error it begins with what it contained before, and what
+/// follows is unspecified.
 #[inline(always)]
 #[tactic(auto, unfolding(crate::specs::StringLiteral::string_in))]
 pub fn read<'a, const N: u32>(
@@ -121,7 +123,7 @@ pub fn read<'a, const N: u32>(
     requires fits { vec_len room.old + 2 * length bytes.now ≤ capacity }
     ensures read { GivesUnlessMemory (seen_string (drop (length room.old.items) room.new.items))
         result (string_in texts N bytes.now) }
-    ensures front { OnOk result (take (length room.old.items) room.new.items ≡ room.old.items) }
+    ensures front { take (length room.old.items) room.new.items ≡ room.old.items }
     ensures size { IfOk result (λ x. vec_len room.new + 2 * length x.1.now
         ≤ vec_len room.old + 2 * length bytes.now) }
     ensures once { Grows (is_coded N bytes.now) capacity
@@ -152,13 +154,15 @@ fn shorter_len(text: &[u8]) -> Option<usize>
 /// Appends the length of a text and then the text, under the flags: in the Huffman code if that is
 /// strictly shorter.
 ///
-/// Returns [`AllocError`] if allocation fails. The contents of `out` are then unspecified.
+/// Returns [`AllocError`] if allocation fails. Then `out` begins with what it contained before, and
+/// what follows is unspecified.
 pub fn write<const N: u32>(out: &mut Vec<u8>, flags: u8, text: &[u8]) -> Result<(), AllocError>
     requires some { 1 ≤ N }
     requires few { N ≤ 7 }
     requires small { flags < 64 }
     requires above { flags * 2 + 1 < 2 ^ (8 - N) }
-    ensures { OnOk result (out.new.items ≡ out.old.items ++ encoded_string N flags text.now) }
+    ensures ok { OnOk result (out.new.items ≡ out.old.items ++ encoded_string N flags text.now) }
+    ensures front { BeginsWith out.old.items out.new.items }
 {
     if text.len() < 1 << N {
         write_short::<N>(out, flags, text)
@@ -175,7 +179,8 @@ fn write_short<const N: u32>(out: &mut Vec<u8>, flags: u8, text: &[u8]) -> Resul
     requires small { flags < 64 }
     requires above { flags * 2 + 1 < 2 ^ (8 - N) }
     requires short { length text.now < 2 ^ N }
-    ensures { OnOk result (out.new.items ≡ out.old.items ++ encoded_string N flags text.now) }
+    ensures ok { OnOk result (out.new.items ≡ out.old.items ++ encoded_string N flags text.now) }
+    ensures front { BeginsWith out.old.items out.new.items }
 {
     let start = out.len();
     out.push(0)?;
@@ -195,7 +200,8 @@ fn write_long<const N: u32>(out: &mut Vec<u8>, flags: u8, text: &[u8]) -> Result
     requires few { N ≤ 7 }
     requires small { flags < 64 }
     requires above { flags * 2 + 1 < 2 ^ (8 - N) }
-    ensures { OnOk result (out.new.items ≡ out.old.items ++ encoded_string N flags text.now) }
+    ensures ok { OnOk result (out.new.items ≡ out.old.items ++ encoded_string N flags text.now) }
+    ensures front { BeginsWith out.old.items out.new.items }
 {
     let Some(size) = shorter_len(text) else {
         return write_plain::<N>(out, flags, text);
@@ -211,8 +217,9 @@ fn write_plain<const N: u32>(out: &mut Vec<u8>, flags: u8, text: &[u8]) -> Resul
     requires few { N ≤ 7 }
     requires small { flags < 64 }
     requires above { flags * 2 + 1 < 2 ^ (8 - N) }
-    ensures { OnOk result (out.new.items
+    ensures ok { OnOk result (out.new.items
         ≡ out.old.items ++ (shortest_int N (flags * 2) (length text.now) ++ text.now)) }
+    ensures front { BeginsWith out.old.items out.new.items }
 {
     integer::write::<N>(out, flags * 2, text.len() as u64)?;
     out.extend_from_slice(text)

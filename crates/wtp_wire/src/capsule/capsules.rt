@@ -28,7 +28,8 @@ impl Model for CloseWebTransportSession {
 }
 
 impl CloseWebTransportSession {
-    ghost use Rattle.wtp_wire.specs.CloseSession.{AnswersClose, MakesClose, IsWritableClose, close_parts, close_wire, payload_parts};
+    ghost use Rattle.std.specs.Prelude.{◌≤◌, drop, IfSome, MatchOption, Some, None};
+    ghost use Rattle.wtp_wire.specs.CloseSession.{close_in, AnswersClose, MakesClose, IsWritableClose, close_parts, close_wire, payload_parts};
 
     /// The longest reason, in bytes (draft-ietf-webtrans-http3-02, section 5).
     pub const MAX_REASON_LEN: usize = 1024;
@@ -54,33 +55,47 @@ impl CloseWebTransportSession {
         }
     }
 
-    /// Reads the code and the reason from a capsule's payload: an error code of four bytes, most
-    /// significant first, and then the reason (draft-ietf-webtrans-http3-02, section 5). Requires
-    /// that the capsule closes its session, which `Capsule::kind` says.
+    /// Returns the code and the reason that the payload of such a capsule consists of: an error
+    /// code of four bytes, most significant first, and then the reason, which is all bytes after
+    /// them (draft-ietf-webtrans-http3-02, section 5).
+    ///
+    /// Returns `None` if the payload has fewer than 4 or more than 1028 bytes, or is not UTF-8 after
+    /// the first four.
+    #[tactic(auto, unfolding(crate::specs::CloseSession::close_in))]
+    pub fn code_and_reason(payload: &[u8]) -> Option<(u32, &str)>
+        ensures parts { MatchOption result (close_in payload.now ≡ None)
+            (λ parts. close_in payload.now ≡ Some (parts.0, parts.1.now)) }
+        // The reason is all bytes after the code.
+        ensures reason { IfSome result (λ parts. parts.1.now ≡ drop 4 payload.now) }
+        ensures short { IfSome result (λ parts. length parts.1.now ≤ 1024) }
+    {
+        let (code, text) = payload.split_first_chunk::<4>()?;
+        if text.len() > Self::MAX_REASON_LEN {
+            return None;
+        }
+        match str::from_utf8(text) {
+            Ok(reason) => Some((u32::from_be_bytes(*code), reason)),
+            Err(_) => None,
+        }
+    }
+
+    /// Reads the code and the reason from a capsule's payload, as
+    /// [`CloseWebTransportSession::code_and_reason`] finds them. Requires that the capsule closes
+    /// its session, which `Capsule::kind` says.
     ///
     /// Returns `Code(Datagram)` if the payload has fewer than 4 or more than 1028 bytes, or is not
     /// UTF-8 after the first four. Returns `Memory` if allocation failed; only a valid payload with
     /// a reason that is not empty allocates. The capsule does not change, and may be read again.
-    #[tactic(auto, unfolding(crate::specs::CloseSession::close_in))]
     pub fn with_capsule(alloc: Global, capsule: &Capsule<'_>) -> Result<Self, Refused>
         requires { capsule.now.0 ≡ CapsuleKind.CloseWebTransportSession }
         ensures { AnswersClose capsule.now.1 result }
     {
-        let Some((code, text)) = capsule.payload().split_first_chunk::<4>() else {
-            return Err(Refused::Code(ErrorCode::Datagram));
-        };
-        if text.len() > Self::MAX_REASON_LEN {
-            return Err(Refused::Code(ErrorCode::Datagram));
-        }
-        let Ok(text) = str::from_utf8(text) else {
+        let Some((error_code, text)) = Self::code_and_reason(capsule.payload()) else {
             return Err(Refused::Code(ErrorCode::Datagram));
         };
         let mut reason = String::new(alloc);
         match reason.push_str(text) {
-            Ok(()) => Ok(CloseWebTransportSession {
-                error_code: u32::from_be_bytes(*code),
-                reason,
-            }),
+            Ok(()) => Ok(CloseWebTransportSession { error_code, reason }),
             Err(_) => Err(Refused::Memory),
         }
     }

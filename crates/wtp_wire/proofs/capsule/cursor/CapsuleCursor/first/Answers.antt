@@ -1,4 +1,4 @@
-use Rattle.std.proofs.Common.{◌≡◌, ◌≤◌, length, refl, arith}
+use Rattle.std.proofs.Common.{refl, arith}
 use Rattle.wtp_wire.proofs.AnyCapsuleLemmas.{finds_known, finds_long, finds_unknown, leaves_none, leaves_part}
 use Rattle.wtp_wire.proofs.capsule.cursor.CapsuleCursor.first.Goals as goal
 
