@@ -36,7 +36,7 @@ impl Entry {
     pub fn new(alloc: Global, name: &[u8], value: &[u8]) -> Result<Self, AllocError>
         ensures { IfOk result (λ entry. entry ≡ (name.now, value.now)) }
     {
-        let mut texts = Vec::new(alloc);
+        let mut texts = Vec::with_capacity(alloc, name.len() + value.len())?;
         texts.extend_from_slice(name)?;
         texts.extend_from_slice(value)?;
         Ok(Entry {

@@ -9,3 +9,4 @@ pub mod Encoded
 pub mod Chained
 pub mod Hashed
 pub mod Walks
+pub mod KeyLists

@@ -12,7 +12,7 @@ use crate::choice::draining_index;
 use crate::decoder_stream::DecoderStream;
 use crate::indexed::IndexedTable;
 use crate::insertion;
-use crate::key::Key;
+use crate::key::{Key, keys_of};
 use crate::proposal::{Policy, Proposal};
 use crate::section::{Lines, write_lines};
 use std::alloc::{AllocError, Global};
@@ -42,7 +42,6 @@ fn bound_of(policy: Policy, table: &IndexedTable, ledger: &Ledger, stream: u64, 
 ///
 /// Returns [`AllocError`] if allocation failed; nothing has changed then.
 fn send(
-    alloc: Global,
     stream: u64,
     table: &IndexedTable,
     ledger: &mut Ledger,
@@ -57,7 +56,7 @@ fn send(
         (λ _. (ledger.new ≡ ledger.old) × (out.new.items ≡ out.old.items)) }
 {
     let len = out.len();
-    lines.append(alloc, table, out)?;
+    lines.append(table, out)?;
     if lines.required == 0 {
         return Ok(());
     }
@@ -199,13 +198,7 @@ impl QpackEncoder {
             encoder_stream.new.items }
         ensures same { self.new ≡ record self.old { table = self.new.table } }
     {
-        insertion::set_capacity(
-            self.alloc,
-            &mut self.table,
-            &self.ledger,
-            capacity,
-            encoder_stream,
-        )
+        insertion::set_capacity(&mut self.table, &self.ledger, capacity, encoder_stream)
     }
 
     /// Inserts an entry into the table, and appends the instruction to the encoder stream. Returns
@@ -267,28 +260,30 @@ impl QpackEncoder {
         ensures { Encodes stream proposals.now self.old self.new encoder_stream.old.items
             encoder_stream.new.items section.old.items section.new.items result }
     {
+        let keys = keys_of(self.alloc, proposals);
         insertion::insert_all(
             self.alloc,
             self.policy,
             &mut self.table,
             &self.ledger,
             proposals,
+            keys.as_slice(),
             encoder_stream,
         )?;
         let low = draining_index(self.policy, &self.table);
         let bound = bound_of(self.policy, &self.table, &self.ledger, stream, self.most);
-        let lines = match write_lines(self.alloc, &self.table, low, bound, proposals) {
+        let lines = match write_lines(
+            self.alloc,
+            &self.table,
+            low,
+            bound,
+            proposals,
+            keys.as_slice(),
+        ) {
             Ok(lines) => lines,
             Err(fault) => return Err(fault),
         };
-        send(
-            self.alloc,
-            stream,
-            &self.table,
-            &mut self.ledger,
-            &lines,
-            section,
-        )
+        send(stream, &self.table, &mut self.ledger, &lines, section)
     }
 
     /// Reads the next piece of the decoder stream: does the instructions that are now complete

@@ -4,12 +4,13 @@
 ghost use Rattle.std.specs.Prelude.{◌≡◌, ◌-◌, ◌<◌, ◌≤◌, MatchOption, MatchResult};
 ghost use Rattle.wtp_dynamic.specs.Table.{entry_size};
 ghost use Rattle.wtp_dynamic.specs.EncoderState.{Owes, may_resize};
-ghost use Rattle.wtp_dynamic_encoder.specs.Keys.{IsKey};
+ghost use Rattle.wtp_dynamic_encoder.specs.Choosing.{field_of};
+ghost use Rattle.wtp_dynamic_encoder.specs.Keys.{IsKey, AreKeys};
 ghost use Rattle.wtp_dynamic_encoder.specs.Encoding.{encoder_of, can_insert, InsertsIf, ResizesIf, Offered, AreOffered, IsInserted, StoppedAt, Ordered};
 
 use crate::choice::{are_octets, is_wanted, order_for};
 use crate::indexed::IndexedTable;
-use crate::key::Key;
+use crate::key::{Key, key_at};
 use crate::plan::{Order, write_order};
 use crate::proposal::{Policy, Proposal};
 use std::alloc::{AllocError, Global};
@@ -68,17 +69,15 @@ fn insert_if_may(
         return Ok(false);
     }
     let entry = Entry::new(alloc, name, value)?;
-    let mut bytes = Vec::new(alloc);
-    write_order(&mut bytes, order_for(table, key, name, value))?;
     let len = out.len();
-    out.extend_from_slice(bytes.as_slice())?;
-    match table.insert(alloc, entry, key.hashes) {
-        Ok(()) => Ok(true),
-        Err(_) => {
-            out.truncate(len);
-            Err(AllocError)
-        }
+    match write_order(out, order_for(table, key, name, value)) {
+        Ok(()) => match table.insert(alloc, entry, key.hashes) {
+            Ok(()) => return Ok(true),
+            Err(_) => out.truncate(len),
+        },
+        Err(_) => out.truncate(len),
     }
+    Err(AllocError)
 }
 
 /// The same, and what follows of it: a decoder that does the order has the same table, and no entry
@@ -109,7 +108,6 @@ pub(crate) fn insert_entry(
 ///
 /// Returns [`AllocError`] if it may be and allocation failed; nothing has changed then.
 pub(crate) fn set_capacity(
-    alloc: Global,
     table: &mut IndexedTable,
     ledger: &Ledger,
     capacity: u64,
@@ -121,20 +119,18 @@ pub(crate) fn set_capacity(
     if !may_resize(table, ledger, capacity) {
         return Ok(false);
     }
-    let mut bytes = Vec::new(alloc);
-    write_order(&mut bytes, Order::Sets(capacity))?;
     let len = out.len();
-    out.extend_from_slice(bytes.as_slice())?;
-    match table.set_capacity(capacity) {
-        Ok(()) => Ok(true),
-        Err(_) => {
-            out.truncate(len);
-            Err(AllocError)
-        }
+    match write_order(out, Order::Sets(capacity)) {
+        Ok(()) => match table.set_capacity(capacity) {
+            Ok(()) => return Ok(true),
+            Err(_) => out.truncate(len),
+        },
+        Err(_) => out.truncate(len),
     }
+    Err(AllocError)
 }
 
-/// Inserts the field of a proposal, if it is wanted and may be.
+/// Inserts the field of a proposal, whose key this is, if it is wanted and may be.
 ///
 /// Returns [`AllocError`] if it is inserted and allocation failed; nothing has changed then.
 #[tactic(auto, using(crate::proofs::Orders::one_step))]
@@ -143,9 +139,11 @@ fn insert_proposed(
     policy: Policy,
     table: &mut IndexedTable,
     ledger: &Ledger,
+    key: Key,
     proposal: Proposal<'_>,
     out: &mut Vec<u8>,
 ) -> Result<(), AllocError>
+    requires { IsKey key (field_of proposal) }
     ensures offered { MatchResult result
         (λ _. Offered policy proposal.entry ledger.now table.old table.new out.old.items
         out.new.items)
@@ -154,7 +152,6 @@ fn insert_proposed(
     ensures orders { Ordered table.old table.new out.old.items out.new.items }
     ensures owes { Owes (encoder_of table.old ledger.now) → Owes (encoder_of table.new ledger.now) }
 {
-    let key = Key::of(proposal.name, proposal.value);
     if !is_wanted(policy, table, key, proposal) {
         return Ok(());
     }
@@ -172,7 +169,7 @@ fn insert_proposed(
     }
 }
 
-/// Inserts the fields of proposals that are wanted, one after the other.
+/// Inserts the fields of proposals, whose keys these are, that are wanted, one after the other.
 ///
 /// Returns [`AllocError`] if allocation failed; only those before it were inserted then.
 #[tactic(auto, using(crate::proofs::Orders::more_steps))]
@@ -182,8 +179,10 @@ pub(crate) fn insert_all(
     table: &mut IndexedTable,
     ledger: &Ledger,
     proposals: &[Proposal<'_>],
+    keys: &[Key],
     out: &mut Vec<u8>,
 ) -> Result<(), AllocError>
+    requires { AreKeys keys.now proposals.now }
     ensures offered { MatchResult result
         (λ _. AreOffered policy proposals.now ledger.now table.old table.new out.old.items
         out.new.items)
@@ -192,8 +191,10 @@ pub(crate) fn insert_all(
     ensures orders { Ordered table.old table.new out.old.items out.new.items }
     ensures owes { Owes (encoder_of table.old ledger.now) → Owes (encoder_of table.new ledger.now) }
 {
-    for proposal in proposals {
-        match insert_proposed(alloc, policy, table, ledger, *proposal, out) {
+    for i in 0..proposals.len() {
+        let proposal = proposals[i];
+        let key = key_at(keys, i, proposal);
+        match insert_proposed(alloc, policy, table, ledger, key, proposal, out) {
             Ok(()) => {}
             Err(fault) => return Err(fault),
         }
