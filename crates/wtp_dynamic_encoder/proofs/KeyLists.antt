@@ -1,5 +1,5 @@
 -- The keys of proposals, one after the other.
-use Rattle.std.proofs.Common.{◌≡◌, ℕ, ◌+◌, ◌<◌, inl, inr, List, [], ◌∷◌, ◌++◌, length, get_or, refl, sym, ◌∙◌, ap, subst, arith, length-append, Some}
+use Rattle.std.proofs.Common.{◌≡◌, ℕ, ◌<◌, inl, inr, List, [], ◌∷◌, ◌++◌, length, get_or, refl, sym, ◌∙◌, ap, subst, arith, length-append, Some}
 use Rattle.std.specs.List.{slice_get}
 use Rattle.std.proofs.lemmas.Bool.{cases_lt}
 use Rattle.std.proofs.lemmas.Option.{slice_get_within, get_or_from_slice_get, slice_get_read}
@@ -21,8 +21,8 @@ keys_push keys ps key d i are count is = λ place k other found there. elim (cas
       let at : place ≡ length keys = omega (arith, length-append keys (key ∷ [])) in
       let last : k ≡ key = sym (get_or_from_slice_get (keys ++ key ∷ []) place k k found) ∙ ap (λ n. get_or (keys ++ key ∷ []) n k) at ∙ get_or-append_seam keys key [] k in
       let same : get_or ps i d ≡ other =
-          let there_too : slice_get ps i ≡ Some other = ap (slice_get ps) (sym (at ∙ count)) ∙ there in
-          get_or_from_slice_get ps i other d there_too in
+      let there_too : slice_get ps i ≡ Some other = ap (slice_get ps) (sym (at ∙ count)) ∙ there in
+      get_or_from_slice_get ps i other d there_too in
       subst (λ (x : Key). IsKey x (field_of other)) (sym last) (subst (λ (x : Proposal). IsKey key (field_of x)) same is)
 ]
 

@@ -3,7 +3,7 @@ use Rattle.std.proofs.Common.{◌≡◌, ℕ, ◌+◌, ◌-◌, ◌*◌, ◌^◌
 use Rattle.std.specs.List.{flat_map}
 use Rattle.std.proofs.lemmas.Bool.{lt-leb, le-ltb, leb-true, ltb-true, cases_lt, lt-ltb}
 use Rattle.wtp_qpack.specs.Integer.{shortest_groups, shortest_int}
-use Rattle.std.proofs.lemmas.List.{flat_map_more, take_all, drop_all}
+use Rattle.std.proofs.lemmas.List.{take_all, drop_all}
 use Rattle.wtp_qpack.specs.Field.{Field, IsOctets}
 use Rattle.wtp_qpack.specs.StaticTable.{entry_at}
 use Rattle.wtp_qpack.specs.StringLiteral.{huffman_bytes, encoded_string}

@@ -1,5 +1,5 @@
 -- A table is found through the hashes of its entries.
-use Rattle.std.proofs.Common.{◌≡◌, ℕ, zero, suc, ◌+◌, ◌-◌, ◌<◌, ◌≤◌, ◌==◌, nat_lt, inl, inr, Bool, true, false, ◌&&◌, List, [], ◌∷◌, ◌++◌, length, take, drop, get_or, map, refl, sym, ◌∙◌, ap, subst, arith, eq-eqb, Option, Some, None, Result, Ok, Err, length-append, length-drop}
+use Rattle.std.proofs.Common.{◌≡◌, ℕ, suc, ◌+◌, ◌-◌, ◌<◌, ◌≤◌, nat_lt, inl, inr, Bool, true, false, ◌&&◌, List, [], ◌∷◌, ◌++◌, length, take, drop, get_or, map, refl, sym, ◌∙◌, ap, arith, eq-eqb, Some, None, Ok, Err}
 use Rattle.std.specs.Str.{bytes_eq}
 use Rattle.std.specs.List.{slice_get, slice_index}
 use Rattle.std.proofs.lemmas.Bool.{cases_lt, lt-ltb, le-ltb}
@@ -12,13 +12,13 @@ use Rattle.wtp_huffman.proofs.Chosen.{chosen}
 use Rattle.wtp_dynamic.specs.declared.error.EncoderStreamError.TheVariants as fault
 use Rattle.wtp_dynamic.specs.Steps.{set_step, insert_step}
 use Rattle.wtp_dynamic.proofs.Histories.{insert_found}
-use Rattle.wtp_dynamic.specs.Table.{Table, insert_count, entry_size, excess, resized, entry_of, HasNone, IsLatest, FindsLatest}
+use Rattle.wtp_dynamic.specs.Table.{Table, entry_size, excess, resized, entry_of, HasNone, IsLatest, FindsLatest}
 use Rattle.wtp_dynamic.proofs.Tables.{entry_past}
 use Rattle.wtp_dynamic_encoder.specs.declared.chain.Chain.{Chain}
 use Rattle.wtp_dynamic_encoder.specs.Choosing.{is_field, has_name}
 use Rattle.wtp_dynamic_encoder.specs.Chains.{latest, is_hash, hashes_of, IsChain}
 use Rattle.wtp_dynamic_encoder.specs.Hashing.{hash_text, name_hash, field_hash}
-use Rattle.wtp_dynamic_encoder.specs.Indexed.{IsIndexedBy, IsIndexed, Tells}
+use Rattle.wtp_dynamic_encoder.specs.Indexed.{IsIndexedBy, Tells}
 use Rattle.wtp_dynamic_encoder.proofs.Chained.{latest_len, latest_has, latest_none}
 
 -- ---- one entry

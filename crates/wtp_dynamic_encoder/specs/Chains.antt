@@ -1,5 +1,5 @@
 -- Where hashes stand in a queue.
-use Rattle.std.specs.Prelude.{◌≡◌, ℕ, suc, zero, ◌+◌, ◌-◌, ◌<◌, ◌==◌, Bool, if◌then◌else◌, List, [], ◌∷◌, length, take, map, slice_index, bit_and}
+use Rattle.std.specs.Prelude.{◌≡◌, ℕ, suc, zero, ◌-◌, ◌<◌, ◌==◌, Bool, if◌then◌else◌, List, [], ◌∷◌, length, take, map, slice_index, bit_and}
 use Rattle.wtp_dynamic_encoder.specs.declared.chain.Chain.{Chain}
 use Rattle.wtp_dynamic_encoder.specs.declared.chain.Link.{Link}
 

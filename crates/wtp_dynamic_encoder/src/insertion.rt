@@ -49,7 +49,8 @@ fn may_resize(table: &IndexedTable, ledger: &Ledger, capacity: u64) -> bool
     table.limit() > 0 && capacity <= table.limit() && ledger.may_evict(table.dropped_for(capacity))
 }
 
-/// Inserts an entry, whose key this is, if it may be, and appends the order. Returns whether it was inserted.
+/// Inserts an entry, whose key this is, if it may be, and appends the order. Returns whether it was
+/// inserted.
 ///
 /// Returns [`AllocError`] if it may be and allocation failed; nothing has changed then.
 fn insert_if_may(

@@ -1,8 +1,8 @@
-use Rattle.std.proofs.Common.{◌≡◌, ◌+◌, ◌-◌, subst, sym, ap, arith}
+use Rattle.std.proofs.Common.{◌+◌, ◌-◌, subst, ap, arith}
 use Rattle.wtp_dynamic_encoder.specs.Choosing.{is_field}
 use Rattle.wtp_dynamic_encoder.specs.Indexed.{Tells}
 use Rattle.wtp_dynamic_encoder.specs.Hashing.{field_hash}
-use Rattle.wtp_dynamic_encoder.proofs.Walks.{walk_first, walk_within, walk_same, walk_on, walk_less, walk_found, walk_end, field_implies}
+use Rattle.wtp_dynamic_encoder.proofs.Walks.{walk_first, walk_within, walk_same, walk_on, walk_less, field_implies}
 use Rattle.wtp_dynamic_encoder.proofs.indexed.find_field.Goals as goal
 
 pub loop-place-init : goal.loop-place-init

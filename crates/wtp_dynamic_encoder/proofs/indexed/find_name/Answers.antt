@@ -1,8 +1,8 @@
-use Rattle.std.proofs.Common.{◌≡◌, ◌+◌, ◌-◌, subst, sym, ap, arith}
+use Rattle.std.proofs.Common.{◌+◌, ◌-◌, subst, ap, arith}
 use Rattle.wtp_dynamic_encoder.specs.Choosing.{has_name}
 use Rattle.wtp_dynamic_encoder.specs.Indexed.{Tells}
 use Rattle.wtp_dynamic_encoder.specs.Hashing.{name_hash}
-use Rattle.wtp_dynamic_encoder.proofs.Walks.{walk_first, walk_within, walk_same, walk_on, walk_less, walk_found, walk_end, name_implies}
+use Rattle.wtp_dynamic_encoder.proofs.Walks.{walk_first, walk_within, walk_same, walk_on, walk_less, name_implies}
 use Rattle.wtp_dynamic_encoder.proofs.indexed.find_name.Goals as goal
 
 pub loop-place-init : goal.loop-place-init

@@ -1,4 +1,4 @@
-use Rattle.std.proofs.Common.{◌-◌, ◌≡◌, ◌≤◌, ◌<◌, length, take}
+use Rattle.std.proofs.Common.{◌≡◌, ◌<◌, length, take}
 use Rattle.std.specs.VecDeque.{deque_capacity}
 use Rattle.wtp_dynamic_encoder.specs.Chains.{hashes_of, IsChain}
 use Rattle.wtp_dynamic_encoder.proofs.chain.Chain.grown.Given as goal
