@@ -1,11 +1,12 @@
 //! What the settings of both ends allow, and what becomes of streams of sessions
 //! (draft-ietf-webtrans-http3-02, sections 3.1 and 4; draft-ietf-webtrans-http3-07, section 3.1).
+use crate::playing::{REQUEST, configure, server};
 use std::alloc::Global;
 use std::process::Abort;
 use wtp_connection::connection::Known;
 use wtp_frames::endpoint::{Endpoint, Side};
 use wtp_webtransport::connection::Connection;
-use wtp_webtransport::event::Event;
+use wtp_webtransport::event::{Event, HeadersKind};
 use wtp_webtransport::fields::Fields;
 
 /// A control stream with SETTINGS.
@@ -98,6 +99,27 @@ fn settings_of_both_ends_allow_sessions(rt: HostRuntime) {
         let size = peer.control.len();
         assert!(rt; came == peer.allows, "SETTINGS of {size} bytes: {came}");
     }
+}
+
+#[test]
+fn sessions_need_datagrams_of_both_ends(rt: HostRuntime) {
+    let mut endpoint = Endpoint::new(Side::Server);
+    endpoint.webtransport = true;
+    let mut connection = Connection::new(endpoint, true);
+    let mut fields = Fields::new(rt.alloc(), 1000);
+    configure(&mut connection, &mut fields);
+    assert!(rt;
+        !connection.allows_sessions(),
+        "the own SETTINGS do not enable datagrams"
+    );
+    let mut stream = connection.accept(0);
+    connection.receive(&mut stream, REQUEST.as_slice(), false, &mut fields);
+    let received = connection.receive(&mut stream, REQUEST.as_slice(), false, &mut fields);
+    let is_request = matches!(received.event, Event::Headers(HeadersKind::Request, _));
+    assert!(rt; is_request, "it is a request as any other");
+    let mut connection = server(true);
+    configure(&mut connection, &mut fields);
+    assert!(rt; connection.allows_sessions(), "both ends enable sessions");
 }
 
 /// Returns the code of an error and whether it ends the connection, or 0 of another event.
@@ -217,6 +239,18 @@ fn streams_whose_session_cannot_come_have_codes(rt: HostRuntime) {
     assert!(rt;
         code == 0x0108 && ends,
         "a stream that names itself: {code}"
+    );
+    let mut connection = enabling(Side::Server);
+    let mut gone = connection.accept(0);
+    connection.receive(&mut gone, b"\x40\x41\x08".as_slice(), true, &mut fields);
+    connection.join(&mut gone, Known::Refused);
+    let mut late = connection.accept(4);
+    connection.receive(&mut late, b"\x40\x41\x00".as_slice(), false, &mut fields);
+    let known = connection.known(&gone);
+    let (code, ends) = error_of(connection.join(&mut late, known));
+    assert!(rt;
+        code == 0x0108 && ends,
+        "a stream of a session that is over: {code}"
     );
     let mut connection = enabling(Side::Server);
     let mut foreign = connection.accept(4);

@@ -2,12 +2,13 @@
 //! RFC 9114, section 4.4).
 use crate::messages::{Row, check};
 use crate::playing::{Case, REQUEST, configure, play, server};
+use std::alloc::{AllocError, Global};
 use std::process::Abort;
 use wtp_connection::connection::Known;
 use wtp_frames::endpoint::{Endpoint, Side};
 use wtp_messages::response::Asked;
 use wtp_webtransport::connection::Connection;
-use wtp_webtransport::event::{Event, HeadersKind, Waits};
+use wtp_webtransport::event::{Event, Waits};
 use wtp_webtransport::fields::Fields;
 use wtp_webtransport::stream::Stream;
 
@@ -295,16 +296,21 @@ fn responses_to_sessions(rt: HostRuntime) {
 /// DATA of 65,541 bytes: the type and the length of a datagram of 65,536.
 static LONG: [u8; 10] = [0x00, 0x80, 0x01, 0x00, 0x05, 0x00, 0x80, 0x01, 0x00, 0x00];
 
+/// Returns the content of a session: a datagram of 65,536 bytes, and one of a byte.
+fn long_content(alloc: Global) -> Result<Vec<u8>, AllocError> {
+    let mut bytes = Vec::from_slice(alloc, LONG.as_slice())?;
+    for _part in 0..4096u32 {
+        bytes.extend_from_slice(b"0123456789abcdef")?;
+    }
+    bytes.extend_from_slice(b"\x00\x03\x00\x01a")?;
+    Ok(bytes)
+}
+
 #[test]
 fn datagrams_that_are_too_long_are_dropped(rt: HostRuntime) {
-    let Ok(mut bytes) = Vec::from_slice(rt.alloc(), LONG.as_slice()) else {
+    let Ok(bytes) = long_content(rt.alloc()) else {
         return;
     };
-    if bytes.extend_from_slice([7u8; 65_536].as_slice()).is_err()
-        || bytes.extend_from_slice(b"\x00\x03\x00\x01a").is_err()
-    {
-        return;
-    }
     for size in [30_000usize, 70_000] {
         let Ok(events) = play(rt.alloc(), Case::Session(200), bytes.as_slice(), size) else {
             continue;
@@ -379,27 +385,6 @@ fn no_session_has_an_event_after_the_connection(rt: HostRuntime) {
     let reset = matches!(connection.reset(&mut stream), Event::More);
     let abandon = matches!(connection.abandon(&mut stream), Event::More);
     assert!(rt; stop && reset && abandon, "nothing is said of its session");
-}
-
-#[test]
-fn sessions_need_datagrams_of_both_ends(rt: HostRuntime) {
-    let mut endpoint = Endpoint::new(Side::Server);
-    endpoint.webtransport = true;
-    let mut connection = Connection::new(endpoint, true);
-    let mut fields = Fields::new(rt.alloc(), 1000);
-    configure(&mut connection, &mut fields);
-    assert!(rt;
-        !connection.allows_sessions(),
-        "the own SETTINGS do not enable datagrams"
-    );
-    let mut stream = connection.accept(0);
-    connection.receive(&mut stream, REQUEST.as_slice(), false, &mut fields);
-    let received = connection.receive(&mut stream, REQUEST.as_slice(), false, &mut fields);
-    let is_request = matches!(received.event, Event::Headers(HeadersKind::Request, _));
-    assert!(rt; is_request, "it is a request as any other");
-    let mut connection = server(true);
-    configure(&mut connection, &mut fields);
-    assert!(rt; connection.allows_sessions(), "both ends enable sessions");
 }
 
 /// Returns the name of what is known of a session.

@@ -37,6 +37,7 @@ pub value_given : (r : Found) (k : CapsuleType) (v : List ℕ) (n : ℕ) (a : Li
     → ValueGives r k v n a q b
     → CapsuleIs r (Value k v n) a q b
 value_given (Err capsule_error.Memory) k v n a q b (p, e) = record {
+  held = tt;
   same = λ more. rw (p, e) refl;
   fewer = omega (arith, ap length e);
 }
@@ -63,6 +64,7 @@ pub head_lacks : (h a g b : List ℕ)
     → length b ≤ length a
     → CapsuleIs (Err capsule_error.Memory) (Head h) a (Head g) b
 head_lacks h a g b e l = record {
+  held = tt;
   same = λ more. ap head_taken (sym (append_assoc g b more) ∙ ap (λ (x : List ℕ). x ++ more) e ∙ append_assoc h a more);
   fewer = l;
 }
@@ -73,6 +75,7 @@ pub start_given : (r : Found) (h a mid : List ℕ) (id n : ℕ) (q : Place) (b :
     → StartGives r (sort_of id n) n mid q b
     → CapsuleIs r (Head h) a q b
 start_given (Err capsule_error.Memory) h a mid id n q b e l (k, is, p, f) = record {
+  held = tt;
   same = λ more.
       let at : pair_at (h ++ (a ++ more)) ≡ Some ((id, n), mid ++ more) =
       ap pair_at (sym (append_assoc h a more)) ∙ pair_at-more (h ++ a) mid more id n e in

@@ -47,7 +47,7 @@ use Rattle.wtp_webtransport.specs.Events.{Told}
 use Rattle.wtp_webtransport.specs.Events as told
 use Rattle.wtp_webtransport.specs.Fault.{scope_of}
 use Rattle.wtp_webtransport.specs.Sessions.{asks_of}
-use Rattle.wtp_webtransport.specs.Streams.{after_end, after_error, head_if, with_streams, with_frames, with_message, is_held, spoiled_if, due_by, GivesNext}
+use Rattle.wtp_webtransport.specs.Streams.{after_end, after_error, head_if, member_if, with_streams, with_frames, with_message, is_held, spoiled_if, due_by, GivesNext}
 use Rattle.wtp_webtransport.specs.Receiving.{Outcome, closed_in, fails, last, goaway_in, in_stream, leaves, malformed, spoiled, found_opened, content_by, closed_if, complete, capsule_found, CapsulesGive, ContentBy, DataBy, ends_by, SessionEndGives, Between, Within, EndBy, too_large_by, interim_by, request_by, response_in, takes, taken_of, ResultGives, PrefixGives, span_in, SectionBy, FoundGives, UnreadBy, GoesOn, DueGives, StreamGives, ReceivesIf, Receives}
 use Rattle.wtp_webtransport.specs.Endings.{begins_session, ends_session, Keeps, KeepsSession}
 
@@ -104,6 +104,10 @@ held_after_error _ = refl
 held_head : (p : Part) (r : Role) → is_held (head_if p r) ≡ is_held p
 held_head part.NoMessage r = refl
 held_head _ r = refl
+
+held_member : (p : Part) → is_held (member_if p) ≡ is_held p
+held_member part.NoMessage = refl
+held_member _ = refl
 
 held_message : (p : Part) (m : Message) → is_held (with_message p m) ≡ false
 held_message (part.Head n) m = refl
@@ -219,12 +223,12 @@ data_keeps (part.Body m) c s start end bytes o e g =
     at s o _ g (piece_keeps (fits m.content.left ((end - start) + remaining_of s.frames)) c s m start end bytes (ap is_held e))
 data_keeps (part.Session n) c s start end bytes o e g =
     capsules_keep c s _ end (length bytes) o (ap is_held e) g
-data_keeps part.NoMessage c s start end bytes o e g =
+data_keeps part.OfSession c s start end bytes o e g =
     at s o _ g (quiet s.part _ s.part refl refl refl)
 data_keeps _ c s start end bytes o e g = at s o _ g (quiet s.part _ s.part refl refl refl)
 
 opened_keeps : (p : Purpose) (c : Connection) (s : Stream) (n : ℕ) → KeepsSession s (found_opened c s p n)
-opened_keeps («for».Session id) c s n = quiet s.part _ s.part refl refl refl
+opened_keeps («for».Session id) c s n = quiet s.part _ _ refl refl (held_member s.part)
 opened_keeps «for».Message c s n = quiet s.part _ _ refl refl (held_head s.part _)
 opened_keeps _ c s n = quiet s.part _ s.part refl refl refl
 

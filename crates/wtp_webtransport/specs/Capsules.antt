@@ -5,6 +5,9 @@ use Rattle.std.specs.Prelude.{◌≡◌, ℕ, ◌-◌, ◌<◌, ◌≤◌, ◌==
 use Rattle.wtp_wire.specs.Settings.{pair_at}
 use Rattle.std.specs.declared.alloc.AllocError.{AllocError}
 use Rattle.wtp_wire.specs.declared.head.FirstPair.{FirstPair}
+use Rattle.wtp_wire.specs.Capsule.{capsule_kind_of, max_value_len}
+use Rattle.wtp_wire.specs.declared.capsule.CapsuleKind.{CapsuleKind}
+use Rattle.wtp_wire.specs.declared.capsule.CapsuleKind.TheVariants.{CloseWebTransportSession}
 use Rattle.wtp_wire.specs.declared.capsule.CapsuleError.{CapsuleError}
 use Rattle.wtp_wire.specs.declared.capsule.CapsuleError.TheVariants as capsule_error
 use Rattle.wtp_webtransport.specs.declared.capsules.CapsuleType.{CapsuleType}
@@ -14,20 +17,22 @@ use Rattle.wtp_webtransport.specs.declared.capsules.Sort.TheVariants.{Read, Skip
 
 -- ---- the table
 
-abbrev pub type_of : ℕ → Option CapsuleType
-type_of id =
-    if id == 0x00 then Some Datagram
-    else (if id == 0x2843 then Some Close
-    else (if id == 0x78ae then Some Drain
-    else None))
+abbrev pub type_by : Option CapsuleKind → ℕ → Option CapsuleType
+type_by (Some CloseWebTransportSession) id = Some Close
+type_by None id =
+    if id == 0x00 then Some Datagram else (if id == 0x78ae then Some Drain else None)
 
--- What is done with a value of this length. That of CLOSE is a code of 4 bytes and a reason of at most
--- 1024, and that of DRAIN is empty: a capsule with a longer one is malformed. A datagram of more than
--- 65,535 bytes is dropped, and an unknown capsule is skipped.
+abbrev pub type_of : ℕ → Option CapsuleType
+type_of id = type_by (capsule_kind_of id) id
+
+-- What is done with a value of this length. No value of CLOSE is longer than a code and a reason, and
+-- that of DRAIN is empty: a capsule with a longer one is malformed. A datagram of more than 65,535
+-- bytes is dropped, and an unknown capsule is skipped.
 abbrev pub sort_by : Option CapsuleType → ℕ → Sort
 sort_by None len = Skip
 sort_by (Some Datagram) len = if nat_lt 65535 len then Skip else Read Datagram
-sort_by (Some Close) len = if nat_lt 1028 len then Refuse else Read Close
+sort_by (Some Close) len =
+    if nat_lt (max_value_len CloseWebTransportSession) len then Refuse else Read Close
 sort_by (Some Drain) len = if nat_lt 0 len then Refuse else Read Drain
 
 abbrev pub sort_of : ℕ → ℕ → Sort
@@ -88,9 +93,15 @@ taken_of (Skipping n) bytes = skip_taken n bytes
 
 -- ---- one call
 
+-- bytes of a type, of a length and of a value that is read are held
+abbrev pub IsHeld : Place → Type 0
+IsHeld (Skipping n) = ⊥
+IsHeld other = Unit {0}
+
 -- Allocation failed, for a type, a length or a value: whatever follows, the bytes that are left give
 -- from the new place on what all gave from the old one.
 pub record LacksMemory (old : Place) (a : List ℕ) (new : Place) (b : List ℕ) : Type 0 where
+  pub held : IsHeld old
   pub same : (more : List ℕ) → taken_of new (b ++ more) ≡ taken_of old (a ++ more)
   pub fewer : length b ≤ length a
 

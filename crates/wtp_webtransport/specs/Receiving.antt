@@ -57,7 +57,7 @@ use Rattle.wtp_webtransport.specs.Fault.{scope_of}
 use Rattle.wtp_webtransport.specs.Prefix.{names_table}
 use Rattle.wtp_webtransport.specs.Events.{Told, Opened, Joins, Settings, GoAway, Frame, Headers, SessionRequested, SessionReady, Rejected, SessionClosed, SessionLost, Datagram, Draining, Skipped, Data, StreamData, TooLarge, Malformed as MalformedBy, StreamError, ConnectionError, End, NoMemory, Waits, More}
 use Rattle.wtp_webtransport.specs.Sessions.{asks_of}
-use Rattle.wtp_webtransport.specs.Streams.{with_streams, with_frames, with_part, with_head, with_message, with_session, connects, ended, after_error, due_by, GivesCapsule, EndsBetween}
+use Rattle.wtp_webtransport.specs.Streams.{with_streams, with_frames, with_part, with_head, with_session_id, with_message, with_session, connects, ended, after_error, due_by, GivesCapsule, EndsBetween}
 
 abbrev pub Outcome : Type 0
 Outcome = ℕ × Told × Connection × Stream
@@ -101,7 +101,7 @@ malformed c s rule len =
 -- ---- what a stream is for
 
 abbrev pub found_opened : Connection → Stream → Purpose → ℕ → Outcome
-found_opened c s («for».Session id) n = (n, Joins id, c, s)
+found_opened c s («for».Session id) n = (n, Joins id, c, with_session_id s)
 found_opened c s «for».Message n =
     (n, Opened «for».Message, c, with_head s (role.Request c.extended))
 found_opened c s p n = (n, Opened p, c, s)
@@ -194,7 +194,7 @@ DataBy (part.Head m) c s start end bytes o = o ≡ content_found c s m start end
 DataBy (part.Body m) c s start end bytes o = o ≡ content_found c s m start end bytes
 DataBy (part.Session size) c s start end bytes o =
     CapsulesGive c s (slice start end bytes) end (length bytes) o
-DataBy part.NoMessage c s start end bytes o =
+DataBy part.OfSession c s start end bytes o =
     o ≡ (end, StreamData (slice start end bytes), c, s)
 DataBy _ c s start end bytes o = o ≡ (end, Data (slice start end bytes), c, s)
 

@@ -104,11 +104,7 @@ abbrev pub before_bytes : Side → Option Asked → Known
 before_bytes Server a = known.Coming
 before_bytes Client a = none_at Client a
 
--- a stream of a session is no session's own
 abbrev pub known_by_frames : Frames → Side → Option Asked → Known
-known_by_frames (frames.Session id) side a = known.Impossible
-known_by_frames (frames.Joining id) side a = known.Impossible
-known_by_frames (frames.Waiting id) side a = known.Impossible
 known_by_frames frames.Bi side a = before_bytes side a
 known_by_frames _ side a = none_at side a
 
@@ -136,6 +132,8 @@ known_by_part part.Losing c s = known.Over
 known_by_part part.Past c s = known.Over
 known_by_part (part.Unanswered session m) c s = known_of_request session c s
 known_by_part (part.Head m) c s = known_of_head c.endpoint.side s.asked
+-- a stream of a session is no session's own
+known_by_part part.OfSession c s = known.Impossible
 known_by_part part.NoMessage c s = known_of_other c s
 known_by_part _ c s = known_of_message c s
 

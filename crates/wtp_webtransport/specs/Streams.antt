@@ -77,6 +77,14 @@ head_if p r = p
 abbrev pub with_head : Stream → Role → Stream
 with_head s r = with_part s (head_if s.part r)
 
+-- a stream of a session, which has no message
+abbrev pub member_if : Part → Part
+member_if part.NoMessage = part.OfSession
+member_if p = p
+
+abbrev pub with_session_id : Stream → Stream
+with_session_id s = with_part s (member_if s.part)
+
 -- the response to a request that asked for this
 abbrev pub asking_stream : Frames → Asked → Stream
 asking_stream t a = record {
@@ -92,7 +100,7 @@ request_stream e a = asking_stream (frames.Frames (message_reader e) false) a
 
 -- the peer's half of a bidirectional stream that was opened here for a session
 abbrev pub session_stream : ℕ → Stream
-session_stream id = stream_of (frames.Session id)
+session_stream id = with_session_id (stream_of (frames.Session id))
 
 -- a stream that the peer opened
 abbrev pub with_accepted : Connection → Streams × Frames → Connection × Stream
@@ -115,6 +123,7 @@ after_end (part.Closed more) = part.Past
 after_end part.Ending = part.Past
 after_end part.Losing = part.Past
 after_end part.Past = part.Past
+after_end part.OfSession = part.OfSession
 after_end _ = part.NoMessage
 
 abbrev pub ended : Stream → Stream
@@ -127,6 +136,7 @@ after_error part.Losing = part.Losing
 after_error (part.Closed more) = part.Past
 after_error part.Ending = part.Past
 after_error part.Past = part.Past
+after_error part.OfSession = part.OfSession
 after_error _ = part.NoMessage
 
 -- the stream has a session whose end is still to be given

@@ -1,13 +1,13 @@
 //! The capsules of a session, in the content of its own stream (RFC 9297, section 3.2).
 ghost use Rattle.std.specs.Prelude.{◌≡◌, ◌≢◌, ◌≤◌, ◌<◌, ◌+◌, ◌-◌, ◌++◌, ◌↔◌, [], None, Some, Ok, length, drop, IsTrue, MatchResult, MatchOption, IfOk, OnErr};
 ghost use Rattle.wtp_wire.specs.Settings.{pair_at};
-ghost use Rattle.wtp_webtransport.specs.Capsules.{sort_of as sort_of_is, between, skipping, CapsuleIs, StartGives, ValueGives, HeadIs};
+ghost use Rattle.wtp_webtransport.specs.Capsules.{type_of as type_of_is, sort_of as sort_of_is, between, skipping, CapsuleIs, StartGives, ValueGives, HeadIs};
 
 use std::alloc::{AllocError, Global};
 use std::marker::Model;
 use std::mem;
 use wtp_core::varint::VarInt;
-use wtp_wire::capsule::CapsuleError;
+use wtp_wire::capsule::{CapsuleError, CapsuleKind};
 use wtp_wire::head::{FirstPair, first_pair};
 
 /// A capsule that means something to a session.
@@ -34,9 +34,6 @@ enum Sort {
 
 /// The longest value of a datagram that is read, in bytes.
 const MAX_DATAGRAM: u64 = 65_535;
-
-/// The longest value of a capsule that closes a session, in bytes: a code of 4 and a reason of 1024.
-const MAX_CLOSE: u64 = 1028;
 
 /// A capsule with its value.
 #[derive(Drop)]
@@ -232,33 +229,47 @@ fn take_head(head: &mut Vec<u8>, bytes: &mut &[u8]) -> Result<Option<FirstPair>,
     }
 }
 
+// Returns what a capsule of this type is to a session, if it means something.
+fn type_of(id: VarInt) -> Option<CapsuleType>
+    ensures { result ≡ type_of_is id }
+{
+    match CapsuleKind::parse(id) {
+        Some(CapsuleKind::CloseWebTransportSession) => Some(CapsuleType::Close),
+        None => match id.into_inner() {
+            0x00 => Some(CapsuleType::Datagram),
+            0x78ae => Some(CapsuleType::Drain),
+            _ => None,
+        },
+    }
+}
+
 // Returns what is done with the value of a capsule of this type and length.
 fn sort_of(id: VarInt, len: VarInt) -> Sort
     ensures { result ≡ sort_of_is id len }
 {
     let len = len.into_inner();
-    match id.into_inner() {
-        0x00 => {
+    match type_of(id) {
+        None => Sort::Skip,
+        Some(CapsuleType::Datagram) => {
             if len > MAX_DATAGRAM {
                 Sort::Skip
             } else {
                 Sort::Read(CapsuleType::Datagram)
             }
         }
-        0x2843 => {
-            if len > MAX_CLOSE {
+        Some(CapsuleType::Close) => {
+            if len > CapsuleKind::CloseWebTransportSession.max_value_len() as u64 {
                 Sort::Refuse
             } else {
                 Sort::Read(CapsuleType::Close)
             }
         }
-        0x78ae => {
+        Some(CapsuleType::Drain) => {
             if len > 0 {
                 Sort::Refuse
             } else {
                 Sort::Read(CapsuleType::Drain)
             }
         }
-        _ => Sort::Skip,
     }
 }

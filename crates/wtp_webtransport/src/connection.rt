@@ -215,7 +215,10 @@ impl Connection {
             ≡ found_opened self.old stream.old purpose n }
     {
         let event = match purpose {
-            Purpose::Session(session) => Event::Joins(session),
+            Purpose::Session(session) => {
+                stream.belong();
+                Event::Joins(session)
+            }
             Purpose::Message => {
                 stream.begin(Role::Request(self.extended));
                 Event::Opened(purpose)
@@ -283,6 +286,7 @@ fn part_after_error(part: Part) -> Part
     match part {
         Part::Session(_) | Part::Losing => Part::Losing,
         Part::Closed(_) | Part::Ending | Part::Past => Part::Past,
+        Part::OfSession => Part::OfSession,
         _ => Part::NoMessage,
     }
 }

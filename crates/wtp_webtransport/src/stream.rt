@@ -1,6 +1,6 @@
 //! The state of one stream: of its frames, and of its message or its session.
 ghost use Rattle.std.specs.Prelude.{◌≡◌, ◌↔◌, IsTrue};
-ghost use Rattle.wtp_webtransport.specs.Streams.{stream_of, asking_stream, session_stream, with_head, with_session, connects, after_end, ended, answered, waits_for as waits_for_is, is_held, due_by, GivesCapsule, EndsBetween};
+ghost use Rattle.wtp_webtransport.specs.Streams.{stream_of, asking_stream, session_stream, with_session_id, with_head, with_session, connects, after_end, ended, answered, waits_for as waits_for_is, is_held, due_by, GivesCapsule, EndsBetween};
 
 use crate::capsules::{Capsules, SessionCapsule};
 use crate::event::Waits;
@@ -15,6 +15,8 @@ use wtp_wire::capsule::CapsuleError;
 pub(crate) enum Part {
     /// The stream has no message, or the message is over.
     NoMessage,
+    /// A stream of a session, which is never the own stream of one.
+    OfSession,
     /// A message before its header section.
     Head(Message),
     /// A message after its header section.
@@ -111,7 +113,9 @@ impl Stream {
     pub fn of_session(session: u64) -> Self
         ensures { result ≡ session_stream session }
     {
-        Stream::new(Frames::of_session(session))
+        let mut stream = Stream::new(Frames::of_session(session));
+        stream.belong();
+        stream
     }
 
     // Begins a message in this role, if the stream has none.
@@ -120,6 +124,15 @@ impl Stream {
     {
         if let Part::NoMessage = self.part {
             self.part = Part::Head(Message::new(role));
+        }
+    }
+
+    // Says that the stream is one of a session, if it has no message.
+    pub(crate) fn belong(&mut self)
+        ensures { self.new ≡ with_session_id self.old }
+    {
+        if let Part::NoMessage = self.part {
+            self.part = Part::OfSession;
         }
     }
 
@@ -140,6 +153,7 @@ impl Stream {
             Part::Session(_) | Part::Closed(_) | Part::Ending | Part::Losing | Part::Past => {
                 Part::Past
             }
+            Part::OfSession => Part::OfSession,
             _ => Part::NoMessage,
         }
     }

@@ -243,7 +243,7 @@ impl Connection {
                 self.content(stream, message, start, end, bytes)
             }
             Part::Session(_) => self.capsules(stream, &bytes[start..end], end, bytes.len()),
-            Part::NoMessage => Received {
+            Part::OfSession => Received {
                 consumed: end,
                 event: Event::StreamData(&bytes[start..end]),
             },

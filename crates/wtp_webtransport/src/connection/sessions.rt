@@ -54,6 +54,7 @@ impl Connection {
                 (Side::Server, _) | (Side::Client, Some(Asked::Session)) => Known::Coming,
                 _ => self.known_of_message(its),
             },
+            Part::OfSession => Known::Impossible,
             Part::NoMessage => self.known_of_other(its),
             _ => self.known_of_message(its),
         }
@@ -81,9 +82,6 @@ impl Connection {
         ensures { result ≡ known_of_other_is self.now its.now }
     {
         match (&its.frames, self.endpoint.side, its.asked) {
-            (Frames::Session(_) | Frames::Joining(_) | Frames::Waiting(_), _, _) => {
-                Known::Impossible
-            }
             (Frames::Bi, Side::Server, _) => Known::Coming,
             (_, Side::Server, _) => Known::Refused,
             (_, Side::Client, Some(Asked::Session)) => Known::Refused,
