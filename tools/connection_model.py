@@ -155,9 +155,9 @@ class Model:
         if first is None:
             if not self.fin:
                 return self.left()
-            if self.content:
-                return self.fault(0x106)
-            return self.fault(0x10D if self.side.is_server else 0x103)
+            if not self.side.is_server:
+                return self.fault(0x103)
+            return self.fault(0x106 if self.content else 0x10D)
         if first[0] == WEBTRANSPORT and self.side.webtransport:
             self.at = first[1]
             return self.session(lambda: self.fault(0x106))

@@ -1,7 +1,8 @@
 """Wrong inputs, and inputs that look wrong, by the rule that each violates or keeps.
 
 The codes are those of RFC 9114 and of draft-ietf-webtrans-http3-02; a section is one of RFC 9114.
-What field sections contain is not judged here. The own settings allow no dynamic table of QPACK.
+What field sections contain is judged in session_rows.py: those here are valid. The own settings
+allow no dynamic table of QPACK.
 """
 
 from dataclasses import dataclass
@@ -27,8 +28,22 @@ def frame(kind, payload=b""):
     return number(kind) + number(len(payload)) + payload
 
 
-HEADERS = frame(0x01, b"\0\0\xd1")
+# A request, which stands for the sections after it too: those of a response (interim ones, as many
+# as a row says, and the final one) and trailers (RFC 9204, section 4.5 and appendix A).
+HEADERS = frame(0x01, b"\0\0\xd1\xd7\x50\x01a\xc1")
+INTERIM, RESPONSE, TRAILERS = (
+    frame(0x01, b"\0\0" + line)
+    for line in (b"\xd8", b"\xd9", b"\x23abc\x01x")
+)
 SETTINGS = b"\0" + frame(0x04)
+
+
+def with_sections(data, is_response, interims):
+    """Returns the bytes of a stream, of which each section is what it is by its place."""
+    first = [INTERIM] * interims + [RESPONSE] if is_response else [HEADERS]
+    parts = data.split(HEADERS)
+    sections = [*first, *[TRAILERS] * len(parts)]
+    return b"".join(part + section for part, section in zip(parts[:-1], sections)) + parts[-1]
 
 
 @dataclass
@@ -49,6 +64,10 @@ class Row:
     after: str = ""
     of_stream: bool = False
 
+    def __post_init__(self):
+        told = [int(line.split()[2]) for line in self.before.splitlines() if "interims" in line]
+        self.data = with_sections(self.data, self.client, told[0] if told else 0)
+
     def faults(self):
         """Returns the errors: the code of each, and what it ends."""
         scope = "stream" if self.of_stream or self.code in OF_STREAM else "connection"
@@ -62,7 +81,8 @@ class Row:
         if with_neighbour:
             # (a response to a request that the client opened, or a request)
             lines += [f"request {neighbour}"] if self.client else []
-            lines.append(f"bytes {neighbour} {HEADERS.hex()}0005")
+            section = RESPONSE if self.client else HEADERS
+            lines.append(f"bytes {neighbour} {section.hex()}0005")
         lines += self.before.splitlines()
         pieces = [self.data[at : at + size] for at in range(0, len(self.data), size)]
         lines += [f"bytes {self.stream} {piece.hex()}" for piece in pieces]
@@ -99,12 +119,14 @@ def settings(*pairs):
 def response(shows, *frames, told, code=None):
     """Returns the row of a response that begins with HEADERS, and ends. So many of its sections are
     those of interim ones."""
-    row = Row(shows, 0, request(*frames), code, end=True, client=True)
-    row.before, row.of_stream = f"request 0\ninterims 0 {told}", code == LOAD and told > 64
-    return row
+    before, of_stream = f"request 0\ninterims 0 {told}", code == LOAD and told > 64
+    data = request(*frames)
+    return Row(shows, 0, data, code, True, True, before=before, of_stream=of_stream)
 
 
 HTTP2 = (0x02, 0x06, 0x08, 0x09)
+# A line with a value of 4095 bytes.
+LONG_LINE = b"\x23abc\x7f\x80\x1f" + b"x" * 4095
 ROWS = [
     # Streams (6.1 to 6.2.3).
     Row("a second control stream (6.2.1)", OTHER, SETTINGS, STREAM_CREATION, before="bytes 2 00"),
@@ -128,6 +150,8 @@ ROWS = [
     Row("a stream of a server (6.1)", 1, b"\x40\x41\0", STREAM_CREATION, client=True, plain=True),
     Row("a request of a server (6.1)", 1, HEADERS, STREAM_CREATION, client=True),
     Row("a stream of a server without bytes", 1, b"", STREAM_CREATION, client=True, end=True),
+    Row("a server's stream in its first byte", 1, b"\x40", STREAM_CREATION, client=True, end=True),
+    Row("a server's stream in an ID (7.1)", 1, b"\x40\x41\x40", FRAME, client=True, end=True),
     Row("0x54 without WebTransport (9)", OTHER, b"\x40\x54\x01abc", plain=True, end=True),
     Row("0x41 without WebTransport (9)", REQUEST, b"\x40\x41\x01a" + HEADERS, plain=True, end=True),
     Row("a session of a unidirectional stream", OTHER, b"\x40\x54\x02", ID),
@@ -338,7 +362,7 @@ ROWS = [
     response("1024 frames without content after one", frame(0x21) * 1024, HEADERS, told=1),
     response("1025 of them", frame(0x21) * 1025, HEADERS, code=LOAD, told=1),
     Row("no response to a server", REQUEST, request(frame(0, b"x")), before="interims 0 1"),
-    Row("HEADERS of 4097 bytes", REQUEST, b"\1" + number(4097) + bytes(4097), end=True),
+    Row("HEADERS of more than 4096 bytes", REQUEST, frame(0x01, HEADERS[2:] + LONG_LINE), end=True),
     Row("HEADERS of 65537 bytes (4.2.2)", REQUEST, b"\1" + number(65537) + bytes(9)),
     Row("DATA of 2^62 - 1 bytes", REQUEST, request(b"\0" + number(2**62 - 1) + b"abc")),
     Row("an unknown frame of 2^40 bytes (9)", REQUEST, request(b"\x0f" + number(2**40) + b"abc")),
@@ -355,7 +379,7 @@ ROWS = [
     Row(
         "numbers in a long form (RFC 9000, 16)",
         REQUEST,
-        number(1, 8) + number(3, 4) + b"\0\0\xd1" + number(0, 2) + number(1, 8) + b"x",
+        number(1, 8) + number(8, 4) + HEADERS[2:] + number(0, 2) + number(1, 8) + b"x",
         end=True,
     ),
 ]

@@ -14,7 +14,6 @@ from replay import by_streams, ends_connection
 WHOLE = {"HEADERS", "GOAWAY", "MAX_PUSH_ID"}
 # What is no frame.
 OTHERS = {"capsules", "left", "stream", "WEBTRANSPORT", "application bytes"}
-UNDECODABLE = "message undecodable"
 ID_ERROR, ENCODER_STREAM_ERROR, DECODER_STREAM_ERROR = 0x108, 0x201, 0x202
 SESSION, REQUEST = "session", "request"
 
@@ -30,7 +29,8 @@ def number_at(content, at):
 class Recorded:
     """A stream of a connection, as the peer of its sender receives it: its ID, its bytes, how it
     ended, who opened it (None: the sender), its session if it has one, how many interim responses
-    it has, and its events."""
+    it has, the events of its frames, what the stacks say of it, what an independent reader found,
+    and what the stacks say of its other half."""
 
     stream: int
     content: bytes
@@ -40,6 +40,8 @@ class Recorded:
     interims: int = 0
     events: list = field(default_factory=list)
     said: list = field(default_factory=list)
+    found: list = field(default_factory=list)
+    other: list = field(default_factory=list)
 
     def first_lines(self):
         """Returns the lines that come before its bytes."""
@@ -66,25 +68,6 @@ class Recorded:
 
     def reset_line(self):
         return f"reset {self.stream}\n"
-
-    def messages(self):
-        """Returns what each of its field sections is, by the fields that the stacks name, up to one
-        that refers to a dynamic table: its Required Insert Count is not 0 (RFC 9204, 4.5.1)."""
-        sections = [thing["HEADERS"] for thing in self.said if "HEADERS" in thing]
-        starts = [event[2] for event in self.events if event[:2] == ("frame", "HEADERS")]
-        found = []
-        for lines, start in zip(sections, starts):
-            if self.content[start]:
-                return [*found, UNDECODABLE]
-            fields = dict(lines)
-            if any("\n" in value for value in fields.values()):
-                # (RFC 9110, section 5.5)
-                return [*found, "malformed a field has an invalid value"]
-            if status := fields.get(":status"):
-                found.append(f"message {'interim' if status < '2' else 'response'} {status}")
-            else:
-                found.append(f"message {'request' if ':method' in fields else 'trailers'}")
-        return found
 
     def is_reset_last(self):
         """Returns whether it is reset after all else: what waits for its session would be lost."""
@@ -197,10 +180,10 @@ class Wanted:
 
 
 class Connection:
-    """The streams of a connection in one direction."""
+    """The streams and datagrams of a connection in one direction."""
 
     def __init__(self, name):
-        self.name, self.streams = name, []
+        self.name, self.streams, self.datagrams = name, [], []
 
     @property
     def is_to_server(self):
@@ -220,37 +203,8 @@ class Connection:
         if len(kept) == len(self.streams):
             return None
         other = Connection(self.name)
-        other.streams = kept
+        other.streams, other.datagrams = kept, self.datagrams
         return other
-
-    def message_script(self):
-        """Returns the script of its streams, one after the other, of which messages are read."""
-        sizes = iter(lambda: 1200, None)
-        side = "server" if self.is_to_server else "client"
-        lines = ["messages\n", f"{side} webtransport\n"]
-        lines += [f"known {session} open\n" for session in self.sessions()]
-        for stream in self.streams:
-            if stream.opened == REQUEST:
-                lines.append(f"request {stream.stream}\n")
-            elif stream.opened == SESSION:
-                lines.append(stream.first_lines())
-            lines += stream.lines(sizes)
-        return "".join(lines)
-
-    def message_fault(self, lines):
-        """Returns how what was found of its messages differs from what the stacks sent, or None."""
-        found = {}
-        for line in lines:
-            stream, _, event = line.split(" ", 2)
-            if event.startswith(("message ", "malformed ")):
-                found.setdefault(int(stream), []).append(event)
-        for stream in self.streams:
-            shown, wanted = found.get(stream.stream, []), stream.messages()
-            if UNDECODABLE in wanted:
-                shown = shown[: len(wanted)]
-            if shown != wanted:
-                return f"stream {stream.stream}: {shown}, and not {wanted}"
-        return None
 
     def script(self, rng, size):
         """Returns the script of a random order, in pieces of this size; of random sizes if it is
@@ -274,16 +228,19 @@ def connections_in(folder):
     said, found = ({line[0]: json.loads(line[at]) for line in lines} for at in (7, 8))
     connections = {}
     for file, _, _, place, kind, ended, *_ in lines:
-        if kind == "datagram":
-            continue
         name = file.rsplit("-", 1)[0]
         connection = connections.setdefault(name, Connection(name))
-        content, stream = (folder / file).read_bytes(), int(place.split()[1])
+        content = (folder / file).read_bytes()
+        if kind == "datagram":
+            connection.datagrams.append((found[file][0], content))
+            continue
+        stream = int(place.split()[1])
         wanted = Wanted(content, kind, ended, found[file])
         recorded = Recorded(stream, content, ended, events=wanted.all())
         recorded.session = wanted.session
         recorded.interims = interims_in(said[file])
-        recorded.said = said[file]
+        recorded.said, recorded.found = said[file], found[file]
+        recorded.other = said.get(other_half(file), [])
         if kind == "WebTransport stream, opened by the other end":
             recorded.opened, recorded.session = SESSION, session_of(file, found)
         elif kind == "response, opened by the other end":
@@ -300,8 +257,12 @@ def interims_in(said):
 
 def session_of(file, found):
     """Returns the session of a stream that the other end opened, which its other half names."""
-    other = file.replace("c2s", "s2c") if "c2s" in file else file.replace("s2c", "c2s")
-    return found[other][0]["WEBTRANSPORT"]
+    return found[other_half(file)][0]["WEBTRANSPORT"]
+
+
+def other_half(file):
+    """Returns the name of the file with the other direction of a stream."""
+    return file.replace("c2s", "s2c") if "c2s" in file else file.replace("s2c", "c2s")
 
 
 def consumed_fault(connection, found):

@@ -14,6 +14,8 @@ CRATE = TOP / "crates/wt_replay"
 SECONDS = 600
 # The first line of a script whose pieces are passed once each.
 PUSHED = "push\n"
+# The first line of a script of which messages and sessions are read.
+SESSIONS = "sessions\n"
 
 
 def built_program():

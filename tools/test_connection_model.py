@@ -5,8 +5,12 @@ import unittest
 
 from connection_model import Side, events_of
 from connection_rows import ROWS
+from message_rules import content_length, is_malformed_request, is_malformed_response
 from recorded_connections import connections_in
+from recorded_sessions import RecordedSessions
 from replay import TOP, difference, ends_connection, is_start
+from session_events import Sessions
+from session_rows import GET, SESSION
 
 
 class ModelTest(unittest.TestCase):
@@ -33,6 +37,48 @@ class ModelTest(unittest.TestCase):
             )
             faults = [event[1:] for event in events if event[0] == "fault"]
             self.assertEqual(faults, row.faults(), row.shows)
+
+
+class SessionModelTest(unittest.TestCase):
+    def test_recorded_connections(self):
+        for connection in connections_in(TOP / "tools/recordings.d"):
+            self.assertIsNone(RecordedSessions(connection).index_fault(), connection.name)
+
+    def test_rules_of_messages(self):
+        self.assertFalse(is_malformed_request(GET, False))
+        self.assertTrue(is_malformed_request(SESSION, False))
+        self.assertFalse(is_malformed_request(SESSION, True))
+        self.assertTrue(is_malformed_request([*GET, (b"X", b"y")], False))
+        self.assertFalse(is_malformed_response([(b":status", b"204")], ""))
+        self.assertTrue(is_malformed_response([(b":status", b"204")], "session"))
+        self.assertEqual(content_length([(b"content-length", b"7, 07")]), 7)
+        self.assertIs(content_length([(b"content-length", b"7, 8")]), False)
+
+
+class SessionsTest(unittest.TestCase):
+    ASKED = [(0, ("opened", "message", 0)), (0, ("asked", [], 9))]
+    OPEN = [*ASKED, (0, ("answered", 200))]
+
+    def fault(self, *events):
+        return Sessions(True, {}).fault(events)
+
+    def test_streams_are_joined_as_their_session_is(self):
+        joins, joined = (6, ("joins", 0, 3)), (6, ("joined", 0, 3))
+        gone = (6, ("fault", 0x170D7B68, "stream"))
+        self.assertIsNone(self.fault(joins, *self.OPEN, joined))
+        self.assertIsNone(self.fault(*self.OPEN, joins, joined))
+        self.assertIsNone(self.fault(*self.OPEN, (0, ("lost",)), joins, gone))
+        self.assertIsNotNone(self.fault(*self.OPEN, joins, gone))
+        self.assertIsNotNone(self.fault(*self.ASKED, joins, joined))
+        self.assertIsNotNone(self.fault(joins, *self.OPEN, (0, ("lost",)), joined))
+        self.assertIsNotNone(self.fault(joins, *self.OPEN))
+
+    def test_datagrams_are_for_open_sessions(self):
+        deliver = (None, ("datagram", "0", "deliver", "-"))
+        early = (None, ("datagram", "0", "early", "-"))
+        self.assertIsNone(self.fault(early, *self.OPEN, deliver))
+        self.assertIsNotNone(self.fault(deliver, *self.OPEN))
+        self.assertIsNotNone(self.fault(*self.OPEN, (0, ("lost",)), deliver))
 
 
 class DifferenceTest(unittest.TestCase):

@@ -152,6 +152,8 @@ static void we_begin(const connection *c) {
   append_number(&line, below(3) ? 1024 : below(200));
   append_text(&line, " ");
   append_number(&line, below(3) ? 512 : below(4096));
+  append_text(&line, " ");
+  append_number(&line, below(3) ? 256 : below(6));
   answer("encoder");
 }
 

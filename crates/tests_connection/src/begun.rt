@@ -311,11 +311,15 @@ fn sessions_with_a_stream_are_known(rt: HostRuntime) {
         leave(&mut connection, &mut stream, row.then);
         let came = name_of(connection.known(row.id, Some(&stream)));
         assert_same(&rt, came, row.known, row.case);
-        let other = name_of(connection.known(row.id + 5, Some(&stream)));
+        let other = name_of(connection.known(row.id.saturating_add(5), Some(&stream)));
         assert_same(&rt, other, "impossible", row.case);
         let alone = name_of(connection.known(16, None));
         assert_same(&rt, alone, "coming", row.case);
     }
+}
+
+#[test]
+fn a_request_of_a_client_may_be_reset_before_the_response(rt: HostRuntime) {
     let mut connection = connection_of(false, true);
     let mut response = Stream::of_request(Endpoint::new(Side::Client));
     let before = name_of(connection.known(0, Some(&response)));

@@ -104,7 +104,7 @@ fn check_row<R: Abort>(rt: &R, alloc: Global, row: &Row) {
     let mut holdings = Holdings::with_limits(max_stream, max_early, max_others);
     let mut streams: usize = 0;
     for turn in 0..9u64 {
-        let mut stream = Stream::of_peer(row.id + 4 * turn);
+        let mut stream = Stream::of_peer(row.id.saturating_add(turn.saturating_mul(4)));
         let mut hold = CountedHold::new(alloc);
         pass(
             &mut connection,

@@ -55,8 +55,9 @@ pub(crate) const OLD_ROOT: Proposal<'static> = Proposal {
 
 /// A call and what it does.
 pub(crate) enum Step {
-    /// The largest entry that is inserted by the policy, and the bytes to keep available.
-    Follows(u64, u64),
+    /// The largest entry that is inserted by the policy, the bytes to keep available, and how many
+    /// sections may be unacknowledged.
+    Follows(u64, u64, u64),
     /// A capacity, and whether it is set.
     Resizes(u64, bool),
     /// A field, and whether it is inserted.
@@ -75,7 +76,7 @@ pub(crate) enum Step {
 /// What steps show, how many streams may be blocked, and the steps.
 pub(crate) type Row = (&'static str, u64, &'static [Step]);
 
-static ROWS: [Row; 4] = [
+static ROWS: [Row; 6] = [
     (
         "lines of each kind",
         1,
@@ -118,7 +119,7 @@ static ROWS: [Row; 4] = [
         "an entry stays until it is known to be received, and no section refers to it",
         1,
         &[
-            Step::Follows(1024, 0),
+            Step::Follows(1024, 0, 256),
             Step::Resizes(4097, false),
             Step::Inserts(AB, false),
             Step::Resizes(34, true),
@@ -132,6 +133,52 @@ static ROWS: [Row; 4] = [
             Step::Inserts((b"c", b"de"), false),
             Step::Inserts(CD, true),
             Step::Has(&[CD]),
+        ],
+    ),
+    (
+        "a section refers to no entry while as many as may be are not acknowledged",
+        8,
+        &[
+            Step::Follows(1024, 0, 2),
+            Step::Resizes(220, true),
+            Step::Sends(0, &[NEW_AB], b"\x02\x00\x80", &[AB]),
+            Step::Sends(4, &[OLD_AB], b"\x02\x00\x80", &[AB]),
+            Step::Sends(8, &[NEW_CD], b"\x00\x00\x21c\x01d", &[CD]),
+            Step::Sends(0, &[OLD_AB], b"\x00\x00\x21a\x01b", &[AB]),
+            Step::Hears(b"\x80", "", 1),
+            Step::Sends(8, &[OLD_CD], b"\x03\x00\x80", &[CD]),
+            Step::Sends(0, &[OLD_AB], b"\x00\x00\x21a\x01b", &[AB]),
+            Step::Hears(b"\x80", "UnknownSection", 1),
+        ],
+    ),
+    (
+        "entries as large as the table, with the name of the one that they evict, and duplicates",
+        1,
+        &[
+            Step::Follows(1024, 0, 256),
+            Step::Resizes(34, true),
+            Step::Inserts(CD, true),
+            Step::Hears(b"\x01", "", 1),
+            Step::Inserts((b"c", b"e"), true),
+            Step::Writes(b"\x80\x01e"),
+            Step::Has(&[(b"c", b"e")]),
+            Step::Hears(b"\x01", "", 2),
+            Step::Inserts((b"c", b"e"), true),
+            Step::Writes(b"\x80\x01e\x00"),
+            Step::Hears(b"\x01", "", 3),
+            Step::Resizes(68, true),
+            Step::Inserts(AB, true),
+            Step::Has(&[(b"c", b"e"), AB]),
+            Step::Hears(b"\x01", "", 4),
+            Step::Resizes(34, true),
+            Step::Inserts((b"c", b"f"), true),
+            Step::Writes(b"\x3f\x03\x41c\x01f"),
+            Step::Hears(b"\x01", "", 5),
+            Step::Resizes(0, true),
+            Step::Has(&[]),
+            Step::Inserts(AB, false),
+            Step::Resizes(4096, true),
+            Step::Sends(0, &[NEW_AB, OLD_CD], b"\x07\x00\x80\x21c\x01d", &[AB, CD]),
         ],
     ),
 ];
@@ -280,9 +327,10 @@ fn assert_step(
     shows: &str,
 ) {
     match step {
-        Step::Follows(largest, reserved) => encoder.set_policy(Policy {
+        Step::Follows(largest, reserved, unacknowledged) => encoder.set_policy(Policy {
             largest: *largest,
             reserved: *reserved,
+            unacknowledged: *unacknowledged,
         }),
         Step::Writes(bytes) => {
             assert!(rt; stream.ends_with(bytes), "{shows}: the encoder stream");
@@ -337,9 +385,28 @@ pub(crate) fn assert_rows(rt: &impl Abort, alloc: Global, rows: &[Row]) {
     }
 }
 
+/// Asserts that a decoder that allows no table is sent no instruction (RFC 9204, section 3.2.3).
+fn assert_silent(rt: &impl Abort, alloc: Global) {
+    let mut encoder = QpackEncoder::new(alloc, 0, 1);
+    let mut stream = Vec::new(alloc);
+    let mut section = Vec::new(alloc);
+    for capacity in [0, 1] {
+        assert!(rt; matches!(encoder.set_capacity(capacity, &mut stream), Ok(false)));
+    }
+    assert!(rt; matches!(encoder.insert(b"a", b"b", &mut stream), Ok(false)));
+    assert!(rt;
+        encoder
+            .encode(0, &[NEW_AB], &mut stream, &mut section)
+            .is_ok()
+    );
+    assert!(rt; section.as_slice() == b"\x00\x00\x21a\x01b".as_slice());
+    assert!(rt; stream.is_empty(), "an instruction for no table");
+}
+
 #[test]
 fn encoder_calls(rt: HostRuntime) {
     assert_rows(&rt, rt.alloc(), &ROWS);
+    assert_silent(&rt, rt.alloc());
 }
 
 /// Asserts what a decoder stream does, cut at one place.

@@ -68,7 +68,7 @@ static ROWS: [Row; 5] = [
         "an entry that is draining is inserted again, and one has a dynamic name",
         1,
         &[
-            Step::Follows(1024, 64),
+            Step::Follows(1024, 64, 256),
             Step::Resizes(220, true),
             Step::Sends(
                 4,
@@ -109,7 +109,7 @@ static ROWS: [Row; 5] = [
         "no line refers to an entry that is draining",
         1,
         &[
-            Step::Follows(1024, 34),
+            Step::Follows(1024, 34, 256),
             Step::Resizes(102, true),
             Step::Inserts(AB, true),
             Step::Inserts(CD, true),
@@ -139,7 +139,7 @@ static ROWS: [Row; 5] = [
         "the policy inserts no larger entries",
         1,
         &[
-            Step::Follows(34, 0),
+            Step::Follows(34, 0, 256),
             Step::Resizes(220, true),
             Step::Sends(
                 0,

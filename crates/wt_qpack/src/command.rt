@@ -117,10 +117,12 @@ fn read_settings(limit: &str, most: &str) -> Result<Settings> {
 fn read_encoder(rest: &str) -> Result<Command> {
     let (limit, rest) = first_word(rest);
     let (most, rest) = first_word(rest);
-    let (largest, reserved) = first_word(rest);
+    let (largest, rest) = first_word(rest);
+    let (reserved, unacknowledged) = first_word(rest);
     let policy = Policy {
         largest: number(largest)?,
         reserved: number(reserved)?,
+        unacknowledged: number(unacknowledged)?,
     };
     Ok(Command::Encoder(read_settings(limit, most)?, policy))
 }

@@ -3,8 +3,8 @@
 //!
 //! Numbers are decimal, and bytes are hexadecimal; no bytes are `-`.
 //!
-//! - `encoder LIMIT MOST LARGEST RESERVED`: begins an encoder, by the decoder's settings and a
-//!   policy. Output: `encoder`.
+//! - `encoder LIMIT MOST LARGEST RESERVED UNACKNOWLEDGED`: begins an encoder, by the decoder's
+//!   settings and a policy. Output: `encoder`.
 //! - `capacity N`: sets the capacity of its table. Output: `set INSTRUCTION`, or `unset`.
 //! - `encode STREAM FIELD ..`: encodes a section. A field is `NAME:VALUE`, or `NAME:VALUE:I`, where
 //!   `I` is `i` for a field that is inserted, `w` for one that is not, and `n` for one that is never

@@ -45,10 +45,13 @@ scope_name scope.Either = codes "either"
 abbrev pub place : ℕ → ℕ → List ℕ
 place id at = decimal id ++ codes " " ++ decimal at
 
--- the error: its code, and what it ends
+-- an error: its code, and what it ends
+abbrev pub error_text : ℕ → ErrorScope → List ℕ
+error_text code scope = codes "fault " ++ decimal code ++ codes " " ++ scope_name scope
+
 abbrev pub fault_line : ℕ → ℕ → Fault → List ℕ
-fault_line id at fault = place id at ++ codes " fault " ++ decimal (code_of fault)
-    ++ codes " " ++ scope_name (scope_of fault) ++ codes "\n"
+fault_line id at fault = place id at ++ codes " "
+    ++ error_text (code_of fault) (scope_of fault) ++ codes "\n"
 
 -- a field section that is too large: how many bytes are consumed, and its size
 abbrev pub skipped_line : ℕ → ℕ → ℕ → ℕ → List ℕ
@@ -84,12 +87,15 @@ flags_text s = codes " " ++ flag_name s.enable_connect_protocol
 
 abbrev pub sessions_text : PeerSettings → List ℕ
 sessions_text s = codes " " ++ decimal s.webtransport_max_sessions
-    ++ codes " " ++ decimal s.wt_max_sessions ++ codes "\n"
+    ++ codes " " ++ decimal s.wt_max_sessions
+
+abbrev pub values_text : PeerSettings → List ℕ
+values_text s = limits_text s ++ flags_text s ++ sessions_text s
 
 -- SETTINGS: where their payload is, and the values
 abbrev pub settings_line : ℕ → ℕ → PeerSettings → ℕ → ℕ → List ℕ
 settings_line id at s start end = place id at ++ codes " settings " ++ decimal start
-    ++ codes " " ++ decimal end ++ limits_text s ++ flags_text s ++ sessions_text s
+    ++ codes " " ++ decimal end ++ values_text s ++ codes "\n"
 
 -- what a stream is for, after so many bytes, and its session
 abbrev pub opened_line : ℕ → ℕ → Purpose → ℕ → List ℕ

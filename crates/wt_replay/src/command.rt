@@ -3,15 +3,28 @@
 use anyhow::{Context, Result, bail};
 use std::alloc::Global;
 use wtp_connection::connection::Known;
+use wtp_connection::stream::Purpose;
 use wtp_frames::endpoint::Side;
+use wtp_messages::response::Asked;
+
+/// What the own SETTINGS enable.
+#[derive(Clone, Copy, PartialEq, Eq)]
+pub enum Enables {
+    /// Nothing.
+    Nothing,
+    /// Extended CONNECT.
+    Connect,
+    /// Extended CONNECT, WebTransport and datagrams.
+    WebTransport,
+}
 
 /// A line of a script.
 #[derive(Drop)]
 pub enum Command {
-    /// Begins a connection of this side, whose own SETTINGS enable WebTransport or do not.
-    Begin(Side, bool),
-    /// The stream with this ID is a request that was opened here.
-    Request(u64),
+    /// Begins a connection of this side, by what its own SETTINGS enable.
+    Begin(Side, Enables),
+    /// The stream with this ID is a request that was opened here, and what it asks for.
+    Request(u64, Asked),
     /// So many HEADERS of the response on this stream are those of interim responses.
     Interims(u64, u64),
     /// The stream with this ID was opened here for this session.
@@ -26,8 +39,16 @@ pub enum Command {
     Abandon(u64),
     /// The stream with this ID is over, and forgotten.
     Forget(u64),
-    /// The messages of streams are read from here on.
-    Messages,
+    /// The request on this stream is answered with this status.
+    Answer(u64, u32),
+    /// A QUIC datagram with this payload came.
+    Datagram(Vec<u8>),
+    /// The peer asked to stop the own half of this stream.
+    Stop(u64),
+    /// The peer asked to stop a stream that was opened here for this, in one direction.
+    Stopped(Purpose),
+    /// Messages and sessions are read from here on.
+    Sessions,
     /// Each piece of a stream is passed once from here on, and what is left of it held.
     Push,
 }
@@ -43,9 +64,12 @@ impl Command {
         match name {
             "bytes" => bytes(alloc, rest, false),
             "end" => bytes(alloc, rest, true),
-            "server" => Ok(Command::Begin(Side::Server, rest == "webtransport")),
-            "client" => Ok(Command::Begin(Side::Client, rest == "webtransport")),
-            "request" => Ok(Command::Request(number(rest)?)),
+            "server" => Ok(Command::Begin(Side::Server, enabled_by(rest)?)),
+            "client" => Ok(Command::Begin(Side::Client, enabled_by(rest)?)),
+            "request" => {
+                let (id, method) = first_word(rest);
+                Ok(Command::Request(number(id)?, asked(method)?))
+            }
             "interims" => {
                 let (id, count) = first_word(rest);
                 Ok(Command::Interims(number(id)?, number(count)?))
@@ -61,7 +85,14 @@ impl Command {
             "reset" => Ok(Command::Reset(number(rest)?)),
             "abandon" => Ok(Command::Abandon(number(rest)?)),
             "forget" => Ok(Command::Forget(number(rest)?)),
-            "messages" => Ok(Command::Messages),
+            "answer" => {
+                let (id, status) = first_word(rest);
+                Ok(Command::Answer(number(id)?, status.parse::<u32>().context("no status")?))
+            }
+            "datagram" => Ok(Command::Datagram(hex::decode(alloc, rest).context("no bytes")?)),
+            "stop" => Ok(Command::Stop(number(rest)?)),
+            "stopped" => Ok(Command::Stopped(purpose(rest)?)),
+            "sessions" => Ok(Command::Sessions),
             "push" => Ok(Command::Push),
             _ => bail!("no command"),
         }
@@ -94,5 +125,37 @@ fn known(word: &str) -> Result<Known> {
         "refused" => Ok(Known::Refused),
         "impossible" => Ok(Known::Impossible),
         _ => bail!("no state of a session"),
+    }
+}
+
+/// Reads what the own SETTINGS enable.
+fn enabled_by(word: &str) -> Result<Enables> {
+    match word {
+        "" => Ok(Enables::Nothing),
+        "connect" => Ok(Enables::Connect),
+        "webtransport" => Ok(Enables::WebTransport),
+        _ => bail!("no setting"),
+    }
+}
+
+/// Reads what a request asks for.
+fn asked(word: &str) -> Result<Asked> {
+    match word {
+        "" => Ok(Asked::Other),
+        "head" => Ok(Asked::Head),
+        "connect" => Ok(Asked::Connect),
+        "session" => Ok(Asked::Session),
+        _ => bail!("no request"),
+    }
+}
+
+/// Reads what a stream was opened for.
+fn purpose(word: &str) -> Result<Purpose> {
+    match word {
+        "control" => Ok(Purpose::Control),
+        "encoder" => Ok(Purpose::Encoder),
+        "decoder" => Ok(Purpose::Decoder),
+        "message" => Ok(Purpose::Message),
+        _ => bail!("no purpose"),
     }
 }

@@ -1,14 +1,14 @@
 //! The lines of events.
 
 ghost use Rattle.std.specs.Prelude.{◌≡◌, ◌++◌, OnOk, string_bytes};
-ghost use Rattle.wt_replay.specs.Lines.{found_line, opened_line, settings_line, limits_text, flags_text, sessions_text, frame_line, data_line, skipped_line, fault_line, left_line, flag_name as flag_name_is, purpose_name as purpose_name_is, kind_name as kind_name_is, scope_name as scope_name_is};
+ghost use Rattle.wt_replay.specs.Lines.{found_line, opened_line, settings_line, values_text, limits_text, flags_text, sessions_text, frame_line, data_line, skipped_line, fault_line, error_text, left_line, flag_name as flag_name_is, purpose_name as purpose_name_is, kind_name as kind_name_is, scope_name as scope_name_is};
 
 use std::alloc::AllocError;
 use wtp_connection::connection::Found;
 use wtp_connection::fault::Fault;
 use wtp_connection::settings::PeerSettings;
 use wtp_connection::stream::Purpose;
-use wtp_core::error::ErrorScope;
+use wtp_core::error::{Code, ErrorScope};
 use wtp_frames::frame_type::FrameType;
 
 /// Appends the line of what was found on a stream, at an offset in it to which the offsets of the
@@ -60,6 +60,14 @@ fn add_settings(
         ≡ string_bytes out.old ++ settings_line id at settings start end) }
 {
     write!(out, "{id} {at} settings {start} {end}")?;
+    add_values(out, settings)?;
+    writeln!(out, "")
+}
+
+/// Appends the values of SETTINGS.
+pub fn add_values(out: &mut String, settings: PeerSettings) -> Result<(), AllocError>
+    ensures { OnOk result (string_bytes out.new ≡ string_bytes out.old ++ values_text settings) }
+{
     add_limits(out, settings)?;
     add_flags(out, settings)?;
     add_sessions(out, settings)
@@ -87,13 +95,13 @@ fn add_flags(out: &mut String, settings: PeerSettings) -> Result<(), AllocError>
     write!(out, " {connect} {datagram} {webtransport}")
 }
 
-/// Appends how many sessions SETTINGS allow, and ends the line.
+/// Appends how many sessions SETTINGS allow.
 fn add_sessions(out: &mut String, settings: PeerSettings) -> Result<(), AllocError>
     ensures { OnOk result (string_bytes out.new ≡ string_bytes out.old ++ sessions_text settings) }
 {
     let sessions = settings.webtransport_max_sessions;
     let later = settings.wt_max_sessions;
-    writeln!(out, " {sessions} {later}")
+    write!(out, " {sessions} {later}")
 }
 
 /// Returns the value of a setting that is on or off.
@@ -140,9 +148,18 @@ fn add_skipped(out: &mut String, id: u64, at: u64, size: u64, n: usize) -> Resul
 pub fn add_fault(out: &mut String, id: u64, at: u64, fault: Fault) -> Result<(), AllocError>
     ensures { OnOk result (string_bytes out.new ≡ string_bytes out.old ++ fault_line id at fault) }
 {
-    let code = fault.code().number().into_inner();
-    let scope = scope_name(fault.scope());
-    writeln!(out, "{id} {at} fault {code} {scope}")
+    write!(out, "{id} {at} ")?;
+    add_error(out, fault.code(), fault.scope())?;
+    writeln!(out, "")
+}
+
+/// Appends the words of an error.
+pub fn add_error(out: &mut String, code: Code, scope: ErrorScope) -> Result<(), AllocError>
+    ensures { OnOk result (string_bytes out.new ≡ string_bytes out.old ++ error_text code scope) }
+{
+    let number = code.number().into_inner();
+    let name = scope_name(scope);
+    write!(out, "fault {number} {name}")
 }
 
 /// Appends the line of a stream of which bytes are left over.
@@ -153,7 +170,7 @@ pub fn add_left(out: &mut String, id: u64, at: u64, left: usize) -> Result<(), A
 }
 
 /// Returns the name of a purpose.
-fn purpose_name(purpose: Purpose) -> &'static str
+pub fn purpose_name(purpose: Purpose) -> &'static str
     ensures { result.now ≡ purpose_name_is purpose }
 {
     match purpose {
@@ -170,7 +187,7 @@ fn purpose_name(purpose: Purpose) -> &'static str
 }
 
 /// Returns the name of a frame type.
-fn kind_name(kind: FrameType) -> &'static str
+pub fn kind_name(kind: FrameType) -> &'static str
     ensures { result.now ≡ kind_name_is kind }
 {
     match kind {

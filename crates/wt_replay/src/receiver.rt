@@ -2,17 +2,14 @@
 ghost use Rattle.std.specs.Prelude.{◌≡◌, ◌++◌, [], false, IfOk};
 
 use crate::lines::{add_fault, add_found, add_left};
-use crate::messages::{add_content, add_end, add_section};
 use std::alloc::{AllocError, Global};
 use std::collections::BTreeMap;
 use wtp_connection::connection::{Connection, Found, Known};
 use wtp_connection::fields::Fields;
 use wtp_connection::stream::{Purpose, Stream};
-use wtp_frames::endpoint::{Endpoint, Side};
+use wtp_frames::endpoint::Endpoint;
 use wtp_frames::frame_type::FrameType;
 use wtp_hold::hold::{Hold, Received, Source};
-use wtp_messages::message::{Message, Role};
-use wtp_messages::response::Asked;
 
 /// How far a stream was read.
 #[derive(Drop)]
@@ -21,8 +18,6 @@ pub struct Reading {
     stream: Stream,
     /// How many of the next HEADERS are those of interim responses.
     interims: u64,
-    /// Its message, if it has one and messages are read.
-    message: Option<Message>,
 }
 
 /// A stream.
@@ -50,7 +45,6 @@ impl Entry {
             reading: Reading {
                 stream,
                 interims: 0,
-                message: None,
             },
             at: 0,
             bytes: Vec::new(alloc),
@@ -99,10 +93,6 @@ pub struct Receiver {
     fields: Fields,
     sessions: BTreeMap<u64, Known>,
     text: String,
-    /// The side of the connection.
-    side: Side,
-    /// Whether messages are read.
-    reads_messages: bool,
     /// Whether each piece of a stream is passed once.
     pushes: bool,
 }
@@ -115,8 +105,6 @@ impl Receiver {
             fields: Fields::new(),
             sessions: BTreeMap::new(alloc),
             text: String::new(alloc),
-            side: endpoint.side,
-            reads_messages: false,
             pushes: false,
         }
     }
@@ -126,20 +114,14 @@ impl Receiver {
         self.text.as_str()
     }
 
-    /// Clears the text.
-    pub fn clear_text(&mut self) {
-        self.text.clear();
-    }
-
-    /// Reads the messages of streams from here on.
-    pub fn read_messages(&mut self) {
-        self.reads_messages = true;
+    /// Returns the text of the events, to which more is to be added.
+    pub fn text_mut(&mut self) -> &mut String {
+        &mut self.text
     }
 
     /// Begins another connection.
     pub fn begin(&mut self, alloc: Global, endpoint: Endpoint) -> Result<(), AllocError> {
         self.connection = Connection::new(endpoint);
-        self.side = endpoint.side;
         self.fields = Fields::new();
         self.sessions = BTreeMap::new(alloc);
         writeln!(self.text, "connection")
@@ -178,7 +160,7 @@ impl Receiver {
                 .receive(stream, rest, entry.fin, &mut self.fields);
             let at = entry.at.saturating_add(start as u64);
             start = start.saturating_add(consumed(found, rest.len()));
-            self.take(alloc, id, at, &mut entry.reading, found, rest)?;
+            self.take(id, at, &mut entry.reading, found)?;
             if let Found::More(_) = found {
                 break;
             }
@@ -209,14 +191,14 @@ impl Receiver {
             else {
                 return Err(AllocError);
             };
-            let source = entry.hold.source(received.source, rest);
-            let at = start_of(came, received, source.len());
+            let len = entry.hold.source(received.source, rest).len();
+            let at = start_of(came, received, len);
             let found = received.found;
             rest = rest.get(received.taken..).unwrap_or(&[]);
             entry.at = came
                 .saturating_add(received.taken as u64)
                 .saturating_sub(entry.hold.len() as u64);
-            self.take(alloc, id, at, &mut entry.reading, found, source)?;
+            self.take(id, at, &mut entry.reading, found)?;
             if let Found::More(_) = found {
                 break;
             }
@@ -224,69 +206,22 @@ impl Receiver {
         Ok(())
     }
 
-    /// Takes what was found in these bytes.
+    /// Takes what was found.
     fn take(
         &mut self,
-        alloc: Global,
         id: u64,
         at: u64,
         reading: &mut Reading,
         found: Found,
-        bytes: &[u8],
     ) -> Result<(), AllocError> {
         add_found(&mut self.text, id, at, found)?;
         match found {
             Found::Opened(Purpose::Session(session), _) => {
                 let known = self.known(session);
-                self.join(id, at, reading, known)?;
+                self.join(id, at, reading, known)
             }
-            Found::Frame(FrameType::Headers, from, to) => {
-                let section = bytes.get(from..to).unwrap_or(&[]);
-                if self.take_section(alloc, id, at, &mut reading.message, section)? {
-                    reading.interims = 1;
-                }
-                self.tell(id, at, reading)?;
-            }
-            Found::Data(from, to) => {
-                if let Some(message) = reading.message.as_mut() {
-                    add_content(&mut self.text, id, at, message, to.saturating_sub(from))?;
-                }
-            }
-            Found::End => {
-                if let Some(message) = reading.message.as_ref() {
-                    add_end(&mut self.text, id, at, message)?;
-                }
-            }
-            _ => {}
-        }
-        Ok(())
-    }
-
-    /// Takes the next field section of a stream's message, if messages are read. Returns whether it
-    /// is that of an interim response.
-    fn take_section(
-        &mut self,
-        alloc: Global,
-        id: u64,
-        at: u64,
-        message: &mut Option<Message>,
-        section: &[u8],
-    ) -> Result<bool, AllocError> {
-        if !self.reads_messages {
-            return Ok(false);
-        }
-        let mut next = message.unwrap_or(Message::new(self.role(id)));
-        let is_interim = add_section(&mut self.text, alloc, id, at, &mut next, section)?;
-        *message = Some(next);
-        Ok(is_interim)
-    }
-
-    /// Returns what the message of a stream is.
-    fn role(&self, id: u64) -> Role {
-        match self.side {
-            Side::Server => Role::Request(true),
-            Side::Client if self.sessions.contains_key(&id) => Role::Response(Asked::Session),
-            Side::Client => Role::Response(Asked::Other),
+            Found::Frame(FrameType::Headers, _, _) => self.tell(id, at, reading),
+            _ => Ok(()),
         }
     }
 

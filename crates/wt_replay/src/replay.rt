@@ -1,6 +1,6 @@
 //! A connection and its streams, with the bytes of each that were not consumed yet.
 
-use crate::command::Command;
+use crate::command::{Command, Enables};
 use crate::receiver::{Entry, Receiver};
 use anyhow::Result;
 use std::alloc::{AllocError, Global};
@@ -33,9 +33,9 @@ impl Replay {
         self.receiver.text()
     }
 
-    /// Clears the text.
-    pub fn clear_text(&mut self) {
-        self.receiver.clear_text();
+    /// Returns the text of the events so far, to which more is to be added.
+    pub fn text_mut(&mut self) -> &mut String {
+        self.receiver.text_mut()
     }
 
     /// Runs a command.
@@ -45,8 +45,10 @@ impl Replay {
     /// If allocation fails.
     pub fn run(&mut self, alloc: Global, command: Command) -> Result<()> {
         match command {
-            Command::Begin(side, webtransport) => self.begin(alloc, side, webtransport)?,
-            Command::Request(id) => {
+            Command::Begin(side, enables) => {
+                self.begin(alloc, side, enables == Enables::WebTransport)?;
+            }
+            Command::Request(id, _) => {
                 let stream = Stream::of_request(self.endpoint);
                 self.streams.insert(id, Entry::new(alloc, stream))?;
             }
@@ -64,8 +66,12 @@ impl Replay {
             Command::Reset(id) => self.reset(alloc, id)?,
             Command::Abandon(id) => self.abandon(alloc, id)?,
             Command::Forget(id) => self.forget(id)?,
-            Command::Messages => self.receiver.read_messages(),
             Command::Push => self.receiver.push(),
+            Command::Answer(_, _)
+            | Command::Datagram(_)
+            | Command::Stop(_)
+            | Command::Stopped(_)
+            | Command::Sessions => {}
         }
         Ok(())
     }

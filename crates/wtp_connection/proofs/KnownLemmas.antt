@@ -92,19 +92,19 @@ over_by Server e ids s side h = over_at ids s (sym (known_server e ids s side) �
 pub over_after_request : (e : Endpoint) (ids : List ℕ) (s : ℕ) → known_alone (accepted_all e ids) s ≡ known.Over → has_begun ids s ≡ true
 over_after_request e ids s h = over_by e.side e ids s refl h
 
-near : (ids : List ℕ) (s : ℕ) → s % 4 ≡ 0 → ((id : ℕ) → has_begun ids id ≡ true → id < s + 2048) → IsNotFarBehind (requests_in ids) (s / 4)
+near : (ids : List ℕ) (s : ℕ) → s % 4 ≡ 0 → ((id : ℕ) → has_begun ids id ≡ true → id % 4 ≡ 0 → id < s + 2048) → IsNotFarBehind (requests_in ids) (s / 4)
 near ids s z h m is =
     let place : 4 * m / 4 ≡ m = omega arith in
     let first : 4 * m % 4 ≡ 0 = omega arith in
     let came : has_begun ids (4 * m) ≡ true = sym (has_request ids (4 * m) first) ∙ ap (λ (n : ℕ). has_begun (requests_in ids) n) place ∙ is in
-    let bound : 4 * m < s + 2048 = h (4 * m) came in
+    let bound : 4 * m < s + 2048 = h (4 * m) came first in
     omega (arith, bound, z)
 
 over_or_coming : (b : Bool) → known_by (beginning_of b) ≡ over_if b
 over_or_coming true = refl
 over_or_coming false = refl
 
-pub known_exactly : (e : Endpoint) (ids : List ℕ) (s : ℕ) → e.side ≡ Server → s % 4 ≡ 0 → ((id : ℕ) → has_begun ids id ≡ true → id < s + 2048) → known_alone (accepted_all e ids) s ≡ over_if (has_begun ids s)
+pub known_exactly : (e : Endpoint) (ids : List ℕ) (s : ℕ) → e.side ≡ Server → s % 4 ≡ 0 → ((id : ℕ) → has_begun ids id ≡ true → id % 4 ≡ 0 → id < s + 2048) → known_alone (accepted_all e ids) s ≡ over_if (has_begun ids s)
 known_exactly e ids s side z h =
     known_server e ids s side
     ∙ ap (λ (b : Bool). cond b (known_by (beginning_at (begun_by (requests_in ids)) (s / 4))) known.Impossible) (eq-eqb (s % 4) 0 z)

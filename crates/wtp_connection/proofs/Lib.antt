@@ -12,3 +12,4 @@ pub mod ResumptionLemmas
 pub mod KnownLemmas
 pub mod ProgressLemmas
 pub mod PurposeLemmas
+pub mod KeptLemmas

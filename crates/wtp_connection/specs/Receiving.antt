@@ -122,8 +122,8 @@ Settled (found.More n) bytes d t =
     ended (run_stream d t (drop n bytes)) ≡ rests d t (drop n bytes)
 Settled other bytes d t = Unit {0}
 
--- Whether the stream ends after these bytes or goes on: its state after an error and after the end is
--- that of a stream that is over, and after anything else the one in which it goes on.
+-- After anything but an error and the end the stream is in the state in which it goes on, also if it ends
+-- after these bytes.
 pub record FoundIs (x : Found) (c : Connection) (s : Stream) (bytes : List ℕ) (fin : Bool)
     (d : Connection) (t : Stream) : Type 0 where
   pub fits : Fits x bytes d t
@@ -131,6 +131,31 @@ pub record FoundIs (x : Found) (c : Connection) (s : Stream) (bytes : List ℕ) 
       ≡ followed (seen_of x bytes) (all_found fin d t (rest_after x bytes) more)
   pub goes : LeavesOpen x → Finds c s bytes (seen_of x bytes) d t (rest_after x bytes)
   pub settled : fin ≡ true → Settled x bytes d t
+
+-- ---- what the connection and the stream keep
+
+-- the settings of the peer, and whether they are remembered
+abbrev pub settings_of : Connection → PeerSettings × Bool
+settings_of c = (c.peer, c.resumed)
+
+-- SETTINGS change them, and nothing else does
+abbrev pub settings_after : Found → Connection → PeerSettings × Bool
+settings_after (found.Settings v start end) c = (v, false)
+settings_after other c = settings_of c
+
+-- whether a stream of frames had one that is no DATA
+abbrev pub given_of : Stream → Bool
+given_of (Frames r given) = given
+given_of other = false
+
+-- it has one from the first on that is found, and not before
+abbrev pub HasGiven : Found → Stream → Stream → Type 0
+HasGiven (found.Opened p n) s t = given_of t ≡ false
+HasGiven (found.Settings v start end) s t = given_of t ≡ true
+HasGiven (found.Frame kind start end) s t = given_of t ≡ true
+HasGiven (found.Data start end) s t = given_of t ≡ given_of s
+HasGiven (found.TooLarge size n) s t = given_of t ≡ true
+HasGiven other s t = Unit {0}
 
 -- ---- how many calls a stream takes
 

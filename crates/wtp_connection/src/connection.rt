@@ -1,7 +1,7 @@
 //! What the streams of a connection have in common. It holds no bytes and no table of streams.
 ghost use Rattle.std.specs.Prelude.{◌≡◌, ◌≤◌, ◌||◌, length, drop, true, false, None, Some, MatchOption, IfSome, IfErr};
 ghost use Rattle.wtp_connection.specs.Streams.{connection_of, opens, opening_result, closed_by, accepts};
-ghost use Rattle.wtp_connection.specs.Receiving.{FoundIs, StepIsFound, IsNearer, IsFirst, IsInside, opening_of, has_frame, step_found, encoder_found, decoder_found, fails, more_in, finish_of};
+ghost use Rattle.wtp_connection.specs.Receiving.{FoundIs, StepIsFound, IsNearer, IsFirst, IsInside, opening_of, has_frame, settings_of, settings_after, HasGiven, step_found, encoder_found, decoder_found, fails, more_in, finish_of};
 
 pub mod datagrams;
 mod resumption;
@@ -124,7 +124,8 @@ impl Connection {
     /// It does not allocate. After `More(n)`, the bytes from offset `n` on are to be passed again,
     /// with more bytes after them or after [`join`](Self::join). An error is returned once, with
     /// all bytes consumed. After an error that ends the connection every call consumes all bytes of
-    /// every stream and returns `More`.
+    /// every stream and returns `More`. Only SETTINGS change
+    /// [`peer_settings`](Self::peer_settings).
     pub fn receive(
         &mut self,
         stream: &mut Stream,
@@ -134,6 +135,8 @@ impl Connection {
     ) -> Found
         ensures found { FoundIs result self.old stream.old bytes.now fin self.new stream.new }
         ensures progress { IsNearer result stream.old bytes.now stream.new }
+        ensures settings { settings_of self.new ≡ settings_after result self.old }
+        ensures given { HasGiven result stream.old stream.new }
         ensures fields { _fields.new ≡ _fields.old }
     {
         let found = self.step(stream, bytes);
@@ -152,6 +155,8 @@ impl Connection {
     fn step(&mut self, stream: &mut Stream, bytes: &[u8]) -> Found
         ensures found { StepIsFound result self.old stream.old bytes.now self.new stream.new }
         ensures progress { IsNearer result stream.old bytes.now stream.new }
+        ensures settings { settings_of self.new ≡ settings_after result self.old }
+        ensures given { HasGiven result stream.old stream.new }
     {
         if self.over {
             return Found::More(bytes.len());
@@ -267,6 +272,8 @@ impl Connection {
         requires within { IfSome opening (λ o. o.1 ≤ length bytes.now) }
         ensures found { StepIsFound result self.old stream.old bytes.now self.new stream.new }
         ensures progress { IsNearer result stream.old bytes.now stream.new }
+        ensures settings { settings_of self.new ≡ settings_after result self.old }
+        ensures given { HasGiven result stream.old stream.new }
     {
         match opening {
             None => Found::More(0),

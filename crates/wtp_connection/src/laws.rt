@@ -184,7 +184,7 @@ pub fn sessions_without_a_stream_are_known()
     ensures over { (e : Endpoint) (ids : List ℕ) (s : ℕ)
         → known_alone (accepted_all e ids) s ≡ known.Over → has_begun ids s ≡ true }
     ensures known { (e : Endpoint) (ids : List ℕ) (s : ℕ) → e.side ≡ Server → s % 4 ≡ 0
-        → ((id : ℕ) → has_begun ids id ≡ true → id < s + 2048)
+        → ((id : ℕ) → has_begun ids id ≡ true → id % 4 ≡ 0 → id < s + 2048)
         → known_alone (accepted_all e ids) s ≡ over_if (has_begun ids s) }
 {}
 

@@ -1,5 +1,5 @@
 -- An encoder that tests before it evicts owes nothing more.
-use Rattle.std.proofs.Common.{◌≡◌, ℕ, ◌+◌, ◌-◌, ◌^◌, ◌<◌, ◌≤◌, ◌==◌, nat_le, inl, inr, Bool, true, false, cond, ◌&&◌, List, [], ◌∷◌, ◌++◌, length, drop, refl, sym, ◌∙◌, ap, subst, arith, length-append, length-drop, Option, Some, None}
+use Rattle.std.proofs.Common.{◌≡◌, ℕ, ◌+◌, ◌-◌, ◌^◌, ◌<◌, ◌≤◌, ◌==◌, nat_lt, nat_le, inl, inr, Bool, true, false, cond, ◌&&◌, List, [], ◌∷◌, ◌++◌, length, drop, refl, sym, ◌∙◌, ap, subst, arith, length-append, length-drop, Option, Some, None}
 use borrow.Author.Tests.{leb-true}
 use Rattle.wtp_huffman.proofs.Chosen.{chosen}
 use Rattle.wtp_qpack.specs.Field.{Field}
@@ -43,8 +43,8 @@ owes_capacity capacity encoder owes test =
     let t : Table = encoder.table in
     let d : ℕ = excess capacity t.live in
     let within : d ≤ length t.live = excess_within capacity t.live in
-    let b = both_true (nat_le capacity t.limit && nat_le (t.dropped + d) encoder.known) (all_above (t.dropped + d) encoder.sections) test in
-    let c = both_true (nat_le capacity t.limit) (nat_le (t.dropped + d) encoder.known) b.0 in
+    let b = both_true (nat_lt 0 t.limit && nat_le capacity t.limit && nat_le (t.dropped + d) encoder.known) (all_above (t.dropped + d) encoder.sections) test in
+    let c = both_true (nat_lt 0 t.limit && nat_le capacity t.limit) (nat_le (t.dropped + d) encoder.known) b.0 in
     let count : insert_count t ≡ insert_count (resized capacity t) = omega (arith, length-drop d t.live) in
     record {
       known = omega (arith, owes.known, count);

@@ -40,12 +40,13 @@ may_insert entry encoder =
     nat_le (entry_size entry) encoder.table.capacity && nat_le after.dropped encoder.known
     && all_above after.dropped encoder.sections
 
--- the capacity may be changed: it is within the limit, and only entries go that may go
+-- the capacity may be changed: the limit is not 0 (section 3.2.3), the capacity is within it, and
+-- only entries go that may go
 abbrev pub may_resize : ℕ → Encoder → Bool
 may_resize capacity encoder =
     let after = evicted capacity encoder.table in
-    nat_le capacity encoder.table.limit && nat_le after.dropped encoder.known
-    && all_above after.dropped encoder.sections
+    nat_lt 0 encoder.table.limit && nat_le capacity encoder.table.limit
+    && nat_le after.dropped encoder.known && all_above after.dropped encoder.sections
 
 -- ---- the decoder stream (section 4.4)
 

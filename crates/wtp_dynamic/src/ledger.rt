@@ -130,6 +130,13 @@ impl Ledger {
         self.known
     }
 
+    /// Returns how many sections are not acknowledged.
+    pub fn len(&self) -> usize
+        ensures { result ≡ length self.now.1 }
+    {
+        self.sections.len()
+    }
+
     /// Returns whether one more section of a stream may need more insertions than are known to be
     /// received, where the decoder lets `most` streams wait (section 2.1.2): a section of this
     /// stream already may, or sections of fewer streams than `most` may.

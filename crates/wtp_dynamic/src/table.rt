@@ -1,10 +1,10 @@
 //! The dynamic table (RFC 9204, section 3.2).
 
-ghost use Rattle.std.specs.Prelude.{◌≡◌, ℕ, ◌+◌, ◌-◌, ◌^◌, ◌<◌, ◌≤◌, min, List, length, take, drop, Decides, IfOk, Ok, Err, option_map};
+ghost use Rattle.std.specs.Prelude.{◌≡◌, ℕ, ◌+◌, ◌-◌, ◌^◌, ◌<◌, ◌≤◌, List, length, take, drop, IfOk, Ok, Err, option_map};
 ghost use Rattle.std.specs.Vec.{vec_len};
 ghost use Rattle.std.specs.VecDeque.{deque_capacity};
 ghost use Rattle.wtp_dynamic.specs.declared.error.EncoderStreamError.TheVariants.{Memory};
-ghost use Rattle.wtp_dynamic.specs.Table.{Table, entry_size, table_size, insert_count, excess, evicted, inserted, empty_table, entry_of, relative_entry, post_base_entry, FindsLatest};
+ghost use Rattle.wtp_dynamic.specs.Table.{Table, entry_size, table_size, insert_count, excess, evicted, inserted, empty_table, entry_of, relative_entry, post_base_entry};
 ghost use Rattle.wtp_dynamic.specs.Steps.{set_step, insert_step, Steps};
 
 use crate::error::EncoderStreamError;
@@ -36,7 +36,7 @@ impl Entry {
     pub fn new(alloc: Global, name: &[u8], value: &[u8]) -> Result<Self, AllocError>
         ensures { IfOk result (λ entry. entry ≡ (name.now, value.now)) }
     {
-        let mut texts = Vec::new(alloc);
+        let mut texts = Vec::with_capacity(alloc, name.len() + value.len())?;
         texts.extend_from_slice(name)?;
         texts.extend_from_slice(value)?;
         Ok(Entry {
@@ -65,22 +65,6 @@ impl Entry {
         ensures { result.now ≡ self.now.1 }
     {
         self.texts.as_slice().split_at(self.middle).1
-    }
-
-    /// Returns whether this is the name.
-    #[tactic(auto, using(crate::proofs::Lookups::text_decides))]
-    pub fn has_name(&self, name: &[u8]) -> bool
-        ensures { Decides result (self.now.0 ≡ name.now) }
-    {
-        self.name() == name
-    }
-
-    /// Returns whether these are the name and the value.
-    #[tactic(auto, using(crate::proofs::Lookups::field_decides))]
-    pub fn is(&self, name: &[u8], value: &[u8]) -> bool
-        ensures { Decides result (self.now ≡ (name.now, value.now)) }
-    {
-        self.value() == value && self.name() == name
     }
 
     /// Returns the size, which counts 32 bytes beside the texts.
@@ -166,6 +150,14 @@ impl DynamicTable {
         self.dropped + self.entries.len() as u64
     }
 
+    /// Returns how many entries were evicted: the absolute index of the oldest that is left.
+    pub fn dropped(&self) -> u64
+        ensures value { result ≡ self.now.dropped }
+        ensures few { result + length self.now.live ≤ 2 ^ 62 }
+    {
+        self.dropped
+    }
+
     /// Returns the size of the entries that are left, which is at most the capacity.
     pub fn size(&self) -> u64
         ensures value { result ≡ table_size self.now.live }
@@ -204,43 +196,6 @@ impl DynamicTable {
             size -= self.entries[i].size();
         }
         self.dropped + self.entries.len() as u64
-    }
-
-    /// Returns how many of the entries have an absolute index below this one.
-    fn count_below(&self, below: u64) -> usize
-        ensures { result ≡ min (below - self.now.dropped) (length self.now.live) }
-    {
-        (below.saturating_sub(self.dropped)).min(self.entries.len() as u64) as usize
-    }
-
-    /// Returns the absolute index of the latest entry with this name and value, among those with an
-    /// index below `below`.
-    pub fn find(&self, name: &[u8], value: &[u8], below: u64) -> Option<u64>
-        ensures { FindsLatest (λ entry. entry ≡ (name.now, value.now)) self.now below result }
-    {
-        let mut left = self.count_below(below);
-        while left > 0 {
-            left -= 1;
-            if self.entries[left].is(name, value) {
-                return Some(self.dropped + left as u64);
-            }
-        }
-        None
-    }
-
-    /// Returns the absolute index of the latest entry with this name, among those with an index
-    /// below `below`.
-    pub fn find_name(&self, name: &[u8], below: u64) -> Option<u64>
-        ensures { FindsLatest (λ entry. entry.0 ≡ name.now) self.now below result }
-    {
-        let mut left = self.count_below(below);
-        while left > 0 {
-            left -= 1;
-            if self.entries[left].has_name(name) {
-                return Some(self.dropped + left as u64);
-            }
-        }
-        None
     }
 
     /// Changes the capacity, and evicts the oldest entries that no longer fit. It needs no memory.

@@ -15,15 +15,15 @@ abbrev pub Sends : {E : Type 0} → (stream required lowest : ℕ) → Table →
 Sends stream required lowest t bytes old new before after r =
     MatchResult r (λ _. (new ≡ opened (sent_at stream required lowest) old) × (after ≡ before ++ (prefix_for t required ++ bytes))) (λ _. (new ≡ old) × (after ≡ before))
 
-pub sent_keeps : {E : Type 0} (r : Result (Unit {0}) E) (stream most low bound : ℕ) (t : Table) (ps : List Proposal) (bytes : List ℕ) (required lowest : ℕ) (old new : Ledger) (before after : List ℕ)
-    → Sends stream required lowest t bytes old new before after r → AreLines t low bound ps bytes required lowest → bound ≤ insert_count t → bound ≡ bound_for stream most old t → Both t most old → Both t most new
-sent_keeps (Ok u) stream most low bound t ps bytes required lowest old new before after (is, more) lines known value kept =
-    opened_keeps t most old new (sent_at stream required lowest) is kept lines.live lines.some (omega (arith, lines.few)) (bound_allows stream most bound required old t value lines.few)
-sent_keeps (Err e) stream most low bound t ps bytes required lowest old new before after (same, none) lines known value kept =
+pub sent_keeps : {E : Type 0} (r : Result (Unit {0}) E) (stream most : ℕ) (policy : Policy) (low bound : ℕ) (t : Table) (ps : List Proposal) (bytes : List ℕ) (required lowest : ℕ) (old new : Ledger) (before after : List ℕ)
+    → Sends stream required lowest t bytes old new before after r → AreLines t low bound ps bytes required lowest → bound ≤ insert_count t → bound ≡ bound_for stream most policy old t → Both t most old → Both t most new
+sent_keeps (Ok u) stream most policy low bound t ps bytes required lowest old new before after (is, more) lines known value kept =
+    opened_keeps t most old new (sent_at stream required lowest) is kept lines.live lines.some (omega (arith, lines.few)) (bound_allows stream most bound required policy old t value lines.few)
+sent_keeps (Err e) stream most policy low bound t ps bytes required lowest old new before after (same, none) lines known value kept =
     subst (λ (z : Ledger). Both t most z) (sym same) kept
 
 pub sent_is : {E : Type 0} (r : Result (Unit {0}) E) (stream most : ℕ) (policy : Policy) (low bound : ℕ) (first t : Table) (ps : List Proposal) (bytes : List ℕ) (required lowest : ℕ) (old new : Ledger) (orders_before orders_after before after : List ℕ)
-    → Sends stream required lowest t bytes old new before after r → AreLines t low bound ps bytes required lowest → low ≡ draining_index policy t → bound ≤ insert_count t → bound ≡ bound_for stream most old t → AreOffered policy ps old first t orders_before orders_after
+    → Sends stream required lowest t bytes old new before after r → AreLines t low bound ps bytes required lowest → low ≡ draining_index policy t → bound ≤ insert_count t → bound ≡ bound_for stream most policy old t → AreOffered policy ps old first t orders_before orders_after
     → MatchResult r (λ _. AreOffered policy ps old first t orders_before orders_after × IsSent stream most policy ps t old new before after) (λ _. (new ≡ old) × (after ≡ before) × StoppedAt policy ps old first t orders_before orders_after)
 sent_is (Ok u) stream most policy low bound first t ps bytes required lowest old new orders_before orders_after before after (is, more) lines draining known value offered =
     (offered, lines_sent stream most policy t bound ps bytes required lowest old new before after (subst (λ (z : ℕ). AreLines t z bound ps bytes required lowest) draining lines) known value is more)

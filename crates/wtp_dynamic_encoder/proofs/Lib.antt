@@ -6,3 +6,7 @@ pub mod Orders
 pub mod Kept
 pub mod Read
 pub mod Encoded
+pub mod Chained
+pub mod Hashed
+pub mod Walks
+pub mod KeyLists

@@ -3,7 +3,7 @@ use Rattle.std.proofs.Common.{◌≡◌, ℕ, ◌+◌, ◌-◌, ◌*◌, ◌^◌
 use Rattle.std.specs.List.{flat_map}
 use Rattle.std.proofs.lemmas.Bool.{lt-leb, le-ltb, leb-true, ltb-true, cases_lt, lt-ltb}
 use Rattle.wtp_qpack.specs.Integer.{shortest_groups, shortest_int}
-use Rattle.std.proofs.lemmas.List.{flat_map_more, take_all, drop_all}
+use Rattle.std.proofs.lemmas.List.{take_all, drop_all}
 use Rattle.wtp_qpack.specs.Field.{Field, IsOctets}
 use Rattle.wtp_qpack.specs.StaticTable.{entry_at}
 use Rattle.wtp_qpack.specs.StringLiteral.{huffman_bytes, encoded_string}
@@ -32,20 +32,15 @@ below_is m n e = ltb-true m n e
 
 -- ---- one more order
 
-carries_push : (orders : List Order) (t u v : Table) (order : Order) → Carries orders t u → CanBeWritten order → length (written order) ≤ most_bytes u.limit → order_step order u ≡ Ok v → Carries (orders ++ order ∷ []) t v
-carries_push [] t u v order same can short did =
-    let here : Carries (order ∷ []) u v = (can, short, v, did, refl) in
-    subst (λ (x : Table). Carries (order ∷ []) x v) same here
-carries_push (o ∷ orders) t u v order (one, few, next, did, carries) can short done = (one, few, next, did, carries_push orders next u v order carries can short done)
-
 pub ordered_none : (t u : Table) (before after : List ℕ) → u ≡ t → after ≡ before → Ordered t u before after
-ordered_none t u before after same none = record { orders = []; carries = same; bytes = none ∙ sym (append-nil before) }
+ordered_none t u before after same none = record { orders = []; carries = same; bytes = none ∙ sym (append-nil before); silent = λ none. refl }
 
-pub ordered_push : (t u v : Table) (before bytes after : List ℕ) (order : Order) → Ordered t u before bytes → CanBeWritten order → length (written order) ≤ most_bytes u.limit → order_step order u ≡ Ok v → after ≡ bytes ++ written order → Ordered t v before after
-ordered_push t u v before bytes after order ordered can short did more = record {
-  orders = ordered.orders ++ order ∷ [];
-  carries = carries_push ordered.orders t u v order ordered.carries can short did;
-  bytes = more ∙ ap (λ (z : List ℕ). z ++ written order) ordered.bytes ∙ flat_map_more written before ordered.orders order;
+ordered_one : (u v : Table) (before after : List ℕ) (order : Order) → CanBeWritten order → length (written order) ≤ most_bytes u.limit → order_step order u ≡ Ok v → 0 < u.limit → after ≡ before ++ written order → Ordered u v before after
+ordered_one u v before after order can short did some more = record {
+  orders = order ∷ [];
+  carries = (can, short, v, did, refl);
+  bytes = more ∙ ap (λ (z : List ℕ). before ++ z) (sym (append-nil (written order)));
+  silent = λ none. absurd (omega arith);
 }
 
 carries_join : (first second : List Order) (t u v : Table) → Carries first t u → Carries second u v → Carries (first ++ second) t v
@@ -61,7 +56,17 @@ ordered_join t u v a b c one two = record {
   orders = one.orders ++ two.orders;
   carries = carries_join one.orders two.orders t u v one.carries two.carries;
   bytes = two.bytes ∙ ap (λ (z : List ℕ). z ++ flat_map written two.orders) one.bytes ∙ append_assoc a (flat_map written one.orders) (flat_map written two.orders) ∙ ap (λ z. a ++ z) (sym (flat_join one.orders two.orders));
+  silent = λ none.
+      let nothing = one.silent none in
+      let same : u ≡ t = subst (λ (z : List Order). Carries z t u) nothing one.carries in
+      let rest : two.orders ≡ [] = two.silent (ap (λ (x : Table). x.limit) same ∙ none) in
+      ap (λ (z : List Order). z ++ two.orders) nothing ∙ rest;
 }
+
+-- with a limit of 0 nothing is appended
+pub ordered_silent : (t u : Table) (before after : List ℕ) → Ordered t u before after → t.limit ≡ 0 → after ≡ before
+ordered_silent t u before after ordered none =
+    ordered.bytes ∙ ap (λ (z : List Order). before ++ flat_map written z) (ordered.silent none) ∙ append-nil before
 
 -- ---- how long an order is
 
@@ -166,7 +171,7 @@ ordered_entry : (u v : Table) (l : Ledger) (before after : List ℕ) (entry : Fi
 ordered_entry u v l before after entry order test chosen name value within is more =
     let one = inserting entry u l test in
     let does = order_does entry u order chosen name value one.few in
-    ordered_push u u v before before after order (ordered_none u u before before refl refl) does.0 (order_short entry u order chosen one.fits within) (does.1 ∙ inserts entry u one.fits one.few ∙ ap done (sym is)) more
+    ordered_one u v before after order does.0 (order_short entry u order chosen one.fits within) (does.1 ∙ inserts entry u one.fits one.few ∙ ap done (sym is)) (omega (arith, one.fits, within)) more
 
 pub owes_after : (u v : Table) (l : Ledger) (entry : Field) → can_insert entry (encoder_of u l) ≡ true → v ≡ inserted entry u → Owes (encoder_of u l) → Owes (encoder_of v l)
 owes_after u v l entry test is owes = subst (λ (x : Table). Owes (encoder_of x l)) (sym is) (owes_entry entry (encoder_of u l) owes (inserting entry u l test).may)
@@ -228,10 +233,11 @@ sets capacity u within = rw (le-ltb u.limit capacity within) refl
 pub resized_by : {E : Type 0} (capacity : ℕ) (l : Ledger) (u v : Table) (before after : List ℕ) (r : Result Bool E) → capacity < 2 ^ 64 → ResizesIf capacity l u v before after r → Ordered u v before after
 resized_by capacity l u v before after (Ok true) small (test, is, more) =
     let left : Table = evicted capacity u in
-    let a = both (nat_le capacity u.limit && nat_le left.dropped l.0) (all_above left.dropped l.1) test in
-    let b = both (nat_le capacity u.limit) (nat_le left.dropped l.0) a.0 in
+    let a = both (nat_lt 0 u.limit && nat_le capacity u.limit && nat_le left.dropped l.0) (all_above left.dropped l.1) test in
+    let b = both (nat_lt 0 u.limit && nat_le capacity u.limit) (nat_le left.dropped l.0) a.0 in
+    let d = both (nat_lt 0 u.limit) (nat_le capacity u.limit) b.0 in
     let short : length (shortest_int 5 1 capacity) ≤ most_bytes u.limit = omega (arith, int_few 5 1 capacity) in
-    ordered_push u u v before before after (Sets capacity) (ordered_none u u before before refl refl) small short (sets capacity u (leb-true capacity u.limit b.0) ∙ ap done (sym is)) more
+    ordered_one u v before after (Sets capacity) small short (sets capacity u (leb-true capacity u.limit d.1) ∙ ap done (sym is)) (below_is 0 u.limit d.0) more
 resized_by capacity l u v before after (Ok false) small (test, is, more) = ordered_none u v before after is more
 resized_by capacity l u v before after (Err e) small (test, is, more) = ordered_none u v before after is more
 

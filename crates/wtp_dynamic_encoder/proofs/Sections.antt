@@ -1,7 +1,7 @@
 -- The lines of a section, one after the other.
-use Rattle.std.proofs.Common.{◌≡◌, ◌⊎◌, ℕ, zero, suc, ◌+◌, ◌^◌, ◌<◌, ◌≤◌, inl, inr, Bool, true, false, cond, max, min, map, IfSome, List, [], ◌∷◌, ◌++◌, length, refl, sym, ◌∙◌, ap, subst, arith, Option, Some, None}
+use Rattle.std.proofs.Common.{◌≡◌, ◌⊎◌, ℕ, zero, suc, ◌+◌, ◌^◌, ◌<◌, ◌≤◌, nat_le, inl, inr, Bool, true, false, cond, max, min, map, IfSome, List, [], ◌∷◌, ◌++◌, length, refl, sym, ◌∙◌, ap, subst, arith, Option, Some, None}
 use Rattle.std.specs.List.{flat_map}
-use Rattle.std.proofs.lemmas.Bool.{cases_lt, lt-ltb, le-ltb, ne_eqb}
+use Rattle.std.proofs.lemmas.Bool.{cases_lt, lt-ltb, le-ltb, le-leb, ne_eqb}
 use Rattle.std.proofs.lemmas.List.{flat_map_more, map-append}
 use Rattle.wtp_qpack.specs.Field.{Field}
 use Rattle.wtp_dynamic.specs.Table.{Table, insert_count, entry_of, table_size}
@@ -124,14 +124,26 @@ bytes_push : (base : ℕ) (plans : List Plan) (plan : Plan) (bytes after : List 
 bytes_push base plans plan bytes after e more = more ∙ ap (λ (z : List ℕ). z ++ planned_line base plan) e ∙ flat_map_more (planned_line base) [] plans plan
 
 -- what is below the bound is allowed
-pub bound_allows : (stream most bound required : ℕ) (l : Ledger) (t : Table) → bound ≡ bound_for stream most l t → required ≤ bound → (required ≤ l.0) ⊎ (may_block most stream l ≡ true)
-bound_allows stream most bound required l t is few = by_test (may_block most stream l) refl
+pub bound_allows : (stream most bound required : ℕ) (policy : Policy) (l : Ledger) (t : Table) → bound ≡ bound_for stream most policy l t → required ≤ bound → (required ≤ l.0) ⊎ (may_block most stream l ≡ true)
+bound_allows stream most bound required policy l t is few = by_tests (nat_le policy.unacknowledged (length l.1)) refl (may_block most stream l) refl
   where
-    by_test : (b : Bool) → may_block most stream l ≡ b → (required ≤ l.0) ⊎ (may_block most stream l ≡ true)
-    by_test true may = inr may
-    by_test false may =
-        let known : bound ≡ l.0 = is ∙ ap (λ (b : Bool). cond b (insert_count t) l.0) may in
+    by_tests : (full : Bool) → nat_le policy.unacknowledged (length l.1) ≡ full → (b : Bool) → may_block most stream l ≡ b → (required ≤ l.0) ⊎ (may_block most stream l ≡ true)
+    by_tests full room true may = inr may
+    by_tests true room false may =
+        let none : bound ≡ 0 = is ∙ ap (λ (b : Bool). cond b 0 (cond (may_block most stream l) (insert_count t) l.0)) room in
         inl (omega arith)
+    by_tests false room false may =
+        let known : bound ≡ l.0 = is ∙ ap (λ (b : Bool). cond b 0 (cond (may_block most stream l) (insert_count t) l.0)) room ∙ ap (λ (b : Bool). cond b (insert_count t) l.0) may in
+        inl (omega arith)
+
+-- and there is room for one more section, if it refers to an entry
+bound_counts : (stream most bound required : ℕ) (policy : Policy) (l : Ledger) (t : Table) → bound ≡ bound_for stream most policy l t → required ≤ bound → (required ≡ 0) ⊎ (length l.1 < policy.unacknowledged)
+bound_counts stream most bound required policy l t is few = elim (cases_lt (length l.1) policy.unacknowledged) [
+  | inl room ↦ inr room
+  | inr full ↦
+      let none : bound ≡ 0 = is ∙ ap (λ (b : Bool). cond b 0 (cond (may_block most stream l) (insert_count t) l.0)) (le-leb policy.unacknowledged (length l.1) full) in
+      inl (omega arith)
+]
 
 pub lines_start : (t : Table) (low bound lowest : ℕ) → lowest ≡ insert_count t → AreLines t low bound [] [] 0 lowest
 lines_start t low bound lowest is = record { plans = []; chosen = refl; are = refl; bytes_are = refl; exact = refl; least = is; from = tt; live = omega arith; few = omega arith; some = inl refl }
@@ -234,7 +246,7 @@ lines_based count zero plans is = lines_any count 0 plans (sym is)
 lines_based count (suc n) plans is = ap (λ (base : ℕ). flat_map (planned_line base) plans) (sym (rw (ne_eqb (suc n) 0 (omega arith)) refl))
 
 pub lines_sent : (stream most : ℕ) (policy : Policy) (t : Table) (bound : ℕ) (ps : List Proposal) (bytes : List ℕ) (required lowest : ℕ) (old new : Ledger) (before after : List ℕ)
-    → AreLines t (draining_index policy t) bound ps bytes required lowest → bound ≤ insert_count t → bound ≡ bound_for stream most old t → new ≡ opened (sent_at stream required lowest) old → after ≡ before ++ (prefix_for t required ++ bytes)
+    → AreLines t (draining_index policy t) bound ps bytes required lowest → bound ≤ insert_count t → bound ≡ bound_for stream most policy old t → new ≡ opened (sent_at stream required lowest) old → after ≡ before ++ (prefix_for t required ++ bytes)
     → IsSent stream most policy ps t old new before after
 lines_sent stream most policy t bound ps bytes required lowest old new before after lines known is noted more = record {
   plans = lines.plans;
@@ -247,7 +259,8 @@ lines_sent stream most policy t bound ps bytes required lowest old new before af
   bytes = more ∙ ap (λ (z : List ℕ). before ++ (prefix_for t required ++ z)) (lines.bytes_are ∙ lines_based (insert_count t) required lines.plans lines.exact)
       ∙ ap (λ (n : ℕ). before ++ (prefix_for t n ++ flat_map (planned_line (base_for n (insert_count t))) lines.plans)) lines.exact;
   ledger = noted ∙ ap (λ (n : ℕ). opened (sent_at stream n lowest) old) lines.exact;
-  allowed = bound_allows stream most bound (needed lines.plans) old t is (omega (arith, lines.exact, lines.few));
+  allowed = bound_allows stream most bound (needed lines.plans) policy old t is (omega (arith, lines.exact, lines.few));
+  counted = bound_counts stream most bound (needed lines.plans) policy old t is (omega (arith, lines.exact, lines.few));
 }
 
 pub ruleset line_steps = (lines_start, lines_fit, place_few)

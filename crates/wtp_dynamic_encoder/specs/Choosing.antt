@@ -32,7 +32,7 @@ is_proposed policy field Never = false
 
 -- what an encoder does that was not told otherwise
 abbrev pub default_policy : Policy
-default_policy = record { largest = 1024; reserved = 512 }
+default_policy = record { largest = 1024; reserved = 512; unacknowledged = 256 }
 
 -- ---- look-ups
 

@@ -1,5 +1,5 @@
 -- What an encoder does to its table (RFC 9204, sections 2.1 and 4.3).
-use Rattle.std.specs.Prelude.{◌≡◌, ◌≢◌, ◌⊎◌, ℕ, ◌+◌, ◌<◌, ◌≤◌, ◌^◌, nat_lt, ◌==◌, if◌then◌else◌, max, min, Bool, true, false, ◌&&◌, List, [], ◌∷◌, ◌++◌, length, map, take, drop, Option, Some, None, Result, Ok, Err, MatchResult}
+use Rattle.std.specs.Prelude.{◌≡◌, ◌≢◌, ◌⊎◌, ℕ, ◌+◌, ◌<◌, ◌≤◌, ◌^◌, nat_lt, nat_le, ◌==◌, if◌then◌else◌, max, min, Bool, true, false, ◌&&◌, List, [], ◌∷◌, ◌++◌, length, map, take, drop, Option, Some, None, Result, Ok, Err, MatchResult}
 use Rattle.std.specs.List.{flat_map}
 use Rattle.wtp_qpack.specs.Field.{Field}
 use Rattle.wtp_dynamic.specs.declared.error.DecoderStreamError.{DecoderStreamError}
@@ -120,11 +120,13 @@ ResizesIf capacity ledger old new before after result =
     ChangesIf (may_resize capacity (encoder_of old ledger)) (Sets capacity) (resized capacity old)
     old new before after result
 
--- Orders were appended to bytes that do to a decoder's table what was done to this one.
+-- Orders were appended to bytes that do to a decoder's table what was done to this one; none if the
+-- table may have no entry (section 3.2.3).
 pub record Ordered (old new : Table) (before after : List ℕ) : Type 0 where
   pub orders : List Order
   pub carries : Carries orders old new
   pub bytes : after ≡ before ++ flat_map written orders
+  pub silent : old.limit ≡ 0 → orders ≡ []
 
 -- ---- a section
 
@@ -205,21 +207,24 @@ abbrev pub section_with : Table → List Plan → List ℕ
 section_with table plans =
     section_of table.limit (needed plans) (base_for (needed plans) (insert_count table)) plans
 
--- below which absolute index a section may refer to entries: any if its stream may be blocked, and
--- otherwise to those that are known to be received (section 2.1.2)
-abbrev pub bound_for : (stream most : ℕ) → Ledger → Table → ℕ
-bound_for stream most ledger table =
-    if may_block most stream ledger then insert_count table else ledger.0
+-- below which absolute index a section may refer to entries: to none if as many sections as may be
+-- are not acknowledged; to any if its stream may be blocked; and otherwise to those that are known
+-- to be received (section 2.1.2)
+abbrev pub bound_for : (stream most : ℕ) → Policy → Ledger → Table → ℕ
+bound_for stream most policy ledger table =
+    if nat_le policy.unacknowledged (length ledger.1) then 0
+    else if may_block most stream ledger then insert_count table else ledger.0
 
 -- A section of a stream was appended to bytes. Its lines are those that are chosen, and are the
 -- fields, by entries that its Required Insert Count covers; it holds no entry below the lowest to
--- which they refer; and it needs more insertions than are known to be received only if its stream may
--- be blocked (section 2.1.2).
+-- which they refer; it needs more insertions than are known to be received only if its stream may be
+-- blocked (section 2.1.2); and it refers to an entry only if fewer sections are not acknowledged than
+-- may be.
 pub record IsSent (stream most : ℕ) (policy : Policy) (proposals : List Proposal) (table : Table)
     (old new : Ledger) (before after : List ℕ) : Type 0 where
   pub plans : List Plan
   pub lowest : ℕ
-  pub chosen : AreChosen table (draining_index policy table) (bound_for stream most old table)
+  pub chosen : AreChosen table (draining_index policy table) (bound_for stream most policy old table)
       proposals plans
   pub are : ArePlans table (needed plans) plans (map field_of proposals)
   pub few : needed plans ≤ insert_count table
@@ -228,6 +233,7 @@ pub record IsSent (stream most : ℕ) (policy : Policy) (proposals : List Propos
   pub bytes : after ≡ before ++ section_with table plans
   pub ledger : new ≡ opened (sent_of stream plans lowest) old
   pub allowed : (needed plans ≤ old.0) ⊎ (may_block most stream old ≡ true)
+  pub counted : (needed plans ≡ 0) ⊎ (length old.1 < policy.unacknowledged)
 
 -- Proposals were encoded: those that are wanted were inserted, with orders on the encoder stream,
 -- and then a section of a stream was appended to other bytes. If allocation failed, no section was.

@@ -4,3 +4,7 @@ pub mod FirstView
 pub mod Lookup
 pub mod Choosing
 pub mod Encoding
+pub mod Hashing
+pub mod Chains
+pub mod Indexed
+pub mod Keys

@@ -10,7 +10,9 @@ ghost use Rattle.wtp_dynamic_encoder.specs.Encoding.{Runs, State, held_count, en
 
 use crate::choice::draining_index;
 use crate::decoder_stream::DecoderStream;
+use crate::indexed::IndexedTable;
 use crate::insertion;
+use crate::key::{Key, keys_of};
 use crate::proposal::{Policy, Proposal};
 use crate::section::{Lines, write_lines};
 use std::alloc::{AllocError, Global};
@@ -19,14 +21,17 @@ use wtp_dynamic::error::DecoderStreamError;
 use wtp_dynamic::ledger::{Ledger, Sent};
 use wtp_dynamic::table::DynamicTable;
 
-/// Returns below which absolute index a section of a stream may refer to entries: to all that were
-/// inserted if the stream may be blocked, and otherwise to those that are known to be received.
-fn bound_of(table: &DynamicTable, ledger: &Ledger, stream: u64, most: u64) -> u64
+/// Returns below which absolute index a section of a stream may refer to entries: to none if as many
+/// sections as may be are not acknowledged; to all that were inserted if the stream may be blocked;
+/// and otherwise to those that are known to be received.
+fn bound_of(policy: Policy, table: &IndexedTable, ledger: &Ledger, stream: u64, most: u64) -> u64
     requires { ledger.now.0 ≤ insert_count table.now }
     ensures within { result ≤ insert_count table.now }
-    ensures value { result ≡ bound_for stream most ledger.now table.now }
+    ensures value { result ≡ bound_for stream most policy ledger.now table.now }
 {
-    if ledger.may_block(stream, most) {
+    if ledger.len() as u64 >= policy.unacknowledged {
+        0
+    } else if ledger.may_block(stream, most) {
         table.insert_count()
     } else {
         ledger.known()
@@ -37,9 +42,8 @@ fn bound_of(table: &DynamicTable, ledger: &Ledger, stream: u64, most: u64) -> u6
 ///
 /// Returns [`AllocError`] if allocation failed; nothing has changed then.
 fn send(
-    alloc: Global,
     stream: u64,
-    table: &DynamicTable,
+    table: &IndexedTable,
     ledger: &mut Ledger,
     lines: &Lines,
     out: &mut Vec<u8>,
@@ -52,7 +56,7 @@ fn send(
         (λ _. (ledger.new ≡ ledger.old) × (out.new.items ≡ out.old.items)) }
 {
     let len = out.len();
-    lines.append(alloc, table, out)?;
+    lines.append(table, out)?;
     if lines.required == 0 {
         return Ok(());
     }
@@ -79,7 +83,7 @@ fn send(
 #[derive(Drop)]
 pub struct QpackEncoder {
     alloc: Global,
-    table: DynamicTable,
+    table: IndexedTable,
     ledger: Ledger,
     decoder: DecoderStream,
     fault: Option<DecoderStreamError>,
@@ -124,7 +128,7 @@ impl QpackEncoder {
     {
         QpackEncoder {
             alloc,
-            table: DynamicTable::new(alloc, limit),
+            table: IndexedTable::new(alloc, limit),
             ledger: Ledger::new(alloc),
             decoder: DecoderStream::new(alloc),
             fault: None,
@@ -151,7 +155,7 @@ impl QpackEncoder {
     pub fn table(&self) -> &DynamicTable
         ensures { result.now ≡ self.now.table }
     {
-        &self.table
+        self.table.table()
     }
 
     /// Returns the Known Received Count: how many entries the decoder is known to have received
@@ -178,8 +182,8 @@ impl QpackEncoder {
     }
 
     /// Sets the capacity of the table, and appends the instruction to the encoder stream (section
-    /// 4.3.1). Returns whether it was set: it is at most the limit, and no entry has to go that may
-    /// not.
+    /// 4.3.1). Returns whether it was set: the limit is not 0 (section 3.2.3), the capacity is at
+    /// most the limit, and no entry has to go that may not.
     ///
     /// Returns [`AllocError`] if it may be set and allocation failed; nothing has changed then.
     #[tactic(auto, using(crate::proofs::Orders::one_step))]
@@ -194,13 +198,7 @@ impl QpackEncoder {
             encoder_stream.new.items }
         ensures same { self.new ≡ record self.old { table = self.new.table } }
     {
-        insertion::set_capacity(
-            self.alloc,
-            &mut self.table,
-            &self.ledger,
-            capacity,
-            encoder_stream,
-        )
+        insertion::set_capacity(&mut self.table, &self.ledger, capacity, encoder_stream)
     }
 
     /// Inserts an entry into the table, and appends the instruction to the encoder stream. Returns
@@ -229,6 +227,7 @@ impl QpackEncoder {
             self.alloc,
             &mut self.table,
             &self.ledger,
+            Key::of(name, value),
             name,
             value,
             encoder_stream,
@@ -245,8 +244,9 @@ impl QpackEncoder {
     /// has the texts. A field that is never indexed is a literal with the bit N (section 7.1.3).
     ///
     /// No line refers to an entry that is draining, or that the decoder may not have received while
-    /// the stream may not be blocked. The Base is the count of insertions, or 0 if no line refers
-    /// to the dynamic table.
+    /// the stream may not be blocked; nor to any entry of the dynamic table while as many sections
+    /// are unacknowledged as the [`Policy`] allows. The Base is the count of insertions, or 0 if no
+    /// line refers to the dynamic table.
     ///
     /// Returns [`AllocError`] if allocation failed. No section is appended then; entries may have
     /// been inserted, and their instructions are in the encoder stream.
@@ -260,28 +260,30 @@ impl QpackEncoder {
         ensures { Encodes stream proposals.now self.old self.new encoder_stream.old.items
             encoder_stream.new.items section.old.items section.new.items result }
     {
+        let keys = keys_of(self.alloc, proposals);
         insertion::insert_all(
             self.alloc,
             self.policy,
             &mut self.table,
             &self.ledger,
             proposals,
+            keys.as_slice(),
             encoder_stream,
         )?;
         let low = draining_index(self.policy, &self.table);
-        let bound = bound_of(&self.table, &self.ledger, stream, self.most);
-        let lines = match write_lines(self.alloc, &self.table, low, bound, proposals) {
+        let bound = bound_of(self.policy, &self.table, &self.ledger, stream, self.most);
+        let lines = match write_lines(
+            self.alloc,
+            &self.table,
+            low,
+            bound,
+            proposals,
+            keys.as_slice(),
+        ) {
             Ok(lines) => lines,
             Err(fault) => return Err(fault),
         };
-        send(
-            self.alloc,
-            stream,
-            &self.table,
-            &mut self.ledger,
-            &lines,
-            section,
-        )
+        send(stream, &self.table, &mut self.ledger, &lines, section)
     }
 
     /// Reads the next piece of the decoder stream: does the instructions that are now complete

@@ -4,18 +4,22 @@
 ghost use Rattle.std.specs.Prelude.{◌≡◌, ◌-◌, ◌<◌, ◌≤◌, MatchOption, MatchResult};
 ghost use Rattle.wtp_dynamic.specs.Table.{entry_size};
 ghost use Rattle.wtp_dynamic.specs.EncoderState.{Owes, may_resize};
+ghost use Rattle.wtp_dynamic_encoder.specs.Choosing.{field_of};
+ghost use Rattle.wtp_dynamic_encoder.specs.Keys.{IsKey, AreKeys};
 ghost use Rattle.wtp_dynamic_encoder.specs.Encoding.{encoder_of, can_insert, InsertsIf, ResizesIf, Offered, AreOffered, IsInserted, StoppedAt, Ordered};
 
 use crate::choice::{are_octets, is_wanted, order_for};
+use crate::indexed::IndexedTable;
+use crate::key::{Key, key_at};
 use crate::plan::{Order, write_order};
 use crate::proposal::{Policy, Proposal};
 use std::alloc::{AllocError, Global};
 use wtp_dynamic::ledger::Ledger;
-use wtp_dynamic::table::{DynamicTable, Entry};
+use wtp_dynamic::table::Entry;
 
 /// Returns how many bytes of the capacity an entry leaves to others, or `None` if it is larger than
 /// the table.
-fn room_beside(table: &DynamicTable, name: &[u8], value: &[u8]) -> Option<u64>
+fn room_beside(table: &IndexedTable, name: &[u8], value: &[u8]) -> Option<u64>
     ensures { let size = entry_size (name.now, value.now) in MatchOption result
         (table.now.capacity < size)
         (λ room. (size ≤ table.now.capacity) × (room ≡ table.now.capacity - size)) }
@@ -26,7 +30,7 @@ fn room_beside(table: &DynamicTable, name: &[u8], value: &[u8]) -> Option<u64>
 
 /// Returns whether an entry may be inserted: it is not larger than the table, and only entries have
 /// to go that are known to be received, and to which no section refers that is not acknowledged.
-fn may_insert(table: &DynamicTable, ledger: &Ledger, name: &[u8], value: &[u8]) -> bool
+fn may_insert(table: &IndexedTable, ledger: &Ledger, name: &[u8], value: &[u8]) -> bool
     ensures { result ≡ can_insert (name.now, value.now) (encoder_of table.now ledger.now) }
 {
     match room_beside(table, name, value) {
@@ -37,25 +41,28 @@ fn may_insert(table: &DynamicTable, ledger: &Ledger, name: &[u8], value: &[u8]) 
     }
 }
 
-/// Returns whether the capacity may be changed: it is within the limit, and only entries have to go
-/// that may go.
-fn may_resize(table: &DynamicTable, ledger: &Ledger, capacity: u64) -> bool
+/// Returns whether the capacity may be changed: the limit is not 0 (section 3.2.3), the capacity is
+/// within it, and only entries have to go that may go.
+fn may_resize(table: &IndexedTable, ledger: &Ledger, capacity: u64) -> bool
     ensures { result ≡ may_resize capacity (encoder_of table.now ledger.now) }
 {
-    capacity <= table.limit() && ledger.may_evict(table.dropped_for(capacity))
+    table.limit() > 0 && capacity <= table.limit() && ledger.may_evict(table.dropped_for(capacity))
 }
 
-/// Inserts an entry if it may be, and appends the order. Returns whether it was inserted.
+/// Inserts an entry, whose key this is, if it may be, and appends the order. Returns whether it was
+/// inserted.
 ///
 /// Returns [`AllocError`] if it may be and allocation failed; nothing has changed then.
 fn insert_if_may(
     alloc: Global,
-    table: &mut DynamicTable,
+    table: &mut IndexedTable,
     ledger: &Ledger,
+    key: Key,
     name: &[u8],
     value: &[u8],
     out: &mut Vec<u8>,
 ) -> Result<bool, AllocError>
+    requires { IsKey key (name.now, value.now) }
     ensures { InsertsIf (name.now, value.now) ledger.now table.old table.new out.old.items
         out.new.items result }
 {
@@ -63,29 +70,29 @@ fn insert_if_may(
         return Ok(false);
     }
     let entry = Entry::new(alloc, name, value)?;
-    let mut bytes = Vec::new(alloc);
-    write_order(&mut bytes, order_for(table, name, value))?;
     let len = out.len();
-    out.extend_from_slice(bytes.as_slice())?;
-    match table.insert(entry) {
-        Ok(()) => Ok(true),
-        Err(_) => {
-            out.truncate(len);
-            Err(AllocError)
-        }
+    match write_order(out, order_for(table, key, name, value)) {
+        Ok(()) => match table.insert(alloc, entry, key.hashes) {
+            Ok(()) => return Ok(true),
+            Err(_) => out.truncate(len),
+        },
+        Err(_) => out.truncate(len),
     }
+    Err(AllocError)
 }
 
 /// The same, and what follows of it: a decoder that does the order has the same table, and no entry
 /// was evicted that may not be.
 pub(crate) fn insert_entry(
     alloc: Global,
-    table: &mut DynamicTable,
+    table: &mut IndexedTable,
     ledger: &Ledger,
+    key: Key,
     name: &[u8],
     value: &[u8],
     out: &mut Vec<u8>,
 ) -> Result<bool, AllocError>
+    requires { IsKey key (name.now, value.now) }
     ensures entry { InsertsIf (name.now, value.now) ledger.now table.old table.new out.old.items
         out.new.items result }
     ensures orders { Ordered table.old table.new out.old.items out.new.items }
@@ -95,15 +102,14 @@ pub(crate) fn insert_entry(
     are_octets(value);
     // An instruction for an entry that fits the limit is not too long.
     let _fits = table.capacity() <= table.limit();
-    insert_if_may(alloc, table, ledger, name, value, out)
+    insert_if_may(alloc, table, ledger, key, name, value, out)
 }
 
 /// Sets the capacity if it may be, and appends the order. Returns whether it was set.
 ///
 /// Returns [`AllocError`] if it may be and allocation failed; nothing has changed then.
 pub(crate) fn set_capacity(
-    alloc: Global,
-    table: &mut DynamicTable,
+    table: &mut IndexedTable,
     ledger: &Ledger,
     capacity: u64,
     out: &mut Vec<u8>,
@@ -114,31 +120,31 @@ pub(crate) fn set_capacity(
     if !may_resize(table, ledger, capacity) {
         return Ok(false);
     }
-    let mut bytes = Vec::new(alloc);
-    write_order(&mut bytes, Order::Sets(capacity))?;
     let len = out.len();
-    out.extend_from_slice(bytes.as_slice())?;
-    match table.set_capacity(capacity) {
-        Ok(()) => Ok(true),
-        Err(_) => {
-            out.truncate(len);
-            Err(AllocError)
-        }
+    match write_order(out, Order::Sets(capacity)) {
+        Ok(()) => match table.set_capacity(capacity) {
+            Ok(()) => return Ok(true),
+            Err(_) => out.truncate(len),
+        },
+        Err(_) => out.truncate(len),
     }
+    Err(AllocError)
 }
 
-/// Inserts the field of a proposal, if it is wanted and may be.
+/// Inserts the field of a proposal, whose key this is, if it is wanted and may be.
 ///
 /// Returns [`AllocError`] if it is inserted and allocation failed; nothing has changed then.
 #[tactic(auto, using(crate::proofs::Orders::one_step))]
 fn insert_proposed(
     alloc: Global,
     policy: Policy,
-    table: &mut DynamicTable,
+    table: &mut IndexedTable,
     ledger: &Ledger,
+    key: Key,
     proposal: Proposal<'_>,
     out: &mut Vec<u8>,
 ) -> Result<(), AllocError>
+    requires { IsKey key (field_of proposal) }
     ensures offered { MatchResult result
         (λ _. Offered policy proposal.entry ledger.now table.old table.new out.old.items
         out.new.items)
@@ -147,27 +153,37 @@ fn insert_proposed(
     ensures orders { Ordered table.old table.new out.old.items out.new.items }
     ensures owes { Owes (encoder_of table.old ledger.now) → Owes (encoder_of table.new ledger.now) }
 {
-    if !is_wanted(policy, table, proposal) {
+    if !is_wanted(policy, table, key, proposal) {
         return Ok(());
     }
-    match insert_entry(alloc, table, ledger, proposal.name, proposal.value, out) {
+    match insert_entry(
+        alloc,
+        table,
+        ledger,
+        key,
+        proposal.name,
+        proposal.value,
+        out,
+    ) {
         Ok(_) => Ok(()),
         Err(fault) => Err(fault),
     }
 }
 
-/// Inserts the fields of proposals that are wanted, one after the other.
+/// Inserts the fields of proposals, whose keys these are, that are wanted, one after the other.
 ///
 /// Returns [`AllocError`] if allocation failed; only those before it were inserted then.
 #[tactic(auto, using(crate::proofs::Orders::more_steps))]
 pub(crate) fn insert_all(
     alloc: Global,
     policy: Policy,
-    table: &mut DynamicTable,
+    table: &mut IndexedTable,
     ledger: &Ledger,
     proposals: &[Proposal<'_>],
+    keys: &[Key],
     out: &mut Vec<u8>,
 ) -> Result<(), AllocError>
+    requires { AreKeys keys.now proposals.now }
     ensures offered { MatchResult result
         (λ _. AreOffered policy proposals.now ledger.now table.old table.new out.old.items
         out.new.items)
@@ -176,8 +192,10 @@ pub(crate) fn insert_all(
     ensures orders { Ordered table.old table.new out.old.items out.new.items }
     ensures owes { Owes (encoder_of table.old ledger.now) → Owes (encoder_of table.new ledger.now) }
 {
-    for proposal in proposals {
-        match insert_proposed(alloc, policy, table, ledger, *proposal, out) {
+    for i in 0..proposals.len() {
+        let proposal = proposals[i];
+        let key = key_at(keys, i, proposal);
+        match insert_proposed(alloc, policy, table, ledger, key, proposal, out) {
             Ok(()) => {}
             Err(fault) => return Err(fault),
         }

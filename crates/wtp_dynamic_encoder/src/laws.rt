@@ -40,10 +40,14 @@ pub fn pieces_of_decoder_streams()
 
 /// What an encoder appends to its stream, a decoder with the same table reads, whatever follows: it
 /// then has the encoder's table.
+///
+/// With a limit of 0 it appends nothing (section 3.2.3).
 pub fn orders_of_encoders()
-    ensures { (old new : Table) (before after rest : List ℕ) → Ordered old new before after
+    ensures read { (old new : Table) (before after rest : List ℕ) → Ordered old new before after
         → (bytes : List ℕ) × (after ≡ before ++ bytes) × (instructions : List Instruction)
         × encoder_stream.Leads instructions old (bytes ++ rest) new rest }
+    ensures silent { (old new : Table) (before after : List ℕ) → Ordered old new before after
+        → old.limit ≡ 0 → after ≡ before }
 {}
 
 /// A section that was sent reads as its fields: at each decoder of the encoder's stream that has

@@ -2,10 +2,14 @@
 //! stream, and reads the decoder stream.
 #![tactic(auto)]
 
+mod chain;
 mod choice;
 pub mod decoder_stream;
 pub mod encoder;
+mod hash;
+mod indexed;
 mod insertion;
+mod key;
 pub mod laws;
 pub mod lookup;
 pub mod plan;

@@ -18,7 +18,8 @@ pub enum Indexing {
     Never,
 }
 
-/// What an encoder inserts by itself, and to which entries it no longer refers.
+/// What an encoder inserts by itself, to which entries it no longer refers, and how many sections it
+/// keeps.
 #[derive(Clone, Copy)]
 pub struct Policy {
     /// The size of the largest entry that is inserted for [`Indexing::ByPolicy`], in bytes by
@@ -28,17 +29,21 @@ pub struct Policy {
     /// that would be evicted for them are draining: no line refers to them, and they are inserted
     /// again when they are needed (section 2.1.1.1).
     pub reserved: u64,
+    /// How many sections that refer to the dynamic table may be unacknowledged. As long as so many
+    /// are, sections refer to no entry of it.
+    pub unacknowledged: u64,
 }
 
 impl Policy {
     /// Returns the policy of an encoder that was not told otherwise: entries of at most 1024 bytes,
-    /// and 512 bytes that are kept available.
+    /// 512 bytes that are kept available, and 256 sections that are not acknowledged.
     pub fn new() -> Self
         ensures { result ≡ default_policy }
     {
         Policy {
             largest: 1024,
             reserved: 512,
+            unacknowledged: 256,
         }
     }
 

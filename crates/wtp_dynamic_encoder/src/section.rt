@@ -6,13 +6,16 @@ ghost use Rattle.wtp_dynamic.specs.Table.{insert_count};
 ghost use Rattle.wtp_dynamic.specs.InsertCount.{most_entries};
 ghost use Rattle.wtp_dynamic_encoder.specs.declared.proposal.Proposal.{Proposal};
 ghost use Rattle.wtp_dynamic_encoder.specs.PlanView.{plan_of};
+ghost use Rattle.wtp_dynamic_encoder.specs.Choosing.{field_of};
+ghost use Rattle.wtp_dynamic_encoder.specs.Keys.{IsKey, AreKeys};
 ghost use Rattle.wtp_dynamic_encoder.specs.Encoding.{place_of, prefix_for, raised, lowered, AreLines};
 
 use crate::choice::choose;
+use crate::indexed::IndexedTable;
+use crate::key::{Key, key_at};
 use crate::plan::{Plan, write_line, write_prefix};
 use crate::proposal::Proposal;
 use std::alloc::{AllocError, Global};
-use wtp_dynamic::table::DynamicTable;
 
 /// The lines of a section, the insertions that they need, and an absolute index below which they
 /// refer to no entry.
@@ -28,26 +31,26 @@ impl Lines {
     /// refers to the table.
     ///
     /// Returns [`AllocError`] if allocation failed; nothing is appended then.
-    pub(crate) fn append(
-        &self,
-        alloc: Global,
-        table: &DynamicTable,
-        out: &mut Vec<u8>,
-    ) -> Result<(), AllocError>
+    pub(crate) fn append(&self, table: &IndexedTable, out: &mut Vec<u8>) -> Result<(), AllocError>
         requires { 0 < self.now.required → 0 < most_entries table.now.limit }
         ensures { let prefix = prefix_for table.now self.now.required in MatchResult result
             (λ _. out.new.items ≡ out.old.items ++ (prefix ++ self.now.bytes.items))
             (λ _. out.new.items ≡ out.old.items) }
     {
-        let mut bytes = Vec::new(alloc);
+        let len = out.len();
         let base = if self.required == 0 {
             0
         } else {
             table.insert_count()
         };
-        write_prefix(&mut bytes, table.limit() / 32, self.required, base)?;
-        bytes.extend_from_slice(self.bytes.as_slice())?;
-        out.extend_from_slice(bytes.as_slice())
+        match write_prefix(out, table.limit() / 32, self.required, base) {
+            Ok(()) => match out.extend_from_slice(self.bytes.as_slice()) {
+                Ok(()) => return Ok(()),
+                Err(_) => out.truncate(len),
+            },
+            Err(_) => out.truncate(len),
+        }
+        Err(AllocError)
     }
 }
 
@@ -78,16 +81,18 @@ fn note(lines: &mut Lines, place: Option<u64>)
     }
 }
 
-/// Appends the line of a field.
+/// Appends the line of a field, whose key this is.
 #[tactic(auto, using(crate::proofs::Sections::lines_push))]
 fn add_line(
     lines: &mut Lines,
-    table: &DynamicTable,
+    table: &IndexedTable,
     low: u64,
     bound: u64,
+    key: Key,
     proposal: Proposal<'_>,
 ) -> Result<(), AllocError>
-    requires { bound ≤ insert_count table.now }
+    requires bound { bound ≤ insert_count table.now }
+    requires key { IsKey key (field_of proposal) }
     ensures { OnOk result ((proposals : List Proposal)
         → AreLines table.now low bound proposals lines.old.bytes.items lines.old.required
         lines.old.lowest
@@ -95,23 +100,25 @@ fn add_line(
         lines.new.required lines.new.lowest) }
 {
     let base = table.insert_count();
-    let plan = choose(table, low, bound, proposal);
+    let plan = choose(table, low, bound, key, proposal);
     write_line(&mut lines.bytes, base, plan)?;
     note(lines, place_of(plan));
     Ok(())
 }
 
-/// Writes the lines of proposals, with the insertions so far as Base, by entries with an absolute
+/// Writes the lines of proposals, whose keys these are, with the insertions so far as Base, by entries with an absolute
 /// index from one on and below a bound.
 #[tactic(auto, using(crate::proofs::Sections::line_steps))]
 pub(crate) fn write_lines(
     alloc: Global,
-    table: &DynamicTable,
+    table: &IndexedTable,
     low: u64,
     bound: u64,
     proposals: &[Proposal<'_>],
+    keys: &[Key],
 ) -> Result<Lines, AllocError>
-    requires { bound ≤ insert_count table.now }
+    requires bound { bound ≤ insert_count table.now }
+    requires keys { AreKeys keys.now proposals.now }
     ensures lines { IfOk result (λ lines. AreLines table.now low bound proposals.now
         lines.bytes.items lines.required lines.lowest) }
     ensures room { IfOk result (λ lines. 0 < lines.required
@@ -124,8 +131,10 @@ pub(crate) fn write_lines(
         required: 0,
         lowest: table.insert_count(),
     };
-    for proposal in proposals {
-        add_line(&mut lines, table, low, bound, *proposal)?;
+    for i in 0..proposals.len() {
+        let proposal = proposals[i];
+        let key = key_at(keys, i, proposal);
+        add_line(&mut lines, table, low, bound, key, proposal)?;
     }
     Ok(lines)
 }

@@ -5,6 +5,7 @@ pub mod MoveLemmas
 pub mod StepLemmas
 pub mod OrderLemmas
 pub mod CutLemmas
+pub mod FaultLemmas
 pub mod PieceLemmas
 pub mod WrittenLemmas
 pub mod GrammarLemmas

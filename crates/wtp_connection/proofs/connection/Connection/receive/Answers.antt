@@ -1,6 +1,7 @@
 use Rattle.std.proofs.Common.{sym, ◌∙◌}
 use Rattle.wtp_connection.proofs.FinishLemmas.{found_open, found_before, found_end, more_within}
 use Rattle.wtp_connection.proofs.ProgressLemmas.{finish_nearer}
+use Rattle.wtp_connection.proofs.KeptLemmas.{finish_kept}
 use Rattle.wtp_connection.proofs.connection.Connection.receive.Goals as goal
 
 pub split_at-requires : goal.split_at-requires
@@ -17,3 +18,9 @@ returns-clause-found c = found_open c.step-found.result c.args.self.now c.args.s
 
 pub returns-in-Some-clause-progress : goal.returns-in-Some-clause-progress
 returns-in-Some-clause-progress c = finish_nearer c.step-found.result c.in-Some.n c.step-found.new.self c.finish.new.self c.step-found.new.stream c.finish.new.stream c.split_at.result.1.now c.args.stream.now c.args.bytes.now c.finish.result (sym c.consumed_by_more.ensures ∙ c.in-Some.is) c.step-found.ensures.progress c.finish.ensures
+
+pub returns-in-Some-clause-settings : goal.returns-in-Some-clause-settings
+returns-in-Some-clause-settings c = (finish_kept c.step-found.result c.in-Some.n c.finish.result c.args.self.now c.step-found.new.self c.finish.new.self c.args.stream.now c.step-found.new.stream c.finish.new.stream c.split_at.result.1.now (sym c.consumed_by_more.ensures ∙ c.in-Some.is) c.step-found.ensures.settings c.finish.ensures).settings
+
+pub returns-in-Some-clause-given : goal.returns-in-Some-clause-given
+returns-in-Some-clause-given c = (finish_kept c.step-found.result c.in-Some.n c.finish.result c.args.self.now c.step-found.new.self c.finish.new.self c.args.stream.now c.step-found.new.stream c.finish.new.stream c.split_at.result.1.now (sym c.consumed_by_more.ensures ∙ c.in-Some.is) c.step-found.ensures.settings c.finish.ensures).given

@@ -1,11 +1,13 @@
-use Rattle.std.proofs.Common.{refl, subst, Err}
+use Rattle.std.proofs.Common.{refl, sym, subst, Err, List}
+use Rattle.wtp_dynamic_encoder.specs.declared.key.Key.{Key}
+use Rattle.wtp_dynamic_encoder.specs.Keys.{AreKeys}
 use Rattle.wtp_dynamic_encoder.specs.Encoding.{State, progress_of, Encodes}
 use Rattle.wtp_dynamic_encoder.proofs.Encoded.{sent_keeps, sent_is, unsent}
 use Rattle.wtp_dynamic_encoder.proofs.encoder.QpackEncoder.encode.Goals as goal
 
 pub invariant_of-self-2 : goal.invariant_of-self-2
 invariant_of-self-2 c =
-    sent_keeps c.send.result c.args.stream c.self.inside.most c.draining_index-low.result c.bound_of-bound.result c.insert_all.new.table _ _ _ _ c.self.inside.ledger c.send.new.ledger _ _
+    sent_keeps c.send.result c.args.stream c.self.inside.most c.self.inside.policy c.draining_index-low.result c.bound_of-bound.result c.insert_all.new.table _ _ _ _ c.self.inside.ledger c.send.new.ledger _ _
     c.send.ensures c.in-Ok.ensures.lines c.bound_of-bound.ensures.within c.bound_of-bound.ensures.value (c.insert_all.ensures.owes c.self.invariant.0, c.self.invariant.1)
 
 pub returns : goal.returns
@@ -46,3 +48,11 @@ returns-in-Err c =
       refl,
       unsent c.self.inside.policy _ c.self.inside.ledger c.self.inside.table c.insert_all.new.table _ _ _ c.in_ok-insert_all.ensures.offered,
     )
+
+pub insert_all-requires : goal.insert_all-requires
+insert_all-requires c =
+    subst (λ (z : List Key). AreKeys z c.args.proposals.now) (sym c.as_slice.ensures.value) c.keys_of-keys.ensures
+
+pub write_lines-requires-clause-keys : goal.write_lines-requires-clause-keys
+write_lines-requires-clause-keys c =
+    subst (λ (z : List Key). AreKeys z c.args.proposals.now) (sym c.as_slice-2.ensures.value) c.keys_of-keys.ensures

@@ -1,0 +1,13 @@
+use Rattle.std.proofs.Common.{◌≡◌, ◌/◌, length, drop}
+use Rattle.wtp_dynamic_encoder.specs.Hashing.{mixed, word_of, hash_words}
+use Rattle.wtp_dynamic_encoder.proofs.hash.hash_text.Given as goal
+
+abbrev pub invariant-loop-word : goal.invariant-loop-word
+invariant-loop-word l =
+    hash_words (length l.rest / 8) l.state l.rest ≡ hash_words (length l.text / 8) (mixed l.seed (length l.text)) l.text
+
+abbrev pub decreases-loop-word : goal.decreases-loop-word
+decreases-loop-word l = length l.rest
+
+abbrev pub invariant-loop-byte : goal.invariant-loop-byte
+invariant-loop-byte l = word_of l.last (drop l.byte-index l.byte-items) ≡ word_of 0 l.byte-items

@@ -1,0 +1,13 @@
+pub mod AlikeLemmas
+pub mod CallLemmas
+pub mod CutLemmas
+pub mod IndependentLemmas
+pub mod OnceLemmas
+pub mod OrderLemmas
+pub mod OverLemmas
+pub mod PlaceLemmas
+pub mod SessionLemmas
+pub mod ScheduleLemmas
+pub mod ShowLemmas
+pub mod TranscriptLemmas
+pub mod WaitLemmas

@@ -1,0 +1,522 @@
+"""Random scripts of whole connections, with messages, sessions, their streams and datagrams, in
+three ways: one stream after the other, the same in pieces, and all in a random order, in pieces.
+
+On each stream each way has to give what tools/session_model.py says of its bytes, and the order of
+all events has to be one that tools/session_events.py allows. Where no error ends the connection the
+first two have to give the same.
+"""
+
+import random
+from dataclasses import dataclass
+
+from connection_model import CONNECT, CRITICAL, DATAGRAM, DEFAULTS, Side, WEBTRANSPORT_ON
+from connection_rows import frame
+from nghttp3_sections import fields_of
+from random_scripts import Maker, is_critical
+from replay import replayed
+from session_events import Sessions, decision_in, difference, is_last, is_start, of_streams
+from session_events import session_events_in
+from session_model import CLOSE, DRAIN, Surroundings, session_events
+from session_rows import CONNECT as TUNNEL
+from session_rows import GET, SESSION, capsule, line, prefixed
+
+# How many scripts a run of the program reads.
+BATCH = 500
+INCOMPLETE, CLOSED_CRITICAL, STREAM_CREATION = 0x10D, 0x104, 0x103
+# Entries of the static table (RFC 9204, appendix A).
+STATIC = {
+    **{(b":authority", b""): 0, (b":path", b"/"): 1, (b":method", b"CONNECT"): 15},
+    **{(b":method", b"GET"): 17, (b":method", b"HEAD"): 18, (b":method", b"POST"): 20},
+    **{(b":scheme", b"https"): 23, (b":status", b"103"): 24, (b":status", b"200"): 25},
+    **{(b":status", b"304"): 26, (b":status", b"404"): 27, (b":status", b"503"): 28},
+}
+EXTRA = [
+    (b"x", b"y"), (b"cookie", b"a=b"), (b"x-latin", b"\xe9"), (b"x", b""), (b"te", b"trailers")
+]
+# What makes a message malformed.
+WRONG = [
+    *(
+        (b"X", b"y"),
+        (b"", b"y"),
+        (b"x", b"a\nb"),
+        (b"x", b" a"),
+        (b"connection", b"x"),
+        (b"te", b"gzip"),
+    ),
+    *(
+        (b":x", b"y"),
+        (b":path", b"/"),
+        (b":status", b"200"),
+        (b"content-length", b"x"),
+        (b"host", b"b"),
+    ),
+]
+REQUESTS = {
+    "get": GET,
+    "post": [(b":method", b"POST"), *GET[1:]],
+    "head": [(b":method", b"HEAD"), *GET[1:]],
+    "connect": TUNNEL,
+    "session": SESSION,
+    "other": [*SESSION[:-1], (b":protocol", b"connect-udp")],
+}
+ASKED = {"": "get", "head": "head", "connect": "connect", "session": "session"}
+STATUSES = [b"200", b"200", b"200", b"204", b"304", b"404", b"503", b"999", b"299"]
+LEFT_OVER = "left"
+
+
+class SessionMaker(Maker):
+    """Makes the bytes of streams with messages and sessions, of half of the connections without
+    errors."""
+
+    def __init__(self, rng, side):
+        super().__init__(rng, side)
+        self.sessions = []
+
+    def session(self):
+        """Returns the ID of a session of the connection, or another one."""
+        if not self.sessions or self.has_errors and self.rng.random() < 0.1:
+            return self.rng.choice((0, 4, 8, 3600))
+        return self.rng.choice(self.sessions)
+
+    def encoded(self, fields):
+        """Returns an encoded section, whose lines are written in one of several ways."""
+        lines = [b"\0", b"\0" if self.rng.random() < 0.9 else b"\5"]
+        for name, value in fields:
+            place = STATIC.get((name, value))
+            if place is not None and self.rng.random() < 0.7:
+                lines.append(bytes([0xC0 | place]))
+            elif name == b":authority" and self.rng.random() < 0.5:
+                lines.append(b"\x50" + prefixed(0, 7, len(value)) + value)
+            else:
+                lines.append(line(name, value))
+        if self.has_errors and self.rng.random() < 0.02:
+            lines[0] = self.rng.choice((b"\1", b"\2", b""))
+        return b"".join(lines)
+
+    def fields(self, fields):
+        """Returns a section with more fields, of which one is sometimes wrong."""
+        rng, fields = self.rng, list(fields)
+        fields += rng.sample(EXTRA[:-1], rng.choice((0, 0, 1, 2)))
+        if self.has_errors and rng.random() < 0.08:
+            fields.insert(rng.randrange(len(fields) + 1), rng.choice(WRONG))
+        if self.has_errors and rng.random() < 0.04 and fields:
+            fields.pop(rng.randrange(len(fields)))
+        return self.frame(0x01, self.encoded(fields))
+
+    def request(self, kind):
+        """Returns a request of this kind."""
+        fields, pieces = REQUESTS[kind], self.pieces()
+        if kind in ("session", "connect", "other"):
+            content = self.capsules() if kind == "session" else pieces
+            return self.spoilt([self.fields(fields), *self.mixed(content)])
+        return self.spoilt([*self.mixed([]), *self.with_content(fields, pieces), *self.trailers()])
+
+    def response(self, asked):
+        """Returns the response to a request for this."""
+        rng, frames = self.rng, []
+        for _ in range(rng.choice((0, 0, 0, 1, 2))):
+            frames.append(self.fields([(b":status", rng.choice((b"103", b"100", b"199")))]))
+        status = rng.choice(STATUSES)
+        if asked in ("session", "connect") and rng.random() < 0.7:
+            status = b"200"
+        fields, is_accepted = [(b":status", status)], status[:1] == b"2"
+        if asked in ("session", "connect") and is_accepted:
+            content = self.capsules() if asked == "session" else self.pieces()
+            return self.spoilt([*frames, self.fields(fields), *self.mixed(content)])
+        pieces = [] if asked == "head" or status in (b"204", b"304") else self.pieces()
+        if self.has_errors and rng.random() < 0.1:
+            pieces = self.pieces()
+        return self.spoilt([*frames, *self.with_content(fields, pieces), *self.trailers()])
+
+    def pieces(self):
+        """Returns DATA frames."""
+        return [self.frame(0x00, self.bytes(20)) for _ in range(self.rng.randrange(4))]
+
+    def with_content(self, fields, pieces):
+        """Returns a section and DATA frames, whose length it sometimes announces."""
+        rng = self.rng
+        if rng.random() < 0.4:
+            size = sum(len(piece) - piece_start(piece) for piece in pieces)
+            if self.has_errors and rng.random() < 0.3:
+                size = max(0, size + rng.choice((-1, 1, 5)))
+            fields = [*fields, (b"content-length", str(size).encode())]
+        return [self.fields(fields), *self.mixed(pieces)]
+
+    def trailers(self):
+        return [self.fields([(b"x-sum", b"1")])] if self.rng.random() < 0.3 else []
+
+    def mixed(self, frames):
+        """Returns frames with unknown ones between them."""
+        found = []
+        for one in [*frames, None]:
+            found += [self.unknown() for _ in range(self.rng.choice((0, 0, 0, 1)))]
+            found += [one] if one is not None else []
+        return found
+
+    def capsules(self):
+        """Returns DATA frames with capsules, cut anywhere, of which the last one may be a close."""
+        rng, content = self.rng, b""
+        for _ in range(rng.choice((0, 0, 1, 2))):
+            kind = rng.choice((0x17, 0x4242, 0x190B4D3D, DRAIN, 0x00))
+            content += capsule(kind, b"" if kind == DRAIN else self.bytes(12))
+        if rng.random() < 0.5:
+            reason = rng.choice((b"", b"bye", "\xe9".encode()))
+            if self.has_errors and rng.random() < 0.2:
+                reason = rng.choice((b"\xff", b"x" * 1025))
+            content += capsule(CLOSE, rng.randbytes(4) + reason)
+        if self.has_errors and rng.random() < 0.2:
+            content += rng.choice(
+                (b"x", b"\x68", capsule(CLOSE, b"abc"), capsule(DRAIN, b"x"), b"\x17\5ab")
+            )
+        places = sorted(rng.randrange(len(content) + 1) for _ in range(rng.choice((0, 1, 3))))
+        starts, ends = [0, *places], [*places, len(content)]
+        return [self.frame(0x00, content[start:end]) for start, end in zip(starts, ends)]
+
+
+def waits_after(events, wanted):
+    """Returns whether a stream may have only these events of those that are wanted: what comes next
+    waits for settings, an answer or a session."""
+    if not is_start(events, wanted) or len(events) == len(wanted):
+        return events == wanted
+    comes = wanted[len(events)]
+    asks = comes[0] in ("asked", "request") and (b":protocol", b"webtransport") in comes[1]
+    return asks or comes[0] == "answered" or bool(events) and events[-1][0] == "joins"
+
+
+def piece_start(piece):
+    """Returns the offset of the payload of a frame."""
+    first = 1 << (piece[0] >> 6)
+    return first + (1 << (piece[first] >> 6))
+
+
+@dataclass
+class Stream:
+    """A stream of a script: its ID, its bytes, whether it ends after them, who opened it and what
+    it asked for, and whether it is reset or abandoned at last."""
+
+    stream: int
+    content: bytes
+    fin: bool
+    opened: str = None
+    asked: str = None
+    session: int = None
+    left_by: str = ""
+
+    def lines(self, ends):
+        """Returns the lines of its pieces, which end at these offsets, and of its end."""
+        digits, lines, start = self.content.hex(), [], 0
+        for end in ends:
+            lines.append(f"bytes {self.stream} {digits[2 * start : 2 * end]}\n")
+            start = end
+        if self.fin and lines:
+            lines[-1] = "end" + lines[-1][5:]
+        elif self.fin:
+            lines.append(f"end {self.stream}\n")
+        if self.left_by:
+            lines = lines or [f"bytes {self.stream}\n"]
+            lines.append(f"{self.left_by} {self.stream}\n")
+        return lines
+
+    def first_line(self):
+        if self.opened == "request":
+            return f"request {self.stream} {self.asked}".rstrip() + "\n"
+        return f"session {self.stream} {self.session}\n" if self.opened else ""
+
+
+class SessionScript:
+    """A connection, its streams, the answers to its requests, and its datagrams."""
+
+    def __init__(self, seed):
+        self.rng = rng = random.Random(seed)
+        self.side = Side(rng.random() < 0.6, rng.random() < 0.9)
+        self.maker, self.streams, self.counts = SessionMaker(rng, self.side), [], {}
+        if rng.random() < 0.9 and self.side.webtransport:
+            self.add_control()
+        # (requests first, so that there are sessions for the other streams)
+        for draw in sorted((rng.random() for _ in range(rng.randrange(1, 9))), reverse=True):
+            self.add(draw)
+        rng.shuffle(self.streams)
+        requests = [s.stream for s in self.streams if s.stream % 4 == 0]
+        chosen = [one for one in requests if rng.random() < 0.8] if self.side.is_server else []
+        self.answers = {one: rng.choice((200, 200, 200, 299, 404, 503)) for one in chosen}
+        self.datagrams = [self.datagram() for _ in range(rng.choice((0, 0, 1, 3)))]
+        self.asked = {s.stream: s.asked for s in self.streams if s.opened == "request"}
+        self.twins = self.find_twins()
+
+    def datagram(self):
+        rng = self.rng
+        if self.maker.has_errors and rng.random() < 0.1:
+            return rng.choice((b"", b"\x40", b"\xd0" + bytes(7)))
+        return self.maker.number(self.maker.session() // 4) + self.maker.bytes(9)
+
+    def next_id(self, first):
+        self.counts[first] = self.counts.get(first, 0) + 1
+        return first + 4 * (self.counts[first] - 1)
+
+    def add_control(self):
+        """Adds a control stream that allows sessions."""
+        pairs = [(DATAGRAM, 1), (WEBTRANSPORT_ON, 1), (CONNECT, 1)]
+        payload = b"".join(
+            self.maker.number(name) + self.maker.number(value)
+            for name, value in pairs
+        )
+        content = b"\0" + frame(0x04, payload)
+        self.maker.types = [kind for kind in self.maker.types if kind]
+        self.streams.append(Stream(self.next_id(2 if self.side.is_server else 3), content, False))
+
+    def add(self, draw):
+        """Adds a stream of the kind that a number says."""
+        rng, maker, side = self.rng, self.maker, self.side
+        of_peer = 0 if side.is_server else 1
+        if draw < 0.3:
+            stream = Stream(self.next_id(2 + of_peer), maker.unidirectional(), False)
+        elif draw < 0.42:
+            stream = Stream(self.next_id(of_peer), maker.session_stream(), False)
+        elif draw < 0.47:
+            stream = Stream(
+                self.next_id(1 - of_peer), maker.bytes(30), False, "session", session=12
+            )
+        elif side.is_server:
+            kind = rng.choice(
+                ("get", "post", "head", "connect", "session", "session", "session", "other")
+            )
+            stream = Stream(self.next_id(0), maker.request(kind), False)
+            maker.sessions += [stream.stream] * (kind == "session")
+        else:
+            asked = rng.choice(("", "head", "connect", "session", "session", "session"))
+            stream = Stream(self.next_id(0), maker.response(asked), False, "request", asked)
+            maker.sessions += [stream.stream] * (asked == "session")
+        critical = is_critical(stream.stream, stream.content) if stream.content else False
+        stream.fin = rng.random() < 0.6 and (maker.has_errors or not critical)
+        if not stream.fin and rng.random() < 0.2:
+            stream.left_by = rng.choice(("reset", "abandon"))
+            if stream.left_by == "reset" and critical and not maker.has_errors:
+                stream.left_by = ""
+        self.streams.append(stream)
+
+    # ---- its three ways
+
+    def head(self):
+        side = "server" if self.side.is_server else "client"
+        enabled = " webtransport" if self.side.webtransport else " connect"
+        return f"{side}{enabled}\n" + "".join(stream.first_line() for stream in self.streams)
+
+    def cuts(self, stream):
+        """Returns the offsets at which the pieces of a stream end."""
+        size = len(stream.content)
+        if not size:
+            return []
+        if self.rng.random() < 0.2:
+            return list(range(1, size + 1))
+        places = {self.rng.randrange(1, size + 1) for _ in range(self.rng.randrange(6))}
+        return sorted({*places, size})
+
+    def text(self):
+        """Returns the script of the three ways."""
+        rng = self.rng
+        whole = [s.lines([len(s.content)] if s.content else []) for s in self.streams]
+        cut = [stream.lines(self.cuts(stream)) for stream in self.streams]
+        others = [[f"answer {stream} {status}\n"] for stream, status in self.answers.items()]
+        others.append([f"datagram {content.hex()}\n" for content in self.datagrams])
+        order = list(range(len(cut) + len(others)))
+        rng.shuffle(order)
+        head, ways = self.head(), []
+        for parts in (whole, cut):
+            lists = [*parts, *others]
+            ways.append(head + "".join("".join(lists[index]) for index in order))
+        parts = [*cut, *others]
+        turns = [index for index, lines in enumerate(parts) for _ in lines]
+        rng.shuffle(turns)
+        left = [iter(lines) for lines in parts]
+        ways.append(head + "".join([next(left[index]) for index in turns]))
+        return "".join(ways)
+
+    # ---- what they have to give
+
+    def fault(self, ways):
+        """Returns what is wrong with the events of the three ways."""
+        for found in ways:
+            if fault := self.difference(found):
+                return fault
+        whole, cut, _ = ways
+        if any(is_last(event) for _, event in (*whole, *cut) if event[0] == "fault"):
+            return None
+        shown, other = of_streams(whole), of_streams(cut)
+        for stream in {*shown, *other}:
+            if shown.get(stream) != other.get(stream):
+                return f"stream {stream}: whole {shown.get(stream)}, cut {other.get(stream)}"
+        return None
+
+    def difference(self, found):
+        """Returns what is wrong with the events of one way."""
+        shown = of_streams(found)
+        ends = [one for one in found if one[0] is None and one[1][1] == "fault"]
+        if ends and ends[0][1][1:] != ("fault", str(0x33), "connection"):
+            return f"a datagram gives {ends}"
+        found_until = found[: found.index(ends[0])] if ends else found
+        wanted = {s.stream: self.wanted_of(s, found, shown.get(s.stream, [])) for s in self.streams}
+        for stream in self.twins:
+            if shown.get(stream, [])[:1] == [("fault", STREAM_CREATION, "connection")]:
+                wanted[stream] = shown[stream]
+        may_end = ends or self.has_wrong_datagram()
+        if not may_end and self.twins and not any(is_last(e) for _, e in found if e[0] == "fault"):
+            return "two streams of which there may be one"
+        if may_end or any(is_last(e) for _, e in found if e[0] == "fault"):
+            fault = self.starts_fault(found, ends, shown, wanted)
+        else:
+            fault = difference(found, wanted)
+        known = Sessions(self.side.is_server, self.asked)
+        return fault or known.fault(found_until) or self.datagram_fault(found)
+
+    def starts_fault(self, found, ends, shown, wanted):
+        """Returns what is wrong with the events of a connection that an error ends."""
+        place = next((n for n, (_, e) in enumerate(found) if e[0] == "fault" and is_last(e)), None)
+        if ends:
+            place = found.index(ends[0])
+        if place is None:
+            return f"no error of a connection, where a datagram has one: {self.datagrams}"
+        after = [
+            one
+            for one in found[place + 1 :] if one[1][0] != LEFT_OVER and one[1] != (
+                "datagram", "drop"
+            )
+        ]
+        after = [one for one in after if one[1] != ("abandoned",)]
+        if after:
+            return f"{after} after the error of the connection"
+        for stream, events in shown.items():
+            events = [event for event in events if event[0] not in (LEFT_OVER, "abandoned")]
+            events_wanted = [
+                event
+                for event in wanted.get(stream, []) if event[0] not in (LEFT_OVER, "abandoned")
+            ]
+            if not is_start(events, events_wanted):
+                return f"stream {stream}: wanted a start of {events_wanted}, found {events}"
+        return None
+
+    def has_wrong_datagram(self):
+        wrong = any(
+            not content or content == b"\x40" or content[0] == 0xD0
+            for content in self.datagrams
+        )
+        return wrong and self.side.webtransport
+
+    def wanted_of(self, stream, found, events):
+        """Returns the events of a stream, where these were found of it and of all streams."""
+        settings = next((event[2] for _, event in found if event[0] == "settings"), None)
+        around = Surroundings(settings is not None, self.allows(settings), answers=self.answers)
+        around.fields_of = fields_of
+        decision = decision_in(events)
+        joined = next((event[1] for event in events if event[0] == "joins"), None)
+        around.states = {joined: decision} if joined is not None else {}
+        wanted, purpose = session_events(
+            *(self.side, stream.stream, stream.content, stream.fin, around),
+            *(stream.opened, stream.asked),
+        )
+        return self.with_leave(stream, wanted, purpose, events) if stream.left_by else wanted
+
+    def allows(self, settings):
+        """Returns whether the settings of the peer allow sessions."""
+        if settings is None or not self.side.webtransport:
+            return False
+        values = dict(zip(DEFAULTS, settings))
+        is_on = any(values[name] != "0" for name in (WEBTRANSPORT_ON, 0xC671706A, 0x14E9CD29))
+        return is_on and values[DATAGRAM] == "1" and (self.side.is_server or values[CONNECT] == "1")
+
+    def with_leave(self, stream, wanted, purpose, events):
+        """Returns the events of a stream that is reset or abandoned: when it is not known what it
+        waits for, it may have only a start of its events."""
+        is_reset, is_critical_stream = stream.left_by == "reset", purpose in CRITICAL
+        if not is_reset and is_critical_stream:
+            place = next(
+                (n for n, event in enumerate(events) if event == ("abandoned",)), len(wanted)
+            )
+            return [*wanted[:place], ("abandoned",), *wanted[place:]]
+        kept = [event for event in wanted if event[0] != LEFT_OVER]
+        place = self.place_of_leave(events, is_reset)
+        if place is not None and waits_after(events[:place], kept):
+            kept = events[:place]
+        elif any(is_last(event) for event in wanted if event[0] == "fault"):
+            return wanted
+        return [*kept, *self.leave_events(stream, kept, is_reset, is_critical_stream)]
+
+    def place_of_leave(self, events, is_reset):
+        """Returns the place of the event of a reset or of the end of reading, or None."""
+        for place, event in enumerate(events):
+            is_lost = event[0] == "lost" and place and events[place - 1][0] != "fault"
+            if event[0] == "reset" or is_lost if is_reset else event[0] == "abandoned":
+                return place
+        return None
+
+    def leave_events(self, stream, events, is_reset, is_critical_stream):
+        """Returns the last events of a stream, after these."""
+        held = False
+        for event in events:
+            is_accepted = event[0] == "answered" and event[1] < 300 and any(
+                e[0] == "asked"
+                for e in events
+            )
+            held = (
+                held or is_accepted or event[0] == "ready"
+            ) and event[0] not in ("closed", "lost")
+        if not is_reset:
+            return [("abandoned",), ("lost",)] if held else [("abandoned",)]
+        if is_critical_stream:
+            return [("fault", CLOSED_CRITICAL, "connection")]
+        if held:
+            return [("lost",)]
+        is_request = self.side.is_server and stream.stream % 4 == 0 and not stream.opened
+        joins = any(event[0] == "joins" for event in events)
+        is_incomplete = is_request and not joins and not self.has_headers(stream)
+        return [("reset", INCOMPLETE if is_incomplete else None)]
+
+    def has_headers(self, stream):
+        """Returns whether HEADERS of a request came, or an error before them."""
+        around = Surroundings(True, True)
+        around.fields_of = fields_of
+        events, _ = session_events(self.side, stream.stream, stream.content, False, around)
+        names = ("request", "asked", "malformed", "large", "fault", "joins")
+        return any(event[0] in names for event in events)
+
+    def datagram_fault(self, found):
+        """Returns what is wrong with the payloads of datagrams."""
+        shown = [event for stream, event in found if stream is None]
+        if len(shown) != len(self.datagrams):
+            return f"{len(shown)} of {len(self.datagrams)} datagrams"
+        for event, content in zip(shown, self.datagrams):
+            if len(event) == 4 and event[1] != "fault" and not content.hex().endswith(
+                event[3].strip("-")
+            ):
+                return f"{event} of the datagram {content}"
+        return None
+
+    def find_twins(self):
+        """Returns the streams of which a connection may have only one, and has more."""
+        around = Surroundings()
+        around.fields_of = fields_of
+        purposes = {}
+        for one in self.streams:
+            if one.stream % 4 >= 2:
+                _, purpose = session_events(self.side, one.stream, one.content, one.fin, around)
+                purposes.setdefault(purpose, []).append(one.stream)
+        return [s for kind in CRITICAL for s in purposes.get(kind, []) if len(purposes[kind]) > 1]
+
+
+class SessionBatch:
+    """Some scripts."""
+
+    def __init__(self, seed, first, count):
+        names = [f"sessions {seed} {n}" for n in range(first, first + count)]
+        self.scripts = [(name, SessionScript(name)) for name in names]
+
+    def fault(self, program):
+        """Returns what is wrong with the first script that does not give what it has to."""
+        texts = [script.text() for _, script in self.scripts]
+        found = replayed(program, "".join(["sessions\n", *texts]))
+        if len(found) != 3 * len(texts):
+            return f"{len(found)} connections, where {3 * len(texts)} were wanted"
+        for index, (seed, script) in enumerate(self.scripts):
+            ways = [session_events_in(lines) for lines in found[3 * index : 3 * index + 3]]
+            if fault := script.fault(ways):
+                return f"the script of seed {seed!r}: {fault}\n{texts[index]}"
+        return None
