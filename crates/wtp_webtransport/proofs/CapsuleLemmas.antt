@@ -1,7 +1,7 @@
 -- Capsules are read as they come.
-use Rattle.std.proofs.Common.{◌≡◌, ℕ, ◌≤◌, ◌-◌, List, [], ◌∷◌, ◌++◌, length, take, drop, Option, Some, None, Ok, Err, refl, sym, ap, ◌∙◌, arith, append_assoc, length-append}
+use Rattle.std.proofs.Common.{◌≡◌, ℕ, ◌≤◌, ◌+◌, ◌-◌, List, [], ◌∷◌, ◌++◌, length, take, drop, Option, Some, None, Ok, Err, refl, sym, ap, ◌∙◌, arith, append_assoc, length-append}
 use Rattle.std.proofs.lemmas.List.{take-append-drop, take-append-le}
-use Rattle.std.proofs.Math.Seq.{take-append_seam}
+use Rattle.std.proofs.Math.Seq.{take-append_seam, drop-append_seam, drop-append-add}
 use Rattle.wtp_core.specs.Varint.{number_at}
 use Rattle.wtp_wire.specs.Settings.{pair_at}
 use Rattle.wtp_wire.specs.declared.capsule.CapsuleError.TheVariants as capsule_error
@@ -31,6 +31,19 @@ last_byte h b n v (x ∷ rest) none e =
     let whole : h ≡ p.s ++ drop (length p.s) h = sym (take-append-drop (length p.s) h) ∙ ap (λ (l : List ℕ). l ++ drop (length p.s) h) (sym front) in
     absurd (not_none ((n, v), drop (length p.s) h) (pair_at h) none (ap pair_at whole ∙ pair_at-encoded n v p.s (drop (length p.s) h) p.encoded))
 
+-- the end of bytes that follow others is the end of them all
+tail_of : (h a g b : List ℕ)
+    → g ++ b ≡ h ++ a
+    → length b ≤ length a
+    → b ≡ drop (length a - length b) a
+tail_of h a g b e l =
+    let front : length g ≡ length h + (length a - length b) =
+    omega (arith, ap length e, length-append g b, length-append h a, l) in
+    sym (drop-append_seam g b)
+    ∙ ap (drop (length g)) e
+    ∙ ap (λ (n : ℕ). drop n (h ++ a)) front
+    ∙ drop-append-add h a (length a - length b)
+
 -- ---- one call
 
 pub value_given : (r : Found) (k : CapsuleType) (v : List ℕ) (n : ℕ) (a : List ℕ) (q : Place) (b : List ℕ)
@@ -40,6 +53,7 @@ value_given (Err capsule_error.Memory) k v n a q b (p, e) = record {
   held = tt;
   same = λ more. rw (p, e) refl;
   fewer = omega (arith, ap length e);
+  last = tail_of [] a [] b e (omega (arith, ap length e));
 }
 value_given (Err capsule_error.TooLong) k v n a q b g = g
 value_given (Ok x) k v n a q b g = g
@@ -67,6 +81,7 @@ head_lacks h a g b e l = record {
   held = tt;
   same = λ more. ap head_taken (sym (append_assoc g b more) ∙ ap (λ (x : List ℕ). x ++ more) e ∙ append_assoc h a more);
   fewer = l;
+  last = tail_of h a g b e l;
 }
 
 pub start_given : (r : Found) (h a mid : List ℕ) (id n : ℕ) (q : Place) (b : List ℕ)
@@ -84,6 +99,10 @@ start_given (Err capsule_error.Memory) h a mid id n q b e l (k, is, p, f) = reco
       ∙ ap (λ (x : Sort). starts x n (mid ++ more)) is in
       rw (p, f) (sym right);
   fewer = omega (arith, ap length f, l);
+  last =
+      let p = pair_at-begins (h ++ a) mid id n e in
+      let end : mid ≡ drop (length a - length mid) a = tail_of h a p.s mid (sym p.parts) l in
+      f ∙ end ∙ ap (λ (x : List ℕ). drop (length a - length x) a) (sym f);
 }
 start_given (Err capsule_error.TooLong) h a mid id n q b e l g =
     g ∙ sym (ap (λ (o : Option ((ℕ × ℕ) × List ℕ)). head_by (h ++ a) o) e)

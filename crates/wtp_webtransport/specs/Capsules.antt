@@ -98,12 +98,13 @@ abbrev pub IsHeld : Place → Type 0
 IsHeld (Skipping n) = ⊥
 IsHeld other = Unit {0}
 
--- Allocation failed, for a type, a length or a value: whatever follows, the bytes that are left give
--- from the new place on what all gave from the old one.
+-- Allocation failed, for a type, a length or a value: the bytes that are left are the last of all, and
+-- whatever follows, they give from the new place on what all gave from the old one.
 pub record LacksMemory (old : Place) (a : List ℕ) (new : Place) (b : List ℕ) : Type 0 where
   pub held : IsHeld old
   pub same : (more : List ℕ) → taken_of new (b ++ more) ≡ taken_of old (a ++ more)
   pub fewer : length b ≤ length a
+  pub last : b ≡ drop (length a - length b) a
 
 abbrev pub CapsuleIs : Found → Place → List ℕ → Place → List ℕ → Type 0
 CapsuleIs (Err capsule_error.Memory) old a new b = LacksMemory old a new b
