@@ -14,8 +14,8 @@ from connection_rows import frame
 from nghttp3_sections import fields_of
 from random_scripts import Maker, is_critical
 from replay import replayed
-from session_events import Sessions, decision_in, difference, is_last, is_start, of_streams
-from session_events import session_events_in
+from session_events import Sessions, decision_in, difference, is_done, is_last, is_start
+from session_events import of_streams, session_events_in
 from session_model import CLOSE, DRAIN, Surroundings, session_events
 from session_rows import CONNECT as TUNNEL
 from session_rows import GET, SESSION, capsule, line, prefixed
@@ -465,6 +465,8 @@ class SessionScript:
             return [("fault", CLOSED_CRITICAL, "connection")]
         if held:
             return [("lost",)]
+        if is_done(events):
+            return []
         is_request = self.side.is_server and stream.stream % 4 == 0 and not stream.opened
         joins = any(event[0] == "joins" for event in events)
         is_incomplete = is_request and not joins and not self.has_headers(stream)

@@ -3,7 +3,7 @@ and the streams and datagrams in random orders, cut into pieces."""
 
 from connection_model import Side
 from recorded_connections import REQUEST, SESSION, Connection
-from session_events import Sessions, decision_in, difference, is_last, of_streams
+from session_events import Sessions, decision_in, difference, is_done, is_last, of_streams
 from session_model import Surroundings, session_events
 
 # Settings, as the index names them.
@@ -167,7 +167,7 @@ class RecordedSessions:
 def with_reset(events):
     """Returns the events of a stream that is reset at last."""
     events = [event for event in events if event[0] != "left"]
-    if any(is_last(event) for event in events):
+    if is_done(events):
         return events
     is_open = has_session(events) and not any(event[0] in ("closed", "lost") for event in events)
     return [*events, ("lost",) if is_open else ("reset", None)]

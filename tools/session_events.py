@@ -12,6 +12,8 @@ GONE, REJECTED, NO_SESSION = 0x170D7B68, 0x3994BD84, 0x108
 MAX_WAITING = 16
 # The last events of streams.
 OVER = ("malformed", "end", "reset", "abandoned", "fault")
+# Those of the header sections of final messages.
+HEADS = ("request", "asked", "response", "ready", "rejected")
 # What is to be done with a datagram, by what is known of its session.
 DATAGRAM_FOR = {"open": "deliver", "coming": "early", "other": "end"}
 
@@ -87,6 +89,14 @@ def of_streams(found):
 def is_last(event):
     """Returns whether an event is an error that ends the connection."""
     return event[0] == "fault" and event[2] == "connection"
+
+
+def is_done(events):
+    """Returns whether a stream gives nothing more after these events: no reset is told then."""
+    return any(
+        event[0] in OVER or event[0] == "large" and not any(e[0] in HEADS for e in events[:place])
+        for place, event in enumerate(events)
+    )
 
 
 def decision_in(events):

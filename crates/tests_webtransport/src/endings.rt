@@ -29,8 +29,8 @@ fn assert_over<R: Abort>(
     let late = connection.receive(stream, b"\x00\x01a".as_slice(), true, fields);
     let is_over = matches!(late.event, Event::More) && late.consumed == 3;
     assert!(rt; is_over, "nothing comes after it");
-    let again = matches!(connection.reset(stream), Event::SessionLost);
-    assert!(rt; !again, "the session is lost once");
+    let again = matches!(connection.reset(stream), Event::More);
+    assert!(rt; again, "nothing is said of it again");
 }
 
 #[test]

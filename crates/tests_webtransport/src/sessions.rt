@@ -365,8 +365,8 @@ fn a_session_is_known_from_its_request_to_its_end(rt: HostRuntime) {
     let lost = matches!(connection.reset(&mut stream), Event::SessionLost);
     assert!(rt; lost, "a reset ends the session");
     assert_known(&rt, &connection, &stream, "over");
-    let again = matches!(connection.reset(&mut stream), Event::SessionLost);
-    assert!(rt; !again, "the session is lost once");
+    let again = matches!(connection.reset(&mut stream), Event::More);
+    assert!(rt; again, "the session is lost once");
 }
 
 #[test]
@@ -384,6 +384,9 @@ fn streams_of_a_session_join_it(rt: HostRuntime) {
         Event::Waits(Waits::Session(0))
     );
     assert!(rt; waits, "its session is to come");
+    let held = connection.receive(&mut stream, &bytes[3..], true, &mut fields);
+    let is_held = matches!(held.event, Event::Waits(Waits::Session(0))) && held.consumed == 0;
+    assert!(rt; is_held, "its bytes wait");
     let joined = matches!(connection.join(&mut stream, Known::Open), Event::Joined(0));
     assert!(rt; joined, "its session is open");
     let data = connection.receive(&mut stream, &bytes[3..], true, &mut fields);
@@ -391,13 +394,33 @@ fn streams_of_a_session_join_it(rt: HostRuntime) {
     assert!(rt; is_data, "its bytes follow");
     let end = connection.receive(&mut stream, &[], true, &mut fields);
     assert!(rt; matches!(end.event, Event::End), "its end follows");
+}
+
+#[test]
+fn a_stream_of_a_session_that_is_gone_is_refused(rt: HostRuntime) {
+    let mut connection = server(true);
+    let mut fields = Fields::new(rt.alloc(), 1000);
     let mut late = connection.accept(8);
+    let bytes = [0x40, 0x41, 0x00, 0x61, 0x62];
     connection.receive(&mut late, bytes.as_slice(), false, &mut fields);
     let gone = match connection.join(&mut late, Known::Over) {
         Event::StreamError(fault) => fault.code().number().into_inner(),
         _ => 0,
     };
     assert!(rt; gone == 0x170d_7b68, "the session is gone");
+    let reset = matches!(connection.reset(&mut late), Event::More);
+    assert!(rt; reset, "nothing is said of it after its error");
+}
+
+#[test]
+fn a_reset_is_told_once(rt: HostRuntime) {
+    let mut connection = server(true);
+    let mut fields = Fields::new(rt.alloc(), 1000);
+    let mut request = connection.accept(12);
+    connection.receive(&mut request, b"\x01\x03\x00".as_slice(), false, &mut fields);
+    let reset = matches!(connection.reset(&mut request), Event::Reset(Some(_)));
+    let again = matches!(connection.reset(&mut request), Event::More);
+    assert!(rt; reset && again, "a reset is told once");
 }
 
 #[test]

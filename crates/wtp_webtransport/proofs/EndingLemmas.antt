@@ -8,6 +8,8 @@ use Rattle.wtp_frames.specs.declared.frame_type.FrameType.TheVariants as kind
 use Rattle.wtp_frames.specs.Reading.{slice}
 use Rattle.wtp_connection.specs.declared.connection.Found.{Found}
 use Rattle.wtp_connection.specs.declared.connection.Found.TheVariants as found
+use Rattle.wtp_connection.specs.declared.stream.Stream.{Stream as Frames}
+use Rattle.wtp_connection.specs.declared.stream.Stream.TheVariants as frames
 use Rattle.wtp_connection.specs.declared.stream.Purpose.{Purpose}
 use Rattle.wtp_connection.specs.declared.stream.Purpose.TheVariants as «for»
 use Rattle.wtp_connection.specs.Streams.{Joined, tells_interim}
@@ -48,7 +50,7 @@ use Rattle.wtp_webtransport.specs.Events as told
 use Rattle.wtp_webtransport.specs.Fault.{scope_of}
 use Rattle.wtp_webtransport.specs.Sessions.{asks_of}
 use Rattle.wtp_webtransport.specs.Streams.{after_end, after_error, head_if, member_if, with_streams, with_frames, with_message, is_held, spoiled_if, due_by, GivesNext}
-use Rattle.wtp_webtransport.specs.Receiving.{Outcome, closed_in, fails, last, goaway_in, in_stream, leaves, malformed, spoiled, found_opened, content_by, closed_if, complete, capsule_found, CapsulesGive, ContentBy, DataBy, ends_by, SessionEndGives, Between, Within, EndBy, too_large_by, interim_by, request_by, response_in, takes, taken_of, ResultGives, PrefixGives, span_in, SectionBy, FoundGives, UnreadBy, GoesOn, DueGives, StreamGives, ReceivesIf, Receives}
+use Rattle.wtp_webtransport.specs.Receiving.{Outcome, closed_in, fails, last, goaway_in, in_stream, leaves, malformed, spoiled, found_opened, content_by, closed_if, complete, capsule_found, CapsulesGive, ContentBy, DataBy, ends_by, SessionEndGives, Between, Within, EndBy, too_large_by, interim_by, request_by, response_in, takes, taken_of, ResultGives, PrefixGives, span_in, SectionBy, told_more, FoundGives, UnreadBy, GoesOn, DueGives, StreamGives, ReceivesIf, Receives}
 use Rattle.wtp_webtransport.specs.Endings.{begins_session, ends_session, Keeps, KeepsSession}
 
 -- ---- events that are neither
@@ -352,6 +354,14 @@ goaway_keeps : (x : Option (ℕ × List ℕ)) (c : Connection) (s : Stream) (end
 goaway_keeps None c s end payload = quiet s.part _ s.part refl refl refl
 goaway_keeps (Some x) c s end payload = quiet s.part _ s.part refl refl refl
 
+more_begins : (t : Frames) → begins_session (told_more t) ≡ false
+more_begins (frames.Waiting id) = refl
+more_begins _ = refl
+
+more_ends : (t : Frames) → ends_session (told_more t) ≡ false
+more_ends (frames.Waiting id) = refl
+more_ends _ = refl
+
 found_keeps : (x : Found) (limit : ℕ) (c : Connection) (s : Stream) (bytes : List ℕ) (o : Outcome)
     → losing s.part ≡ false
     → FoundGives limit x c s bytes o
@@ -370,7 +380,7 @@ found_keeps (found.Data start end) limit c s bytes o f g =
 found_keeps (found.TooLarge size n) limit c s bytes o f g =
     at s o _ g (too_large_keeps s.part c s (Some size) n refl)
 found_keeps (found.More n) limit c s bytes o f g =
-    at s o _ g (quiet s.part _ s.part refl refl refl)
+    at s o _ g (quiet s.part _ s.part (more_begins s.frames) (more_ends s.frames) refl)
 found_keeps (found.Fault x) limit c s bytes o f g =
     at s o _ g (fails_keeps c s (fault.Streams x) (length bytes))
 found_keeps found.End limit c s bytes o f g =

@@ -19,7 +19,7 @@ use Rattle.wtp_webtransport.specs.declared.stream.Part.TheVariants as part
 use Rattle.wtp_webtransport.specs.Events.{Told}
 use Rattle.wtp_webtransport.specs.Events as told
 use Rattle.wtp_webtransport.specs.Fault.{scope_of}
-use Rattle.wtp_webtransport.specs.Streams.{after_end, with_streams, with_frames, with_part, connects, is_held, answered, answered_by}
+use Rattle.wtp_webtransport.specs.Streams.{after_end, with_streams, with_frames, with_part, connects, is_held, is_done, answered, answered_by}
 use Rattle.wtp_webtransport.specs.Receiving.{closed_by}
 use Rattle.wtp_webtransport.specs.Joining.{Outcome, reset_told, reset_in, reset_by, resets, lost_if, abandons, stops_half, joined_told, joined_by, joining_of, joins}
 use Rattle.wtp_webtransport.specs.Endings.{begins_session, ends_session, accepts_session, Keeps, KeepsAfter}
@@ -62,7 +62,7 @@ either false s x y h k = k
 
 pub reset_keeps : (c : Connection) (s : Stream) → KeepsAfter s (resets c s)
 reset_keeps c s =
-    either c.over s _ _ (unchanged s c) (reset_by_keeps (resets_frames c.streams s.frames) c s)
+    either (c.over || is_done s.part s.frames) s _ _ (unchanged s c) (reset_by_keeps (resets_frames c.streams s.frames) c s)
 
 pub abandon_keeps : (c : Connection) (s : Stream) → KeepsAfter s (abandons c s)
 abandon_keeps c s =

@@ -1,6 +1,6 @@
 -- Streams of sessions, streams that end before their last byte, and datagrams (RFC 9114, sections
 -- 4.1.1 and 6.2.1; draft-ietf-webtrans-http3-02, section 4; RFC 9297, section 2).
-use Rattle.std.specs.Prelude.{ℕ, if◌then◌else◌, Bool, true, false, List, Option, Some, None, Result, Ok, Err}
+use Rattle.std.specs.Prelude.{ℕ, ◌||◌, if◌then◌else◌, Bool, true, false, List, Option, Some, None, Result, Ok, Err}
 use Rattle.wtp_core.specs.declared.error.scope.ErrorScope.{ErrorScope}
 use Rattle.wtp_core.specs.declared.error.scope.ErrorScope.TheVariants as scope
 use Rattle.wtp_connection.specs.declared.connection.Connection.{Connection as Streams}
@@ -19,7 +19,7 @@ use Rattle.wtp_webtransport.specs.declared.connection.Connection.{Connection}
 use Rattle.wtp_webtransport.specs.declared.stream.Stream.{Stream}
 use Rattle.wtp_webtransport.specs.Events.{Told, Joined, Reset, SessionLost, Waits, More}
 use Rattle.wtp_webtransport.specs.Receiving.{closed_by}
-use Rattle.wtp_webtransport.specs.Streams.{with_streams, with_frames, ended, is_held}
+use Rattle.wtp_webtransport.specs.Streams.{with_streams, with_frames, ended, is_held, is_done}
 
 abbrev pub Outcome : Type 0
 Outcome = Told × Connection × Stream
@@ -71,9 +71,10 @@ reset_by held c s (d, t, None) =
 reset_by held c s (d, t, Some f) =
     reset_in (streams_scope f) held (with_streams c d) (with_frames s t) f
 
+-- nothing is given after the last event of a stream
 abbrev pub resets : Connection → Stream → Outcome
 resets c s =
-    if c.over
+    if c.over || is_done s.part s.frames
     then (More, c, s)
     else reset_by (is_held s.part) c s (resets_frames c.streams s.frames)
 

@@ -11,6 +11,7 @@ use Rattle.wtp_connection.specs.declared.connection.Connection.{Connection as St
 use Rattle.wtp_connection.specs.declared.connection.Found.{Found}
 use Rattle.wtp_connection.specs.declared.connection.Found.TheVariants as found
 use Rattle.wtp_connection.specs.declared.stream.Stream.{Stream as Frames}
+use Rattle.wtp_connection.specs.declared.stream.Stream.TheVariants as frames
 use Rattle.wtp_connection.specs.declared.stream.Purpose.{Purpose}
 use Rattle.wtp_connection.specs.declared.stream.Purpose.TheVariants as «for»
 use Rattle.wtp_connection.specs.Opening.{remaining_of}
@@ -348,6 +349,11 @@ SectionGives limit c s start end bytes o = SectionBy s.part limit c s start end 
 
 -- ---- one call
 
+-- nothing more is found in the bytes that came: a stream whose session is to come waits for it
+abbrev pub told_more : Frames → Told
+told_more (frames.Waiting id) = Waits (wait.Session id)
+told_more other = More
+
 -- what was found on a stream
 abbrev pub FoundGives : ℕ → Found → Connection → Stream → List ℕ → Outcome → Type 0
 FoundGives limit (found.Opened p n) c s bytes o = o ≡ found_opened c s p n
@@ -362,7 +368,7 @@ FoundGives limit (found.Frame k start end) c s bytes o =
 FoundGives limit (found.Data start end) c s bytes o = DataGives c s start end bytes o
 FoundGives limit (found.TooLarge size n) c s bytes o =
     o ≡ too_large c s (Some size) n
-FoundGives limit (found.More n) c s bytes o = o ≡ (n, More, c, s)
+FoundGives limit (found.More n) c s bytes o = o ≡ (n, told_more s.frames, c, s)
 FoundGives limit (found.Fault f) c s bytes o = o ≡ fails c s (fault.Streams f) (length bytes)
 FoundGives limit found.End c s bytes o = EndGives c s (length bytes) o
 

@@ -145,6 +145,15 @@ is_held (part.Session size) = true
 is_held part.Losing = true
 is_held _ = false
 
+-- the stream is over, and none of its events is still to be given
+abbrev pub is_done : Part → Frames → Bool
+is_done (part.Session size) t = false
+is_done part.Ending t = false
+is_done part.Losing t = false
+is_done p frames.Incomplete = true
+is_done p frames.Over = true
+is_done p t = false
+
 -- ---- CONNECT (RFC 9114, section 4.4)
 
 abbrev pub after_success : Bool → Part

@@ -2,7 +2,7 @@
 ghost use Rattle.std.specs.Prelude.{◌≡◌, ◌≤◌, length};
 ghost use Rattle.wtp_connection.specs.Receiving.{Fits};
 ghost use Rattle.wtp_webtransport.specs.Events.{told_of};
-ghost use Rattle.wtp_webtransport.specs.Receiving.{Receives, FoundGives, closed_by, fails, found_opened, goaway_found, last_in, malformed as malformed_is};
+ghost use Rattle.wtp_webtransport.specs.Receiving.{Receives, FoundGives, closed_by, fails, found_opened, goaway_found, last_in, malformed as malformed_is, told_more};
 ghost use Rattle.wtp_webtransport.specs.Streams.{connection_of, accepted, request_stream, after_error, is_unprocessed_by};
 
 mod messages;
@@ -43,7 +43,8 @@ pub struct Connection {
 
 impl Connection {
     /// Creates a connection. `extended`: the own SETTINGS allow extended CONNECT, which sessions of
-    /// WebTransport need (RFC 9220, section 3).
+    /// WebTransport need (RFC 9220, section 3). Send no early data (0-RTT) on it: settings that a client
+    /// remembers are not checked (`wtp_connection` does it, with `resuming`).
     pub fn new(endpoint: Endpoint, extended: bool) -> Self
         ensures { result ≡ connection_of endpoint extended }
     {
@@ -99,6 +100,10 @@ impl Connection {
     /// `More` with more bytes after them. After `Waits` they are to be passed again when the wait is
     /// over. With an error all bytes are consumed. After an error of the connection every call
     /// consumes all bytes of every stream and returns `More`.
+    ///
+    /// How many bytes wait is not bounded: [`abandon`](Self::abandon) a stream of which more wait than
+    /// you keep. If it waits for its session, reset and stop it with
+    /// WEBTRANSPORT_BUFFERED_STREAM_REJECTED; otherwise close the connection with H3_EXCESSIVE_LOAD.
     pub fn receive<'a>(
         &mut self,
         stream: &mut Stream,
@@ -180,7 +185,7 @@ impl Connection {
             Found::More(n) => {
                 return Received {
                     consumed: n,
-                    event: Event::More,
+                    event: more(&stream.frames),
                 };
             }
             Found::Fault(fault) => return self.fail(stream, Fault::Streams(fault), bytes.len()),
@@ -264,6 +269,16 @@ impl Connection {
             consumed: len,
             event: Event::Malformed(rule),
         }
+    }
+}
+
+// Returns the event of a stream that has nothing more for now.
+fn more(frames: &Frames) -> Event<'static>
+    ensures { told_of result ≡ told_more frames.now }
+{
+    match frames.waits() {
+        Some(session) => Event::Waits(Waits::Session(session)),
+        None => Event::More,
     }
 }
 

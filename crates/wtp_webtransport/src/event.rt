@@ -46,9 +46,10 @@ pub enum Event<'a> {
     /// SETTINGS of the peer: what they define, and their payload.
     Settings(PeerSettings, &'a [u8]),
     /// GOAWAY: at a client the ID of the first request that is not processed, at a server that of a
-    /// push (RFC 9114, section 5.2). Open sessions go on, and each of them is to be told as with
-    /// `Draining` (draft-ietf-webtrans-http3-07, section 4.6): those are the sessions of the streams
-    /// that are [`Open`](wtp_connection::connection::Known::Open) for `Connection::known`.
+    /// push (RFC 9114, section 5.2). All open sessions are draining, as with `Draining`
+    /// (draft-ietf-webtrans-http3-07, section 4.6): those are the sessions of the streams that are
+    /// [`Open`](wtp_connection::connection::Known::Open) for `Connection::known`. A client sends no
+    /// new request.
     GoAway(u64),
     /// Another frame of the control stream: its type and its payload.
     Frame(FrameType, &'a [u8]),
@@ -72,10 +73,11 @@ pub enum Event<'a> {
     /// first: that ends all sessions, and no other event follows.
     SessionLost,
     /// A datagram of the session whose own stream this is, which came in a capsule (RFC 9297, section
-    /// 3.5). It is as one that [`datagram`](crate::connection::Connection::datagram) returns.
+    /// 3.5). It is as one that [`datagram`](crate::connection::Connection::datagram) returns. A capsule
+    /// with more than 65,535 bytes is dropped.
     Datagram(Vec<u8>),
-    /// The peer asks to wind up the session whose own stream this is: no new streams should be opened
-    /// in it. Its streams and datagrams go on (draft-ietf-webtrans-http3-07, section 4.6).
+    /// The peer asks to end the session whose own stream this is soon. Until then it goes on, and new
+    /// streams may be opened in it (draft-ietf-webtrans-http3-07, section 4.6).
     Draining,
     /// The bytes had nothing for the application.
     Skipped,
@@ -92,13 +94,14 @@ pub enum Event<'a> {
     /// H3_MESSAGE_ERROR. A server may first respond with status 400 (RFC 9114, section 4.1.2).
     Malformed(Malformed),
     /// An error of the stream: its own half is to be reset with the code, and the peer is to be asked
-    /// to stop.
+    /// to stop. If it is the own stream of an open session, the next call of `receive` returns
+    /// `SessionLost`.
     StreamError(Fault),
     /// An error of the connection, which is to be closed with the code. No event follows on any
     /// stream, and every session is lost.
     ConnectionError(Fault),
-    /// The peer reset the stream. The own half is to be reset with the code of the error, if there
-    /// is one.
+    /// The peer reset the stream before its last event. The own half is to be reset with the code of
+    /// the error, if there is one.
     Reset(Option<Fault>),
     /// The stream ended, without an error.
     End,

@@ -1,6 +1,6 @@
 //! The state of one stream: of its frames, and of its message or its session.
 ghost use Rattle.std.specs.Prelude.{◌≡◌, ◌↔◌, IsTrue};
-ghost use Rattle.wtp_webtransport.specs.Streams.{stream_of, asking_stream, session_stream, with_session_id, with_head, with_session, connects, after_end, ended, answered, waits_for as waits_for_is, is_held, due_by, GivesCapsule, EndsBetween};
+ghost use Rattle.wtp_webtransport.specs.Streams.{stream_of, asking_stream, session_stream, with_session_id, with_head, with_session, connects, after_end, ended, answered, waits_for as waits_for_is, is_held, is_done as is_done_is, due_by, GivesCapsule, EndsBetween};
 
 use crate::capsules::{Capsules, SessionCapsule};
 use crate::event::Waits;
@@ -165,6 +165,16 @@ impl Stream {
         matches!(self.part, Part::Session(_) | Part::Losing)
     }
 
+    // Returns whether the last event of the stream was returned.
+    pub(crate) fn is_done(&self) -> bool
+        ensures { result ≡ is_done_is self.now.part self.now.frames }
+    {
+        match self.part {
+            Part::Session(_) | Part::Ending | Part::Losing => false,
+            _ => matches!(&self.frames, Frames::Incomplete | Frames::Over),
+        }
+    }
+
     // Returns what is to be returned before more of the stream is read. `empty`: no bytes came.
     pub(crate) fn due(&self, empty: bool) -> Due
         ensures { result ≡ due_by self.now.part empty }
@@ -248,7 +258,8 @@ impl Stream {
         }
     }
 
-    /// Returns what the stream waits for.
+    /// Returns what the stream waits for. It is still `Settings` once SETTINGS came, until the next
+    /// call of [`receive`](crate::connection::Connection::receive).
     pub fn waits(&self) -> Option<Waits>
         ensures { result ≡ waits_for_is self.now }
     {

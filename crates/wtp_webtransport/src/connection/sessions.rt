@@ -90,7 +90,9 @@ impl Connection {
     }
 
     /// Returns what is known of a session if the caller has no stream with its ID, as
-    /// `wtp_connection::connection::Connection::known_without_stream`.
+    /// `wtp_connection::connection::Connection::known_without_stream`. At a client it is `Impossible`,
+    /// and to [`join`](Self::join) a stream with that ends the connection: keep the [`Stream`] of each
+    /// session that was asked for as long as the connection lives, or pass [`Known::Over`] yourself.
     pub fn known_without_stream(&self, session: u64) -> Known
         ensures { result ≡ known_alone self.now.streams session }
     {

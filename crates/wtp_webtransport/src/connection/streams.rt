@@ -37,11 +37,12 @@ impl Connection {
     ///
     /// Returns `SessionLost` if it is the own stream of an open session, and otherwise `Reset`.
     /// `ConnectionError` is for the control stream (RFC 9114, section 6.2.1) and those of QPACK (RFC
-    /// 9204, section 4.2). After an error of the connection it returns `More`, and nothing changes.
+    /// 9204, section 4.2). After the last event of the stream, and after an error of the connection,
+    /// it returns `More`, and nothing changes.
     pub fn reset(&mut self, stream: &mut Stream) -> Event<'static>
         ensures { (told_of result, self.new, stream.new) ≡ resets self.old stream.old }
     {
-        if self.over {
+        if self.over || stream.is_done() {
             return Event::More;
         }
         let held = stream.holds_session();
@@ -64,8 +65,9 @@ impl Connection {
     /// own half is to be reset (RFC 9000, section 3.5).
     ///
     /// Returns `SessionLost` if it is the own stream of an open session, which ends by that: the
-    /// stream is over. Otherwise the other half goes on, and it returns `More`. Of a stream that is
-    /// opened in one direction see [`stopped`](Self::stopped).
+    /// stream is over. Otherwise the other half goes on, and it returns `More`; before the answer to a
+    /// request for a session [`abandon`](Self::abandon) its stream, since no session can follow. Of a
+    /// stream that is opened in one direction see [`stopped`](Self::stopped).
     pub fn stop(&mut self, stream: &mut Stream) -> Event<'static>
         ensures { (told_of result, self.new, stream.new) ≡ stops_half self.old stream.old }
     {
@@ -79,8 +81,9 @@ impl Connection {
     /// are discarded. The control stream and those of QPACK stay as they are: the peer must not be
     /// asked to close them (RFC 9114, section 6.2.1; RFC 9204, section 4.2).
     ///
-    /// Returns `SessionLost` if it is the own stream of an open session, and otherwise `More`. After
-    /// an error of the connection nothing changes.
+    /// Returns `SessionLost` if it is the own stream of an open session, and otherwise `More`. To close
+    /// a session write the capsule and the end, and then abandon its stream: [`known`](Self::known) is
+    /// `Over` from then on. After an error of the connection nothing changes.
     pub fn abandon(&mut self, stream: &mut Stream) -> Event<'static>
         ensures { (told_of result, self.new, stream.new) ≡ abandons self.old stream.old }
     {
