@@ -12,7 +12,9 @@ CONTROL = re.compile(rb"[\x00-\x08\x0a-\x1f\x7f]")
 OF_CONNECTION = {b"connection", b"keep-alive", b"proxy-connection", b"upgrade"}
 OF_CONNECTION |= {b"transfer-encoding"}
 OF_REQUEST = {b":method", b":scheme", b":authority", b":path", b":protocol"}
-PSEUDO = {"request": OF_REQUEST, "response": {b":status"}, "trailers": set()}
+PSEUDO = {
+    "request": OF_REQUEST, "response": {b":status"}, "tunnel": {b":status"}, "trailers": set()
+}
 LONGEST = 2**62 - 1
 
 
@@ -32,8 +34,9 @@ def is_malformed_section(fields, kind):
             return True
         if name == b"te" and (kind != "request" or value.lower() != b"trailers"):
             return True
-    # (one in trailers is dropped: RFC 9110, section 6.5.1)
-    return kind != "trailers" and content_length(fields) is False
+    # (one in trailers is dropped, and one in the response that opens a tunnel: RFC 9110, sections
+    # 6.5.1 and 9.3.6)
+    return kind not in ("trailers", "tunnel") and content_length(fields) is False
 
 
 def content_length(fields):
@@ -108,7 +111,8 @@ def status_of(fields):
 def is_malformed_response(fields, asked):
     """Returns whether a response to a request that asked for this is malformed."""
     status = status_of(fields)
-    if is_malformed_section(fields, "response") or status is None:
+    is_tunnel = asked == "connect" and status is not None and 200 <= status < 300
+    if is_malformed_section(fields, "tunnel" if is_tunnel else "response") or status is None:
         return True
     if asked == "session" and 200 <= status < 300:
         return status in (204, 205, 206) or has_content_fields(dict(fields))

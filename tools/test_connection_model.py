@@ -51,6 +51,9 @@ class SessionModelTest(unittest.TestCase):
         self.assertTrue(is_malformed_request([*GET, (b"X", b"y")], False))
         self.assertFalse(is_malformed_response([(b":status", b"204")], ""))
         self.assertTrue(is_malformed_response([(b":status", b"204")], "session"))
+        accepted = [(b":status", b"200"), (b"content-length", b"abc")]
+        self.assertFalse(is_malformed_response(accepted, "connect"))
+        self.assertTrue(is_malformed_response(accepted, ""))
         self.assertEqual(content_length([(b"content-length", b"7, 07")]), 7)
         self.assertIs(content_length([(b"content-length", b"7, 8")]), False)
 

@@ -207,7 +207,7 @@ pub(crate) static REQUESTS: [Group; 21] = [
 ];
 
 /// Responses, by what was asked for, that break a rule.
-pub(crate) static MALFORMED_RESPONSES: [Group; 7] = [
+pub(crate) static MALFORMED_RESPONSES: [Group; 8] = [
     Group {
         broken: Some(Malformed::InvalidTe),
         rows: &[b"to other|:status=200|te=trailers"],
@@ -219,6 +219,13 @@ pub(crate) static MALFORMED_RESPONSES: [Group; 7] = [
     Group {
         broken: Some(Malformed::RepeatedPseudoHeader),
         rows: &[b"to other|:status=200|+:status=200"],
+    },
+    Group {
+        broken: Some(Malformed::InvalidContentLength),
+        rows: &[
+            b"to other|:status=200|content-length=abc",
+            b"to connect|:status=403|content-length=abc",
+        ],
     },
     Group {
         broken: Some(Malformed::MissingStatus),
@@ -254,7 +261,7 @@ pub(crate) static MALFORMED_RESPONSES: [Group; 7] = [
 ];
 
 /// Responses, by what was asked for.
-pub(crate) static RESPONSES: [ResponseRow; 14] = [
+pub(crate) static RESPONSES: [ResponseRow; 16] = [
     ResponseRow {
         row: b"to other|:status=200",
         status: 200,
@@ -303,6 +310,16 @@ pub(crate) static RESPONSES: [ResponseRow; 14] = [
     ResponseRow {
         row: b"to connect|:status=200|content-length=5",
         status: 200,
+        left: None,
+    },
+    ResponseRow {
+        row: b"to connect|:status=200|content-length=abc",
+        status: 200,
+        left: None,
+    },
+    ResponseRow {
+        row: b"to connect|:status=299|content-length=1|content-length=2",
+        status: 299,
         left: None,
     },
     ResponseRow {

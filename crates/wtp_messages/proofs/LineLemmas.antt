@@ -71,11 +71,13 @@ section_error kind fields rule (Err x) is e = rw (is, e) refl
 announced_is : (kind : SectionKind) (fields : List Field) → announces kind ≡ true → announced kind fields ≡ content_length fields
 announced_is section.Request fields e = refl
 announced_is section.Response fields e = refl
+announced_is section.Tunnel fields e = absurd (cc)
 announced_is section.Trailers fields e = absurd (cc)
 
 announced_none : (kind : SectionKind) (fields : List Field) → announces kind ≡ false → None ≡ announced kind fields
 announced_none section.Request fields e = absurd (cc)
 announced_none section.Response fields e = absurd (cc)
+announced_none section.Tunnel fields e = refl
 announced_none section.Trailers fields e = refl
 
 -- a section that announces nothing

@@ -7,6 +7,7 @@ use Rattle.wtp_messages.specs.Names.{has_field, is_and_not}
 use Rattle.wtp_messages.specs.Section.{section_breaks}
 use Rattle.wtp_messages.specs.Length.{content_length}
 use Rattle.wtp_messages.specs.Content.{content_of}
+use Rattle.wtp_messages.specs.declared.section.SectionKind.{SectionKind}
 use Rattle.wtp_messages.specs.declared.section.SectionKind.TheVariants as section
 use Rattle.wtp_messages.specs.declared.response.Asked.{Asked}
 use Rattle.wtp_messages.specs.declared.response.Asked.TheVariants as asked
@@ -71,6 +72,21 @@ accepts asked.Connect fields = false
 accepts asked.Session fields = is_success (status_of fields)
 accepts asked.Other fields = false
 
+-- the response opens a tunnel (RFC 9110, section 9.3.6)
+abbrev pub opens_tunnel : Asked → List Field → Bool
+opens_tunnel asked.Head fields = false
+opens_tunnel asked.Connect fields = is_success (status_of fields)
+opens_tunnel asked.Session fields = false
+opens_tunnel asked.Other fields = false
+
+abbrev pub kind_if : Bool → SectionKind
+kind_if true = section.Tunnel
+kind_if false = section.Response
+
+-- the kind of its header section
+abbrev pub section_kind : Asked → List Field → SectionKind
+section_kind kind fields = kind_if (opens_tunnel kind fields)
+
 -- ---- the table
 
 -- The response breaks this rule of responses.
@@ -92,7 +108,7 @@ pub record HasNoContent (kind : Asked) (fields : List Field) : Type 0 where
 -- The response breaks this rule, of every section or of responses.
 unfoldable pub response_breaks : Asked → List Field → Malformed → Bool
 response_breaks kind fields rule =
-    section_breaks section.Response fields rule || status_breaks kind fields rule
+    section_breaks (section_kind kind fields) fields rule || status_breaks kind fields rule
 
 -- ---- content
 

@@ -46,6 +46,7 @@ is_connection_field field = is_one_of connection_names field.0
 abbrev pub allows_te : SectionKind → List ℕ → Bool
 allows_te section.Request value = str_eq_ignore_ascii_case value (codes "trailers")
 allows_te section.Response value = false
+allows_te section.Tunnel value = false
 allows_te section.Trailers value = false
 
 abbrev pub is_bad_te : SectionKind → Field → Bool
@@ -64,6 +65,7 @@ pseudo_names section.Request =
     ∷ codes ":protocol"
     ∷ []
 pseudo_names section.Response = codes ":status" ∷ []
+pseudo_names section.Tunnel = codes ":status" ∷ []
 pseudo_names section.Trailers = []
 
 abbrev pub is_unknown_pseudo : SectionKind → Field → Bool
@@ -83,13 +85,15 @@ is_repeated fields name = nat_lt 1 (length (values_of name fields))
 
 -- ---- the length of the content
 
--- A section of this kind may say how much content there is; a content-length in trailers says nothing
--- (RFC 9110, section 6.5.1).
+-- A section of this kind may say how much content there is; a content-length says nothing in trailers
+-- (RFC 9110, section 6.5.1) and in the response that opens a tunnel (section 9.3.6).
 abbrev pub announces : SectionKind → Bool
+announces section.Tunnel = false
 announces section.Trailers = false
 announces other = true
 
 abbrev pub announced : SectionKind → List Field → Option ℕ
+announced section.Tunnel fields = None
 announced section.Trailers fields = None
 announced other fields = content_length fields
 

@@ -2,7 +2,7 @@
 ghost use Rattle.std.specs.Prelude.{◌≡◌, true, false, Some, MatchOption, MatchResult, nat_lt};
 ghost use Rattle.wtp_fields.specs.FieldMessages.{three_digits as three_digits_of};
 ghost use Rattle.wtp_messages.specs.Response.{is_status_text, is_success as is_success_status};
-ghost use Rattle.wtp_messages.specs.Response.{status_of, expected as expected_length};
+ghost use Rattle.wtp_messages.specs.Response.{status_of, section_kind as section_kind_of, expected as expected_length};
 ghost use Rattle.wtp_messages.specs.Response.{status_breaks, response_breaks, HasNoContent, IsResponse};
 
 use crate::content::Content;
@@ -41,12 +41,12 @@ impl Response {
     ///
     /// Returns a rule that the response breaks, if it breaks one; then it is malformed (RFC 9114,
     /// section 4.1.2). Of several broken rules it may be any.
-    #[tactic(auto, using(crate::proofs::ResponseLemmas::well_formed, crate::proofs::ResponseLemmas::status_by_rows, crate::proofs::ResponseLemmas::by_section, crate::proofs::ResponseLemmas::by_status, crate::proofs::ResponseLemmas::response_error))]
+    #[tactic(auto, using(crate::proofs::ResponseLemmas::well_formed, crate::proofs::ResponseLemmas::status_by_rows, crate::proofs::ResponseLemmas::by_section, crate::proofs::ResponseLemmas::by_status, crate::proofs::ResponseLemmas::as_announced, crate::proofs::ResponseLemmas::response_error))]
     pub fn read(list: &FieldList, asked: Asked) -> Result<Self, Malformed>
         ensures { MatchResult result (λ response. IsResponse asked list.now response)
             (λ rule. response_breaks asked list.now rule ≡ true) }
     {
-        let announced = check_section(list, SectionKind::Response)?;
+        let announced = check_section(list, section_kind(list, asked))?;
         let Some(text) = list.first(b":status") else {
             return Err(Malformed::MissingStatus);
         };
@@ -66,6 +66,22 @@ impl Response {
         ensures { result ≡ nat_lt self.now.status 200 }
     {
         self.status < 200
+    }
+}
+
+/// Returns the kind of the header section of a response.
+fn section_kind(list: &FieldList, asked: Asked) -> SectionKind
+    ensures { result ≡ section_kind_of asked list.now }
+{
+    if asked != Asked::Connect {
+        return SectionKind::Response;
+    }
+    let Some(text) = list.first(b":status") else {
+        return SectionKind::Response;
+    };
+    match three_digits(text) {
+        Some(status) if is_success(status) => SectionKind::Tunnel,
+        _ => SectionKind::Response,
     }
 }
 

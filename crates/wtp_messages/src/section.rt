@@ -15,8 +15,11 @@ use wtp_fields::fields::{FieldLine, FieldList, is_field_value};
 pub enum SectionKind {
     /// The header section of a request.
     Request,
-    /// The header section of a response.
+    /// The header section of a response, other than of a tunnel.
     Response,
+    /// That of a 2xx response to a CONNECT request other than for a session: it opens a tunnel, and a
+    /// `content-length` says nothing (RFC 9110, section 9.3.6).
+    Tunnel,
     /// A trailer section.
     Trailers,
 }
@@ -61,7 +64,7 @@ fn announces(kind: SectionKind) -> bool
 {
     match kind {
         SectionKind::Request | SectionKind::Response => true,
-        SectionKind::Trailers => false,
+        SectionKind::Tunnel | SectionKind::Trailers => false,
     }
 }
 
@@ -115,7 +118,7 @@ fn is_pseudo_name(name: &[u8], kind: SectionKind) -> bool
                 || name == b":path".as_slice()
                 || name == b":protocol".as_slice()
         }
-        SectionKind::Response => name == b":status".as_slice(),
+        SectionKind::Response | SectionKind::Tunnel => name == b":status".as_slice(),
         SectionKind::Trailers => false,
     }
 }
@@ -137,7 +140,7 @@ fn allows_te(kind: SectionKind, value: &[u8]) -> bool
 {
     match kind {
         SectionKind::Request => equal_ignoring_case(value, b"trailers"),
-        SectionKind::Response | SectionKind::Trailers => false,
+        SectionKind::Response | SectionKind::Tunnel | SectionKind::Trailers => false,
     }
 }
 
@@ -169,7 +172,7 @@ fn has_repeated_pseudo(list: &FieldList, kind: SectionKind) -> bool
                 || is_repeated(list, b":path")
                 || is_repeated(list, b":protocol")
         }
-        SectionKind::Response => is_repeated(list, b":status"),
+        SectionKind::Response | SectionKind::Tunnel => is_repeated(list, b":status"),
         SectionKind::Trailers => false,
     }
 }
