@@ -6,16 +6,19 @@ use Rattle.std.proofs.Math.Seq.{drop-length, take-length}
 use Rattle.wtp_connection.specs.declared.connection.Connection.{Connection}
 use Rattle.wtp_connection.specs.declared.connection.Found.{Found}
 use Rattle.wtp_connection.specs.declared.connection.Found.TheVariants as found
+use Rattle.wtp_connection.specs.declared.fault.Fault.{Fault}
 use Rattle.wtp_connection.specs.declared.stream.Stream.{Stream}
 use Rattle.wtp_connection.specs.Streams.{Seen, StreamRun, followed, run_stream, ended}
 use Rattle.wtp_connection.specs.Receiving.{seen_of, rest_after, Idle, Fits, Finds, LeavesOpen, FoundIs, more_in}
 use Rattle.wtp_connection.proofs.FinishLemmas.{ended_followed}
+use Rattle.wtp_hold.proofs.RunLemmas.{end_last}
 use Rattle.wtp_hold.specs.declared.hold.Hold.{Hold}
+use Rattle.wtp_hold.specs.declared.hold.Source.{Source}
 use Rattle.wtp_hold.specs.declared.hold.Source.TheVariants.{Held, Chunk}
 use Rattle.wtp_hold.specs.declared.hold.Received.{Received}
 use Rattle.wtp_hold.specs.declared.hold.NotHeld.{NotHeld}
 use Rattle.wtp_hold.specs.declared.hold.NotHeld.TheVariants.{Memory, Limit}
-use Rattle.wtp_hold.specs.Holding.{pending, joined, source_of, Reads, IsQuiet, AfterMore, ReceivedIs, searched, least_held, IsReason, NotHeldIs, AreLast, ReceptionIs, taken_before, consumed_by, IsStill, IsRead, IsFoundInChunk}
+use Rattle.wtp_hold.specs.Holding.{pending, joined, source_of, Reads, IsQuiet, TakesAll, Leaves, ReceivedIs, searched, least_held, IsReason, NotHeldIs, AreLast, ReceptionIs, taken_before, consumed_by, IsStill, IsRead, IsFoundInChunk}
 
 -- ---- more bytes follow
 
@@ -75,15 +78,15 @@ consumed_within (found.More n) bytes d t h = h.0
 consumed_within (found.Fault f) bytes d t h = omega arith
 consumed_within found.End bytes d t h = omega arith
 
-other_after : (x : Found) (taken limit : ℕ) (chunk : List ℕ) (k : Hold) (d : Connection) (t : Stream) → more_in x ≡ None → AfterMore x taken limit chunk k d t
-other_after (found.More n) taken limit chunk k d t e = absurd (cc)
-other_after (found.Opened p n) taken limit chunk k d t e = tt
-other_after (found.Settings v start end) taken limit chunk k d t e = tt
-other_after (found.Frame kind start end) taken limit chunk k d t e = tt
-other_after (found.Data start end) taken limit chunk k d t e = tt
-other_after (found.TooLarge size n) taken limit chunk k d t e = tt
-other_after (found.Fault f) taken limit chunk k d t e = tt
-other_after found.End taken limit chunk k d t e = tt
+leaves : (x : Found) (source : Source) (taken limit : ℕ) (chunk bytes : List ℕ) (k : Hold) (d : Connection) (t : Stream) → more_in x ≡ None → (rest_after x bytes ≡ [] → pending k ≡ []) → ((f : Fault) → x ≡ found.Fault f → TakesAll source taken chunk) → (x ≡ found.End → taken ≡ length chunk) → Leaves x source taken limit chunk k d t
+leaves (found.More n) source taken limit chunk bytes k d t e none all last = absurd (cc)
+leaves (found.Opened p n) source taken limit chunk bytes k d t e none all last = tt
+leaves (found.Settings v start end) source taken limit chunk bytes k d t e none all last = tt
+leaves (found.Frame kind start end) source taken limit chunk bytes k d t e none all last = tt
+leaves (found.Data start end) source taken limit chunk bytes k d t e none all last = tt
+leaves (found.TooLarge size n) source taken limit chunk bytes k d t e none all last = tt
+leaves (found.Fault f) source taken limit chunk bytes k d t e none all last = (none refl, all f refl)
+leaves found.End source taken limit chunk bytes k d t e none all last = (none refl, last refl)
 
 fresh_pending : (k : Hold) → k.used ≡ 0 → pending k ≡ k.bytes.items
 fresh_pending k e = rw e refl
@@ -108,8 +111,14 @@ held_received x fin last b c r s all h d t k taken limit chunk is e none within 
           subst (λ (l : List ℕ). Finds b r all (seen_of x h.bytes.items) d t (l ++ drop taken chunk)) (sym left) (
           finds_then b c r s all (h.bytes.items ++ drop taken chunk) (seen_of x h.bytes.items) d t (rest_after x h.bytes.items ++ drop taken chunk) before (
           extended c s h.bytes.items (seen_of x h.bytes.items) d t (rest_after x h.bytes.items) (drop taken chunk) (is.found.goes l))));
-      after = other_after x taken limit chunk k d t is.other;
+      after = leaves x Held taken limit chunk h.bytes.items k d t is.other (λ e. left ∙ e) (λ f e. tt) at_end;
     }
+  where
+    at_end : x ≡ found.End → taken ≡ length chunk
+    at_end e =
+        let ends : last ≡ true = end_last fin last c s h.bytes.items d t (subst (λ (y : Found). FoundIs y c s h.bytes.items (fin && last) d t) e is.found) in
+        let size : length chunk - taken ≡ 0 = sym (length-drop taken chunk) ∙ ap (λ (l : List ℕ). length l) (none ends) in
+        omega arith
 
 -- nothing is found so far
 pub still : (fin : Bool) (b c : Connection) (r s : Stream) (all bytes : List ℕ) (d : Connection) (t : Stream) (k : Hold) (rest : List ℕ) → IsStill fin c s bytes d t k → Finds b r all [] c s (bytes ++ rest) → Finds b r all [] d t (k.bytes.items ++ rest)
@@ -250,12 +259,12 @@ nothing_more_held b r all d t k taken limit chunk fresh none within few quiet fi
       fits = (omega arith, quiet.idle);
       reads = reads_all k.fin b r all [] d t (joined k (drop taken chunk)) same;
       goes = λ l. same;
-      after = record {
+      after = (refl, record {
         all = omega arith;
         held = is;
         limited = subst (λ (l : List ℕ). length l ≤ limit) (sym is) few;
         quiet = subst (λ (l : List ℕ). IsQuiet k.fin d t l) (sym is) quiet;
-      };
+      });
     }
 
 -- some bytes are held, and others cannot be
@@ -316,8 +325,15 @@ chunk_found x n c s rest chunk taken limit k d t at before is other e none =
       fits = subst (λ (l : List ℕ). Fits x l d t) at is.fits;
       reads = subst (λ (l : List ℕ). Reads k.fin c s (drop taken chunk) (seen_of x (drop taken chunk)) d t l) (sym (nothing_held k (drop (taken + n) chunk) none)) (chunk_reads x n k.fin c s rest chunk taken d t at is e);
       goes = λ l. subst (λ (l : List ℕ). Finds c s (drop taken chunk) (seen_of x (drop taken chunk)) d t l) (sym (nothing_held k (drop (taken + n) chunk) none)) (chunk_finds x n k.fin c s rest chunk taken d t at is e l);
-      after = other_after x (taken + n) limit chunk k d t other;
+      after = leaves x (Chunk taken) (taken + n) limit chunk rest k d t other (λ l. nothing) (λ f l. all (consumes_all (found.Fault f) l refl)) (λ l. all (consumes_all found.End l refl));
     }
+  where
+    nothing : pending k ≡ []
+    nothing = ap (λ (l : List ℕ). drop k.used l) none ∙ drop_nil k.used
+    consumes_all : (y : Found) → x ≡ y → consumed_by y (length rest) ≡ length rest → n ≡ length rest
+    consumes_all y l f = e ∙ ap (λ (z : Found). consumed_by z (length rest)) l ∙ f
+    all : n ≡ length rest → taken + n ≡ length chunk
+    all l = let size : length rest ≡ length chunk - taken = ap (λ (i : List ℕ). length i) at ∙ length-drop taken chunk in omega arith
 
 pub in_chunk : (x : Found) (n : ℕ) (k : Hold) → k.bytes.items ≡ [] → IsFoundInChunk n x (Chunk n) k
 in_chunk (found.More m) n k none = tt

@@ -1,3 +1,4 @@
 pub mod HoldingLemmas
 pub mod HoldLemmas
 pub mod PieceLemmas
+pub mod RunLemmas

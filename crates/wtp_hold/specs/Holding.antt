@@ -57,9 +57,18 @@ pub record IsHeld (n limit : ℕ) (chunk : List ℕ) (k : Hold) (d : Connection)
   pub limited : length (pending k) ≤ limit
   pub quiet : IsQuiet k.fin d t (pending k)
 
-abbrev pub AfterMore : Found → ℕ → ℕ → List ℕ → Hold → Connection → Stream → Type 0
-AfterMore (found.More n) taken limit chunk k d t = IsHeld taken limit chunk k d t
-AfterMore other taken limit chunk k d t = Unit {0}
+-- all of the chunk was taken, if an error was found in it, or at the end of the stream after it; an
+-- error in the bytes that are held leaves what was not taken before
+abbrev pub TakesAll : Source → ℕ → List ℕ → Type 0
+TakesAll Held n chunk = Unit {0}
+TakesAll (Chunk m) n chunk = n ≡ length chunk
+
+-- after More, an error and the end of the stream nothing is held that was consumed or is not needed
+abbrev pub Leaves : Found → Source → ℕ → ℕ → List ℕ → Hold → Connection → Stream → Type 0
+Leaves (found.More n) source taken limit chunk k d t = (n ≡ 0) × IsHeld taken limit chunk k d t
+Leaves (found.Fault f) source taken limit chunk k d t = (pending k ≡ []) × TakesAll source taken chunk
+Leaves found.End source taken limit chunk k d t = (pending k ≡ []) × (taken ≡ length chunk)
+Leaves other source taken limit chunk k d t = Unit {0}
 
 pub record ReceivedIs (x : Received) (c : Connection) (s : Stream) (bytes chunk : List ℕ) (limit : ℕ)
     (k : Hold) (d : Connection) (t : Stream) : Type 0 where
@@ -71,7 +80,7 @@ pub record ReceivedIs (x : Received) (c : Connection) (s : Stream) (bytes chunk 
   pub goes : LeavesOpen x.found
       → Finds c s bytes (seen_of x.found (source_of x.source k chunk)) d t
       (joined k (drop x.taken chunk))
-  pub after : AfterMore x.found x.taken limit chunk k d t
+  pub after : Leaves x.found x.source x.taken limit chunk k d t
 
 -- ---- bytes that cannot be held
 
