@@ -9,16 +9,16 @@ use Rattle.wtp_connection.specs.declared.connection.Found.TheVariants as found
 use Rattle.wtp_connection.specs.declared.fault.Fault.{Fault}
 use Rattle.wtp_connection.specs.declared.stream.Stream.{Stream}
 use Rattle.wtp_connection.specs.Streams.{Seen, StreamRun, followed, run_stream, ended}
-use Rattle.wtp_connection.specs.Receiving.{seen_of, rest_after, Idle, Fits, Finds, LeavesOpen, FoundIs, more_in}
+use Rattle.wtp_connection.specs.Receiving.{IsFirst, seen_of, rest_after, Idle, Fits, Finds, LeavesOpen, FoundIs, more_in}
 use Rattle.wtp_connection.proofs.FinishLemmas.{ended_followed}
-use Rattle.wtp_hold.proofs.RunLemmas.{end_last}
+use Rattle.wtp_hold.proofs.RunLemmas.{end_last, first_before, stays_later, first_few}
 use Rattle.wtp_hold.specs.declared.hold.Hold.{Hold}
 use Rattle.wtp_hold.specs.declared.hold.Source.{Source}
 use Rattle.wtp_hold.specs.declared.hold.Source.TheVariants.{Held, Chunk}
 use Rattle.wtp_hold.specs.declared.hold.Received.{Received}
 use Rattle.wtp_hold.specs.declared.hold.NotHeld.{NotHeld}
 use Rattle.wtp_hold.specs.declared.hold.NotHeld.TheVariants.{Memory, Limit}
-use Rattle.wtp_hold.specs.Holding.{pending, joined, source_of, Reads, IsQuiet, TakesAll, Leaves, ReceivedIs, searched, least_held, IsReason, NotHeldIs, AreLast, ReceptionIs, taken_before, consumed_by, IsStill, IsRead, IsFoundInChunk}
+use Rattle.wtp_hold.specs.Holding.{is_early, pending, joined, source_of, Reads, IsQuiet, TakesAll, Leaves, ReceivedIs, searched, least_held, IsReason, NotHeldIs, AreLast, ReceptionIs, taken_before, consumed_by, IsStill, IsRead, IsFoundInChunk}
 
 -- ---- more bytes follow
 
@@ -259,12 +259,15 @@ nothing_more_held b r all d t k taken limit chunk fresh none within few quiet fi
       fits = (omega arith, quiet.idle);
       reads = reads_all k.fin b r all [] d t (joined k (drop taken chunk)) same;
       goes = λ l. same;
-      after = (refl, record {
-        all = omega arith;
-        held = is;
-        limited = subst (λ (l : List ℕ). length l ≤ limit) (sym is) few;
-        quiet = subst (λ (l : List ℕ). IsQuiet k.fin d t l) (sym is) quiet;
-      });
+      after = (
+        refl,
+        record {
+          all = omega arith;
+          held = is;
+          limited = subst (λ (l : List ℕ). length l ≤ limit) (sym is) few;
+          quiet = subst (λ (l : List ℕ). IsQuiet k.fin d t l) (sym is) quiet;
+        },
+      );
     }
 
 -- some bytes are held, and others cannot be
@@ -330,8 +333,10 @@ chunk_found x n c s rest chunk taken limit k d t at before is other e none =
   where
     nothing : pending k ≡ []
     nothing = ap (λ (l : List ℕ). drop k.used l) none ∙ drop_nil k.used
+
     consumes_all : (y : Found) → x ≡ y → consumed_by y (length rest) ≡ length rest → n ≡ length rest
     consumes_all y l f = e ∙ ap (λ (z : Found). consumed_by z (length rest)) l ∙ f
+
     all : n ≡ length rest → taken + n ≡ length chunk
     all l = let size : length rest ≡ length chunk - taken = ap (λ (i : List ℕ). length i) at ∙ length-drop taken chunk in omega arith
 
@@ -423,3 +428,37 @@ chunk_then x b c r s all items bytes chunk limit k d t none before h =
       idle = h.idle;
       reason = h.reason;
     }
+
+-- ---- what a stream brings that becomes one that is to be joined
+
+-- it was none before, and nothing was found
+pub still_later : (fin : Bool) (c : Connection) (s : Stream) (bytes : List ℕ) (d : Connection) (t : Stream) (k : Hold) → IsStill fin c s bytes d t k → is_early s ≡ false → is_early t ≡ false
+still_later fin c s bytes d t k is h = stays_later c s bytes d t k.bytes.items is.finds is.quiet.idle h
+
+pub never_brought : (fin : Bool) (c : Connection) (s : Stream) (bytes : List ℕ) (d : Connection) (t : Stream) (k j : Hold) (most : ℕ) → IsStill fin c s bytes d t k → is_early s ≡ false → is_early t ≡ true → length (pending j) ≤ most
+never_brought fin c s bytes d t k j most is h e = absurd (false≢true (sym (still_later fin c s bytes d t k is h) ∙ e))
+
+-- this was found in the bytes held
+pub few_brought : (x : Found) (fin : Bool) (c : Connection) (s : Stream) (h : Hold) (d : Connection) (t : Stream) (k : Hold) (most : ℕ) → IsRead x fin c s h d t k → (IsFirst s → length h.bytes.items ≤ most) → is_early s ≡ false → is_early t ≡ true → length (pending k) ≤ most
+few_brought x fin c s h d t k most is few before after =
+    let fewer : length h.bytes.items ≤ most = few (first_before x c s h.bytes.items fin d t is.found before after) in
+    let size : length k.bytes.items ≡ length h.bytes.items = ap (λ (l : List ℕ). length l) is.bytes in
+    omega (arith, fewer, size, length-drop k.used k.bytes.items)
+
+-- none is held
+pub none_brought : (k : Hold) (most : ℕ) → k.bytes.items ≡ [] → length (pending k) ≤ most
+none_brought k most none =
+    let size : length k.bytes.items ≡ 0 = ap (λ (l : List ℕ). length l) none in
+    omega (arith, size, length-drop k.used k.bytes.items)
+
+-- one byte is held after them
+pub one_brought : (fin : Bool) (c : Connection) (s : Stream) (bytes : List ℕ) (d : Connection) (t : Stream) (k : Hold) (items rest : List ℕ) (n old : ℕ) → IsStill fin c s bytes d t k → items ≡ k.bytes.items ++ take n rest → (IsFirst t → n ≡ 1) → IsFirst t → length items ≤ max 16 old
+one_brought fin c s bytes d t k items rest n old is e one first =
+    let size : length items ≡ length k.bytes.items + length (take n rest) = ap (λ (l : List ℕ). length l) e ∙ length-append k.bytes.items (take n rest) in
+    omega (arith, size, one first, length-take n rest, first_few t k.bytes.items first is.quiet.idle.few)
+
+-- nothing is found in the chunk
+pub chunk_later : (x : Found) (m : ℕ) (c : Connection) (s : Stream) (rest : List ℕ) (fin : Bool) (d : Connection) (t : Stream) (items : List ℕ) → FoundIs x c s rest fin d t → x ≡ found.More m → is_early s ≡ false → is_early t ≡ true → items ≡ []
+chunk_later x m c s rest fin d t items is more before after =
+    let same : FoundIs (found.More m) c s rest fin d t = subst (λ (y : Found). FoundIs y c s rest fin d t) more is in
+    absurd (false≢true (sym (stays_later c s rest d t (drop m rest) (same.goes tt) same.fits.1 before) ∙ after))

@@ -1,7 +1,10 @@
 -- What the run of a stream's bytes cannot be.
-use Rattle.std.proofs.Common.{◌≡◌, ℕ, ◌&&◌, ◌||◌, Bool, true, false, cond, List, [], ◌∷◌, ◌++◌, Option, Some, None, Result, Ok, Err, refl, sym, ap, ◌∙◌}
+use Rattle.std.proofs.Common.{◌≡◌, ℕ, ◌&&◌, ◌||◌, Bool, true, false, cond, List, [], ◌∷◌, ◌++◌, Option, Some, None, Result, Ok, Err, refl, sym, ap, ◌∙◌, ◌≤◌, length, inl, inr, ◌⊎◌}
 use Rattle.std.proofs.lemmas.Bool.{false≢true}
+use Rattle.std.proofs.lemmas.List.{append-nil}
 use Rattle.std.specs.List.{list_all}
+use Rattle.wtp_frames.specs.declared.fault.Fault.{Fault as StreamFault}
+use Rattle.wtp_frames.specs.declared.fault.Fault.TheVariants as stream
 use Rattle.wtp_frames.specs.declared.frame_type.FrameType.TheVariants as kind
 use Rattle.wtp_frames.specs.Item.{Item, Whole, Broken}
 use Rattle.wtp_frames.specs.Run.{run}
@@ -11,13 +14,15 @@ use Rattle.wtp_connection.specs.declared.connection.Connection.{Connection}
 use Rattle.wtp_connection.specs.declared.connection.Found.{Found}
 use Rattle.wtp_connection.specs.declared.connection.Found.TheVariants as found
 use Rattle.wtp_connection.specs.declared.fault.Fault.{Fault}
+use Rattle.wtp_connection.specs.declared.fault.Fault.TheVariants as fault
 use Rattle.wtp_connection.specs.declared.instructions.DecoderPlace.{DecoderPlace}
 use Rattle.wtp_connection.specs.declared.settings.PeerSettings.{PeerSettings}
 use Rattle.wtp_connection.specs.declared.stream.Purpose.{Purpose}
 use Rattle.wtp_connection.specs.declared.stream.Stream.{Stream}
-use Rattle.wtp_connection.specs.declared.stream.Stream.TheVariants.{Uni, Bi, Frames, Joining, Waiting, Session, Encoder, Decoder, Ignored, Incomplete, Over}
-use Rattle.wtp_connection.specs.Streams.{Seen, Opened, Configured, Gave, Broke, Ended, StreamRun, rests, has_frames, of_items, by_settings, received_settings, by_item, bytes_seen, by_capacity, by_place, run_open, by_purpose, by_opening, opens, run_intact, run_stream}
-use Rattle.wtp_connection.specs.Receiving.{FoundIs}
+use Rattle.wtp_connection.specs.declared.stream.Stream.TheVariants.{Uni, Bi, Frames, Joining, Waiting, Session, Encoder, Decoder, Incomplete, Over}
+use Rattle.wtp_connection.specs.Streams.{closed_by, configured, all_given, followed, by_fault, end_of, ending, ended, Seen, Ended, StreamRun, rests, has_frames, of_items, by_settings, received_settings, by_item, bytes_seen, by_capacity, by_place, run_open, by_purpose, by_opening, opens, run_intact, run_stream}
+use Rattle.wtp_connection.specs.Receiving.{IsFirst, rest_after, AreFew, Idle, Finds, all_found, FoundIs}
+use Rattle.wtp_hold.specs.Holding.{is_early}
 
 -- ---- the end of a stream is not found in its bytes
 
@@ -84,3 +89,131 @@ pub end_last : (fin last : Bool) (c : Connection) (s : Stream) (bytes : List ℕ
 end_last fin true c s bytes d t is = refl
 end_last true false c s bytes d t is = absurd (false≢true (ended_none c s bytes d t is))
 end_last false false c s bytes d t is = absurd (false≢true (ended_none c s bytes d t is))
+
+-- ---- a stream that is none of those that are to be joined becomes none but by its first bytes
+
+items_early : (c : Connection) (more : Connection → StreamRun) (items : List Item) → ((d : Connection) → is_early (more d).stream ≡ false) → is_early (of_items c more items).stream ≡ false
+items_early c more [] h = h c
+items_early c more (i ∷ items) h = item_early c (λ d. of_items d more items) i (λ d. items_early d more items h)
+  where
+    settings_early : (c : Connection) (payload : List ℕ) (more : Connection → StreamRun) (v : Result PeerSettings Fault) → ((d : Connection) → is_early (more d).stream ≡ false) → is_early (by_settings c payload more v).stream ≡ false
+    settings_early c payload more (Ok v) h = h (configured c v)
+    settings_early c payload more (Err f) h = refl
+
+    item_early : (c : Connection) (more : Connection → StreamRun) (i : Item) → ((d : Connection) → is_early (more d).stream ≡ false) → is_early (by_item c more i).stream ≡ false
+    item_early c more (Whole kind.Settings payload) h = settings_early c payload more (received_settings c payload) h
+    item_early c more (Broken f) h = h (closed_by c (fault.Stream f))
+    item_early c more other h = h c
+
+capacity_early : (c : Connection) (b : Bool) → is_early (by_capacity c b).stream ≡ false
+capacity_early c true = refl
+capacity_early c false = refl
+
+place_early : (c : Connection) (place : Option DecoderPlace) → is_early (by_place c place).stream ≡ false
+place_early c None = refl
+place_early c (Some place) = refl
+
+open_early : (c : Connection) (s : Stream) (bytes : List ℕ) → is_early s ≡ false → is_early (run_open c s bytes).stream ≡ false
+open_early c (Frames r given) bytes h = items_early c (λ d. rests d (Frames (run r bytes).reader (has_frames (run r bytes).items || given)) (run r bytes).left) (run r bytes).items (λ d. refl)
+open_early c Encoder bytes h = capacity_early c (list_all sets_zero bytes)
+open_early c (Decoder place) bytes h = place_early c (after_bytes place bytes)
+open_early c other bytes h = h
+
+intact_early : (c : Connection) (s : Stream) (bytes : List ℕ) → (IsFirst s → ⊥) → is_early s ≡ false → is_early (run_intact c s bytes).stream ≡ false
+intact_early c Uni bytes later h = absurd (later tt)
+intact_early c Bi bytes later h = absurd (later tt)
+intact_early c other bytes later h = open_early c other bytes h
+
+run_early : (c : Connection) (s : Stream) (bytes : List ℕ) → (IsFirst s → ⊥) → is_early s ≡ false → is_early (run_stream c s bytes).stream ≡ false
+run_early c s bytes later h = elim c.over as (λ b. is_early (cond b (all_given c s []) (run_intact c s bytes)).stream ≡ false) [
+  | true ↦ h
+  | false ↦ intact_early c s bytes later h
+]
+
+fault_early : (c : Connection) (o : Result (Unit {0}) StreamFault) → is_early (by_fault c o).stream ≡ false
+fault_early c (Ok u) = refl
+fault_early c (Err stream.RequestIncomplete) = refl
+fault_early c (Err other) = refl
+
+ending_early : (c : Connection) (s : Stream) (left : List ℕ) → is_early s ≡ false → is_early (ending c s left).stream ≡ false
+ending_early c (Joining n) left h = h
+ending_early c (Waiting n) left h = h
+ending_early c Incomplete left h = refl
+ending_early c Over left h = refl
+ending_early c other left h = fault_early c (end_of c other left)
+
+ended_early : (x : StreamRun) → is_early x.stream ≡ false → is_early (ended x).stream ≡ false
+ended_early x h = elim x.connection.over as (λ b. is_early (cond b x (followed x.seen (ending x.connection x.stream x.left))).stream ≡ false) [
+  | true ↦ h
+  | false ↦ ending_early x.connection x.stream x.left h
+]
+
+all_early : (fin : Bool) (c : Connection) (s : Stream) (bytes more : List ℕ) → (IsFirst s → ⊥) → is_early s ≡ false → is_early (all_found fin c s bytes more).stream ≡ false
+all_early true c s bytes more later h = ended_early (run_stream c s bytes) (run_early c s bytes later h)
+all_early false c s bytes more later h = run_early c s (bytes ++ more) later h
+
+-- one that is to be joined stays so
+early_run : (c : Connection) (s : Stream) (bytes : List ℕ) → is_early s ≡ true → is_early (run_stream c s bytes).stream ≡ true
+early_run c (Joining n) bytes h = elim c.over as (λ b. is_early (cond b (all_given c (Joining n) []) (rests c (Joining n) bytes)).stream ≡ true) [ true ↦ refl | false ↦ refl ]
+early_run c (Waiting n) bytes h = elim c.over as (λ b. is_early (cond b (all_given c (Waiting n) []) (rests c (Waiting n) bytes)).stream ≡ true) [ true ↦ refl | false ↦ refl ]
+early_run c other bytes h = absurd (false≢true h)
+
+early_ending : (c : Connection) (s : Stream) (left : List ℕ) → is_early s ≡ true → is_early (ending c s left).stream ≡ true
+early_ending c (Joining n) left h = h
+early_ending c (Waiting n) left h = h
+early_ending c other left h = absurd (false≢true h)
+
+early_ended : (x : StreamRun) → is_early x.stream ≡ true → is_early (ended x).stream ≡ true
+early_ended x h = elim x.connection.over as (λ b. is_early (cond b x (followed x.seen (ending x.connection x.stream x.left))).stream ≡ true) [
+  | true ↦ h
+  | false ↦ early_ending x.connection x.stream x.left h
+]
+
+early_all : (fin : Bool) (c : Connection) (s : Stream) (bytes more : List ℕ) → is_early s ≡ true → is_early (all_found fin c s bytes more).stream ≡ true
+early_all true c s bytes more h = early_ended (run_stream c s bytes) (early_run c s bytes h)
+early_all false c s bytes more h = early_run c s (bytes ++ more) h
+
+is_first : (s : Stream) → IsFirst s ⊎ (IsFirst s → ⊥)
+is_first Uni = inl tt
+is_first Bi = inl tt
+is_first other = inr (λ h. h)
+
+pub first_before : (x : Found) (c : Connection) (s : Stream) (bytes : List ℕ) (fin : Bool) (d : Connection) (t : Stream) → FoundIs x c s bytes fin d t → is_early s ≡ false → is_early t ≡ true → IsFirst s
+first_before x c s bytes fin d t is before after = elim (is_first s) [
+  | inl first ↦ first
+  | inr later ↦ absurd (false≢true (
+      sym (all_early fin c s bytes [] later before)
+      ∙ ap (λ (y : StreamRun). is_early y.stream) (is.finds [])
+      ∙ early_all fin d t (rest_after x bytes) [] after))
+]
+
+-- where nothing is found it becomes none
+opening_silent : (c : Connection) (s : Stream) (bytes : List ℕ) (o : Option (Purpose × List ℕ)) → is_early s ≡ false → (by_opening c s bytes o).seen ≡ [] → is_early (by_opening c s bytes o).stream ≡ false
+opening_silent c s bytes None h e = h
+opening_silent c s bytes (Some o) h e = purpose_silent (opens c o.0) e
+  where
+    purpose_silent : (x : Result (Connection × Stream) Fault) → (by_purpose c o.0 o.1 x).seen ≡ [] → is_early (by_purpose c o.0 o.1 x).stream ≡ false
+    purpose_silent (Ok x) e = absurd (cc)
+    purpose_silent (Err f) e = refl
+
+intact_silent : (c : Connection) (s : Stream) (bytes : List ℕ) → is_early s ≡ false → (run_intact c s bytes).seen ≡ [] → is_early (run_intact c s bytes).stream ≡ false
+intact_silent c Uni bytes h e = opening_silent c Uni bytes (uni_at c.endpoint bytes) h e
+intact_silent c Bi bytes h e = opening_silent c Bi bytes (bi_at c.endpoint bytes) h e
+intact_silent c other bytes h e = open_early c other bytes h
+
+run_silent : (c : Connection) (s : Stream) (bytes : List ℕ) → is_early s ≡ false → (run_stream c s bytes).seen ≡ [] → is_early (run_stream c s bytes).stream ≡ false
+run_silent c s bytes h = elim c.over as (λ b. (cond b (all_given c s []) (run_intact c s bytes)).seen ≡ [] → is_early (cond b (all_given c s []) (run_intact c s bytes)).stream ≡ false) [
+  | true ↦ λ e. h
+  | false ↦ λ e. intact_silent c s bytes h e
+]
+
+pub stays_later : (c : Connection) (s : Stream) (bytes : List ℕ) (d : Connection) (t : Stream) (left : List ℕ) → Finds c s bytes [] d t left → Idle d t left → is_early s ≡ false → is_early t ≡ false
+stays_later c s bytes d t left finds idle h =
+    let same : run_stream c s (bytes ++ []) ≡ rests d t left = finds [] ∙ ap (λ (l : List ℕ). followed [] (run_stream d t l)) (append-nil left) ∙ ap (λ (y : StreamRun). followed [] y) idle.idle in
+    sym (ap (λ (y : StreamRun). is_early y.stream) same) ∙ run_silent c s (bytes ++ []) h (ap (λ (y : StreamRun). y.seen) same)
+
+-- few bytes are left of one whose purpose is not known
+pub first_few : (s : Stream) (bytes : List ℕ) → IsFirst s → AreFew s bytes → length bytes ≤ 15
+first_few Uni bytes first few = few
+first_few Bi bytes first few = few
+first_few other bytes first few = absurd first

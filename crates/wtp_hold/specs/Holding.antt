@@ -4,6 +4,7 @@ use Rattle.wtp_connection.specs.declared.connection.Connection.{Connection}
 use Rattle.wtp_connection.specs.declared.connection.Found.{Found}
 use Rattle.wtp_connection.specs.declared.connection.Found.TheVariants as found
 use Rattle.wtp_connection.specs.declared.stream.Stream.{Stream}
+use Rattle.wtp_connection.specs.declared.stream.Stream.TheVariants.{Joining, Waiting}
 use Rattle.wtp_connection.specs.Streams.{Seen, rests, followed, run_stream, ended}
 use Rattle.wtp_connection.specs.Receiving.{seen_of, Idle, Fits, Finds, LeavesOpen, all_found, FoundIs, more_in}
 use Rattle.wtp_hold.specs.declared.hold.Hold.{Hold}
@@ -36,6 +37,12 @@ source_of (Chunk n) h chunk = drop n chunk
 abbrev pub IsWithin : Source → List ℕ → Type 0
 IsWithin Held chunk = Unit {0}
 IsWithin (Chunk n) chunk = n ≤ length chunk
+
+-- a stream that is to be joined with its session
+abbrev pub is_early : Stream → Bool
+is_early (Joining s) = true
+is_early (Waiting s) = true
+is_early other = false
 
 -- ---- one call
 

@@ -1,17 +1,9 @@
 -- How many bytes the streams of a connection hold, and how many they may (RFC 9114, section 10.5;
 -- WebTransport over HTTP/3, "Buffering Incoming Streams and Datagrams").
 use Rattle.std.specs.Prelude.{ℕ, ◌+◌, ◌-◌, ◌^◌, ◌≤◌, min, max, Bool, true, false, length}
-use Rattle.wtp_connection.specs.declared.stream.Stream.{Stream}
-use Rattle.wtp_connection.specs.declared.stream.Stream.TheVariants.{Joining, Waiting}
 use Rattle.wtp_hold.specs.declared.holdings.Holdings.{Holdings}
 use Rattle.wtp_hold.specs.declared.holdings.CountedHold.{CountedHold}
 use Rattle.wtp_hold.specs.Holding.{pending}
-
--- a stream that is to be joined with its session
-abbrev pub is_early : Stream → Bool
-is_early (Joining s) = true
-is_early (Waiting s) = true
-is_early other = false
 
 -- how many bytes are held of early streams, or of all others, and how many may be
 abbrev pub held_by : Holdings → Bool → ℕ

@@ -1,6 +1,7 @@
 //! The bytes of one stream that wait for more.
 ghost use Rattle.std.specs.Prelude.{◌≡◌, ◌+◌, ◌<◌, ◌≤◌, ◌||◌, ◌&&◌, ◌++◌, ◌==◌, max, true, false, if◌then◌else◌, [], length, drop, take, MatchOption, IfSome};
-ghost use Rattle.wtp_hold.specs.Holding.{pending, joined, ReceptionIs, consumed_by, IsStill, IsRead, IsNew, IsWithin, IsUncopied, AreLast, taken_by, source_of};
+ghost use Rattle.wtp_connection.specs.Receiving.{IsFirst};
+ghost use Rattle.wtp_hold.specs.Holding.{is_early, pending, joined, ReceptionIs, consumed_by, IsStill, IsRead, IsNew, IsWithin, IsUncopied, AreLast, taken_by, source_of};
 
 use std::alloc::Global;
 use wtp_connection::connection::{Connection, Found};
@@ -133,6 +134,8 @@ impl Hold {
         ensures uncopied { pending self.old ≡ [] → IsUncopied 0 result self.new }
         ensures held { AreLast self.new.bytes.items (joined self.old (take (taken_by result) chunk.now)) }
         ensures room { length self.new.bytes.items ≤ max limit (length (pending self.old)) }
+        ensures brought { is_early stream.old ≡ false → is_early stream.new ≡ true
+            → length (pending self.new) ≤ max 16 (length (pending self.old)) }
         ensures end { self.new.fin ≡ (self.old.fin || fin) }
         ensures fields { fields.new ≡ fields.old }
     {
@@ -233,6 +236,8 @@ impl Hold {
         ensures uncopied { IsUncopied taken result self.new }
         ensures held { AreLast self.new.bytes.items (take (taken_by result) chunk.now) }
         ensures room { length self.new.bytes.items ≤ limit }
+        ensures brought { is_early stream.old ≡ false → is_early stream.new ≡ true
+            → self.new.bytes.items ≡ [] }
         ensures end { self.new.fin ≡ self.old.fin }
         ensures fields { fields.new ≡ fields.old }
     {
@@ -260,8 +265,9 @@ impl Hold {
         })
     }
 
-    // Holds as many bytes of the chunk as what is next lacks, if it says so, or all if the stream waits
-    // for its session; no more than the limit allows. Returns how many, or nothing if memory is refused.
+    // Holds as many bytes of the chunk as what is next lacks, if it says so; all if the stream waits for
+    // its session; and one while it is not known what the stream is for. No more than the limit allows.
+    // Returns how many, or nothing if memory is refused.
     fn take_more(&mut self, stream: &Stream, rest: &[u8], limit: usize) -> Option<usize>
         requires some { 0 < length rest.now }
         requires room { length self.old.bytes.items < limit }
@@ -269,11 +275,13 @@ impl Hold {
             (λ n. self.new.bytes.items ≡ self.old.bytes.items ++ take n rest.now) }
         ensures within { IfSome result (λ n. (0 < n) × (n ≤ length rest.now)
             × (length self.old.bytes.items + n ≤ limit)) }
+        ensures first { IfSome result (λ n. IsFirst stream.now → n ≡ 1) }
         ensures used { self.new.used ≡ self.old.used }
         ensures end { self.new.fin ≡ self.old.fin }
     {
         let room = limit - self.bytes.len();
         let lacks = match stream {
+            Stream::Uni | Stream::Bi => 1,
             Stream::Joining(_) | Stream::Waiting(_) => rest.len(),
             _ => missing(self.bytes.as_slice()),
         };

@@ -1,8 +1,8 @@
 //! Bounds on the bytes that all streams of a connection hold (RFC 9114, section 10.5; WebTransport over
 //! HTTP/3, "Buffering Incoming Streams and Datagrams").
-ghost use Rattle.std.specs.Prelude.{◌≡◌, ◌≤◌, ◌||◌, [], length, take, max};
-ghost use Rattle.wtp_hold.specs.Holding.{pending, joined, ReceptionIs, IsNew, IsUncopied, AreLast, taken_by};
-ghost use Rattle.wtp_hold.specs.Holdings.{is_early as is_early_is, held_by, room_for, held_less, held_more, released, counted, IsBounded};
+ghost use Rattle.std.specs.Prelude.{◌≡◌, ◌≤◌, ◌||◌, true, false, [], length, take, max};
+ghost use Rattle.wtp_hold.specs.Holding.{is_early as is_early_is, pending, joined, ReceptionIs, IsNew, IsUncopied, AreLast, taken_by};
+ghost use Rattle.wtp_hold.specs.Holdings.{held_by, room_for, held_less, held_more, released, counted, IsBounded};
 
 use crate::hold::{Hold, NotHeld, Received};
 use std::alloc::Global;
@@ -138,7 +138,8 @@ impl CountedHold {
     /// Returns what is next on a stream, as [`Hold::receive`] does where the stream may hold what
     /// `holdings` leaves to it: at most its bound of each stream, and no more than what all others of
     /// the connection leave. Afterwards `holdings` counts what the stream holds then in place of what
-    /// it held.
+    /// it held. A stream that becomes one that waits for its session brings at most 16 bytes to those
+    /// of such streams, or what it held before; none if it held none.
     ///
     /// Pass the same `holdings` for all streams of the connection, and [`release`](Self::release) the
     /// hold of a stream that is forgotten.
@@ -171,6 +172,8 @@ impl CountedHold {
         ensures bounded { is_early_is stream.old ≡ self.old.early → is_early_is stream.new ≡ self.old.early
             → length (pending self.old.hold) ≤ held_by holdings.old self.old.early
             → IsBounded self.old.early holdings.old holdings.new }
+        ensures brought { is_early_is stream.old ≡ false → is_early_is stream.new ≡ true
+            → length (pending self.new.hold) ≤ max 16 (length (pending self.old.hold)) }
         ensures fields { fields.new ≡ fields.old }
     {
         holdings.remove(self.early, self.hold.len());

@@ -1,5 +1,5 @@
 use Rattle.std.proofs.Common.{rules, ℕ, ◌+◌, ◌≤◌, ◌<◌, List, ◌++◌, length, drop, sym, ap, subst, ◌∙◌}
-use Rattle.wtp_hold.proofs.HoldLemmas.{not_more, empty_rest, in_chunk, chunk_found, chunk_quiet, chunk_silent, chunk_within, chunk_limit, chunk_held, chunk_last, chunk_refused, none_last}
+use Rattle.wtp_hold.proofs.HoldLemmas.{not_more, empty_rest, in_chunk, chunk_found, chunk_quiet, chunk_silent, chunk_within, chunk_limit, chunk_held, chunk_last, chunk_refused, none_last, chunk_later}
 use Rattle.wtp_hold.proofs.hold.Hold.read_chunk.Goals as goal
 
 pub returns-then-left-limit-clause-received : goal.returns-then-left-limit-clause-received
@@ -25,3 +25,6 @@ returns-clause-held c = none_last _ _ c.requires.none
 
 pub returns-then-is_empty-clause-received : goal.returns-then-is_empty-clause-received
 returns-then-is_empty-clause-received c = rw c.nothing_more.ensures (chunk_held c.args.connection.now c.args.stream.now (drop c.args.taken c.args.chunk.now) c.args.chunk.now (c.args.taken + c.consumed.result) c.args.limit _ c.receive-found.new.self c.receive-found.new.stream c.requires.fresh (c.requires.none ∙ sym (empty_rest _ _ c.is_empty.result c.split_at-in-More.ensures.back c.is_empty.ensures c.if-is_empty.true)) (subst (λ (l : List ℕ). length l ≤ c.args.limit) c.split_at-in-More.ensures.back c.if-left-limit.false) (chunk_quiet c.receive-found.result c.in-More.field-0 c.consumed.result c.args.self.now.fin c.args.connection.now c.args.stream.now c.split_at.result.1.now c.args.chunk.now c.args.taken c.receive-found.new.self c.receive-found.new.stream c.split_at.ensures.back c.receive-found.ensures.found c.in-More.is c.consumed.ensures) (chunk_silent c.receive-found.result c.in-More.field-0 c.consumed.result c.args.self.now.fin c.args.connection.now c.args.stream.now c.split_at.result.1.now c.args.chunk.now c.args.taken c.receive-found.new.self c.receive-found.new.stream c.split_at.ensures.back c.receive-found.ensures.found c.in-More.is c.consumed.ensures))
+
+pub returns-in-Ok-clause-brought : goal.returns-in-Ok-clause-brought
+returns-in-Ok-clause-brought c = λ e h. chunk_later c.receive-found.result c.in-More.field-0 c.args.connection.now c.args.stream.now c.split_at.result.1.now c.args.self.now.fin c.receive-found.new.self c.receive-found.new.stream _ c.receive-found.ensures.found c.in-More.is e h

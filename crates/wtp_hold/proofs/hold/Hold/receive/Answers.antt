@@ -1,7 +1,7 @@
-use Rattle.std.proofs.Common.{rules, ◌≡◌, ◌&&◌, ℕ, List, ◌++◌, length, take, drop, ap, ◌∙◌, arith, length-drop}
+use Rattle.std.proofs.Common.{rules, ◌≡◌, ◌&&◌, ℕ, List, ◌++◌, max, length, take, drop, ap, ◌∙◌, arith, length-drop}
 use Rattle.std.proofs.lemmas.Grind.{common_steps}
 use Rattle.wtp_hold.specs.Holding.{joined, pending, taken_by}
-use Rattle.wtp_hold.proofs.HoldLemmas.{not_empty, chunk_then, held_received, still, still_quiet, empty_rest, past_least, moved, nothing_more_held, limit_reached, memory_refused, last_of_last, fewer_held, last_moved, last_of_all, taken_room}
+use Rattle.wtp_hold.proofs.HoldLemmas.{not_empty, chunk_then, held_received, still, still_quiet, empty_rest, past_least, moved, nothing_more_held, limit_reached, memory_refused, last_of_last, fewer_held, last_moved, last_of_all, taken_room, still_later, never_brought, few_brought, none_brought, one_brought}
 use Rattle.wtp_hold.proofs.hold.Hold.receive.Goals as goal
 
 pub returns-in-Some-clause-received : goal.returns-in-Some-clause-received
@@ -16,6 +16,8 @@ held-preserved-then-len-eq0 c = record {
   held = last_of_last c.read_held.new.self.bytes.items c.held.self.bytes.items (joined c.args.self.now (take c.held.taken c.args.chunk.now)) c.in-None.ensures.read.last c.held.invariant.held;
   room = omega (arith, fewer_held c.read_held.new.self.bytes.items c.held.self.bytes.items c.in-None.ensures.read.last, c.held.invariant.room);
   empty = λ e. absurd (not_empty c.held.self.bytes.items (c.held.invariant.empty e).0 (search rules));
+  early = λ e. still_later (c.held.self.fin && c.is_empty-last.result) c.held.connection c.held.stream c.held.self.bytes.items c.read_held.new.connection c.read_held.new.stream c.read_held.new.self c.in-None.ensures.read (c.held.invariant.early e);
+  first = λ f. omega (arith, c.if-len-eq0.true);
   fields = c.read_held.ensures.fields ∙ c.held.invariant.fields;
 }
 
@@ -39,6 +41,8 @@ held-preserved c =
       held = last_moved c.read_held.new.self.bytes.items c.take_more.new.self.bytes.items (pending c.args.self.now) c.args.chunk.now c.held.taken c.in-Some-take_more.n grown last;
       room = taken_room c.take_more.new.self.bytes.items c.read_held.new.self.bytes.items (drop c.held.taken c.args.chunk.now) c.in-Some-take_more.n c.args.limit (length (pending c.args.self.now)) grown c.in-Some-take_more.ensures.within.2;
       empty = λ e. absurd (not_empty c.held.self.bytes.items (c.held.invariant.empty e).0 (search rules));
+      early = λ e. still_later (c.held.self.fin && c.is_empty-last.result) c.held.connection c.held.stream c.held.self.bytes.items c.read_held.new.connection c.read_held.new.stream c.read_held.new.self c.in-None.ensures.read (c.held.invariant.early e);
+      first = λ f. one_brought (c.held.self.fin && c.is_empty-last.result) c.held.connection c.held.stream c.held.self.bytes.items c.read_held.new.connection c.read_held.new.stream c.read_held.new.self c.take_more.new.self.bytes.items (drop c.held.taken c.args.chunk.now) c.in-Some-take_more.n (length (pending c.args.self.now)) c.in-None.ensures.read grown c.in-Some-take_more.ensures.first f;
       fields = c.read_held.ensures.fields ∙ c.held.invariant.fields;
     }
 
@@ -50,3 +54,18 @@ returns-then-is_empty-clause-received c = chunk_then c.read_chunk.result c.args.
 
 pub returns-then-is_empty-clause-held : goal.returns-then-is_empty-clause-held
 returns-then-is_empty-clause-held c = last_of_all c.read_chunk.new.self.bytes.items (pending c.args.self.now) (take (taken_by c.read_chunk.result) c.args.chunk.now) c.read_chunk.ensures.held
+
+pub returns-in-Some-clause-brought : goal.returns-in-Some-clause-brought
+returns-in-Some-clause-brought c = λ e h. few_brought c.in-Some.found (c.held.self.fin && c.is_empty-last.result) c.held.connection c.held.stream c.held.self c.read_held.new.connection c.read_held.new.stream c.read_held.new.self (max 16 (length (pending c.args.self.now))) c.in-Some.ensures.read c.held.invariant.first (c.held.invariant.early e) h
+
+pub returns-then-exceeds-clause-brought : goal.returns-then-exceeds-clause-brought
+returns-then-exceeds-clause-brought c = λ e h. never_brought (c.held.self.fin && c.is_empty-last.result) c.held.connection c.held.stream c.held.self.bytes.items c.read_held.new.connection c.read_held.new.stream c.read_held.new.self c.read_held.new.self (max 16 (length (pending c.args.self.now))) c.in-None.ensures.read (c.held.invariant.early e) h
+
+pub returns-then-last-clause-brought : goal.returns-then-last-clause-brought
+returns-then-last-clause-brought c = λ e h. never_brought (c.held.self.fin && c.is_empty-last.result) c.held.connection c.held.stream c.held.self.bytes.items c.read_held.new.connection c.read_held.new.stream c.read_held.new.self c.read_held.new.self (max 16 (length (pending c.args.self.now))) c.in-None.ensures.read (c.held.invariant.early e) h
+
+pub returns-in-None-take_more-clause-brought : goal.returns-in-None-take_more-clause-brought
+returns-in-None-take_more-clause-brought c = λ e h. never_brought (c.held.self.fin && c.is_empty-last.result) c.held.connection c.held.stream c.held.self.bytes.items c.read_held.new.connection c.read_held.new.stream c.read_held.new.self c.take_more.new.self (max 16 (length (pending c.args.self.now))) c.in-None.ensures.read (c.held.invariant.early e) h
+
+pub returns-then-is_empty-clause-brought : goal.returns-then-is_empty-clause-brought
+returns-then-is_empty-clause-brought c = λ e h. none_brought c.read_chunk.new.self (max 16 (length (pending c.args.self.now))) (c.read_chunk.ensures.brought (c.held.invariant.early e) h)

@@ -1,6 +1,6 @@
-use Rattle.std.proofs.Common.{◌≡◌, ◌≤◌, ◌||◌, ◌++◌, max, [], length, take, drop, ◌+◌, ◌-◌, ◌*◌}
-use Rattle.wtp_hold.specs.Holding.{pending, joined, AreLast}
-use Rattle.wtp_connection.specs.Receiving.{Finds}
+use Rattle.std.proofs.Common.{◌≡◌, ◌≤◌, ◌||◌, ◌++◌, max, false, [], length, take, drop, ◌+◌, ◌-◌, ◌*◌}
+use Rattle.wtp_hold.specs.Holding.{is_early, pending, joined, AreLast}
+use Rattle.wtp_connection.specs.Receiving.{IsFirst, Finds}
 use Rattle.wtp_hold.proofs.hold.Hold.receive.Given as goal
 
 abbrev pub invariant-held : goal.invariant-held
@@ -12,6 +12,8 @@ invariant-held l = record {
   held : AreLast l.self.bytes.items (joined l.fn.self (take l.taken l.chunk));
   room : length l.self.bytes.items ≤ max l.limit (length (pending l.fn.self));
   empty : pending l.fn.self ≡ [] → (l.self.bytes.items ≡ []) × (l.taken ≡ 0);
+  early : is_early l.fn.stream ≡ false → is_early l.stream ≡ false;
+  first : IsFirst l.stream → length l.self.bytes.items ≤ max 16 (length (pending l.fn.self));
   fields : l.fields ≡ l.fn.fields;
 }
 

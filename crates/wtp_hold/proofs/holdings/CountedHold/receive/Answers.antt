@@ -1,5 +1,5 @@
 use Rattle.std.proofs.Common.{rules}
-use Rattle.wtp_hold.specs.Holdings.{is_early}
+use Rattle.wtp_hold.specs.Holding.{is_early}
 use Rattle.wtp_hold.proofs.HoldingLemmas.{stays_bounded}
 use Rattle.wtp_hold.proofs.holdings.CountedHold.receive.Goals as goal
 
