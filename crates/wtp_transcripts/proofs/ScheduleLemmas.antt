@@ -1,5 +1,5 @@
 -- Calls on many streams, one by one, in any order.
-use Rattle.std.proofs.Common.{◌≡◌, ℕ, ◌&&◌, ◌||◌, not, Bool, true, false, cond, eqb, List, [], ◌∷◌, ◌++◌, Option, Some, None, refl, sym, ap, subst, ◌∙◌, append_assoc, inl, inr}
+use Rattle.std.proofs.Common.{◌≡◌, ℕ, ◌&&◌, ◌||◌, not, Bool, true, false, cond, eqb, List, [], ◌∷◌, ◌++◌, Option, Some, None, Ok, Err, refl, sym, ap, subst, ◌∙◌, append_assoc, inl, inr}
 use Rattle.std.proofs.lemmas.Bool.{cases_Bool, eqb-true, false≢true}
 use Rattle.std.proofs.lemmas.List.{append-nil}
 use Rattle.wtp_frames.specs.declared.fault.Fault.{Fault as StreamFault}
@@ -14,13 +14,15 @@ use Rattle.wtp_connection.specs.declared.settings.PeerSettings.{PeerSettings}
 use Rattle.wtp_connection.specs.declared.stream.Purpose.{Purpose}
 use Rattle.wtp_connection.specs.declared.stream.Stream.{Stream}
 use Rattle.wtp_connection.specs.declared.stream.Stream.TheVariants.{Frames, Waiting, Session}
+use Rattle.wtp_connection.specs.Datagrams.{Taken, taken, after_taken}
 use Rattle.wtp_connection.specs.Opening.{is_for_critical}
 use Rattle.wtp_connection.specs.Receiving.{seen_of, rest_after, FoundIs, settings_of, settings_after}
-use Rattle.wtp_connection.specs.Streams.{accepts, closed_by, Seen, bytes_seen, StreamRun, rests, followed, run_stream, ended, Joined, by_interim, tells_open, tells_interim, stops}
+use Rattle.wtp_connection.specs.Streams.{without_resumption, configured, accepts, closed_by, Seen, bytes_seen, StreamRun, rests, followed, run_stream, ended, Joined, by_interim, tells_open, tells_interim, stops}
+use Rattle.wtp_connection.specs.Settings.{values_of, with_defaults}
 use Rattle.wtp_connection.proofs.FinishLemmas.{ended_followed}
 use Rattle.wtp_transcripts.specs.Transcript.{read, Held, called, end_seen, Table, with_held, is_opened as flag}
-use Rattle.wtp_transcripts.specs.Calls.{Call, Arrived, Returned, Interim, Made, CallIs, CallStep, Accepts, Stops, At, Leads, calls_on, AreReads, arrived, end_arrived, found_in, IsIdle}
-use Rattle.wtp_transcripts.proofs.AlikeLemmas.{Goes, goes_same, closed_goes, RunsAlike, read_alike, opened_first, plain_agree}
+use Rattle.wtp_transcripts.specs.Calls.{Call, Arrived, Returned, Interim, Tunnelled, Made, CallIs, CallStep, Accepts, Stops, Datagram, EarlyDataRefused, At, Leads, calls_on, AreReads, arrived, end_arrived, found_in, IsIdle}
+use Rattle.wtp_transcripts.proofs.AlikeLemmas.{Goes, goes_same, closed_goes, RunsAlike, read_alike, opened_first, peer_flags, plain_agree}
 use Rattle.wtp_transcripts.proofs.CallLemmas.{call_finds}
 use Rattle.wtp_transcripts.proofs.IndependentLemmas.{call_alike, its_place, flags_open, Opens, accepted_opens, stopped_opens}
 use Rattle.wtp_transcripts.proofs.OnceLemmas.{or_twice, or_none}
@@ -115,6 +117,7 @@ call_follows : (x : Call) (c d : Connection) (h k : Held) → CallIs x c h d k �
 call_follows (Arrived bytes fin) c d h k is = subst (λ (e : Connection). Follows c e) (sym is.0) (goes_follows c c (goes_same c c) (λ o. o))
 call_follows (Returned x) c d h k is = found_follows x c d h.stream k.stream h.left h.fin is.0 is.3
 call_follows (Interim f) c d h k is = subst (λ (e : Connection). Follows c e) (sym (ap (λ (z : Joined). z.0) is)) (goes_follows c (tells_interim c h.stream).0 (told_goes c.over h.stream c) (λ o. told_over c.over h.stream c o ∙ o))
+call_follows Tunnelled c d h k is = subst (λ (e : Connection). Follows c e) (sym is.0) (goes_follows c c (goes_same c c) (λ o. o))
 call_follows (Made e f) c d h k is = subst (λ (z : Connection). Follows c z) (sym (ap (λ (z : Joined). z.0) is)) (goes_follows c (called c h.stream e).0 (call_alike e h.stream c c refl refl (its_place c h.stream e)).goes (λ o. call_over e c h.stream o))
 
 opens_follows : (c d : Connection) → Opens c d → (c.over ≡ true → d.over ≡ true) → Follows c d
@@ -124,6 +127,34 @@ opens_follows c d h o = record {
   flags = λ e p f. h.flags p f;
   plain = h.plain;
 }
+
+-- a datagram
+datagram_opens : (c : Connection) (x : Taken) → Opens c (after_taken c x)
+datagram_opens c (Ok d) = record { endpoint = refl; flags = λ p e. e; plain = λ e. e }
+datagram_opens c (Err f) = record { endpoint = (closed_goes c c f).endpoint; flags = λ p. flags_open c (closed_by c f) p ((closed_goes c c f).flags p); plain = (closed_goes c c f).plain }
+
+datagram_over : (c : Connection) (bytes : List ℕ) → c.over ≡ true → (after_taken c (taken c bytes)).over ≡ true
+datagram_over c bytes e = none_taken (c.over || not c.endpoint.datagrams) _ (ap (λ (b : Bool). b || not c.endpoint.datagrams) e) ∙ e
+  where
+    none_taken : (b : Bool) (x : Taken) → b ≡ true → (after_taken c (cond {A = Taken} b (Ok None) x)).over ≡ c.over
+    none_taken true x h = refl
+    none_taken false x h = absurd (false≢true h)
+
+datagram_follows : (c : Connection) (bytes : List ℕ) → Follows c (after_taken c (taken c bytes))
+datagram_follows c bytes = opens_follows c (after_taken c (taken c bytes)) (datagram_opens c (taken c bytes)) (datagram_over c bytes)
+
+-- a session that is resumed without 0-RTT
+refused_opens : (c : Connection) → Opens c (without_resumption c)
+refused_opens c = elim c.resumed as (λ b. Opens c (cond b (configured c (with_defaults (values_of []))) c)) [
+  | true ↦ record { endpoint = refl; flags = λ p e. sym (peer_flags c (with_defaults (values_of [])) p) ∙ e; plain = λ e. refl }
+  | false ↦ record { endpoint = refl; flags = λ p e. e; plain = λ e. e }
+]
+
+refused_over : (c : Connection) → (without_resumption c).over ≡ c.over
+refused_over c = elim c.resumed as (λ b. (cond b (configured c (with_defaults (values_of []))) c).over ≡ c.over) [ true ↦ refl | false ↦ refl ]
+
+refused_follows : (c : Connection) → Follows c (without_resumption c)
+refused_follows c = opens_follows c (without_resumption c) (refused_opens c) (λ e. refused_over c ∙ e)
 
 -- ---- one stream
 
@@ -158,6 +189,7 @@ ends_once [] r = refl
 ends_once (Arrived bytes fin ∷ calls) r = ap (λ (l : List ℕ). l ++ arrived calls) (r.0 refl) ∙ ends_once calls r.1
 ends_once (Returned x ∷ calls) r = ends_once calls r
 ends_once (Interim f ∷ calls) r = absurd r
+ends_once (Tunnelled ∷ calls) r = absurd r
 ends_once (Made e f ∷ calls) r = absurd r
 
 -- a call, and what is found after it
@@ -205,6 +237,7 @@ reads_its (Arrived bytes fin) c d h m calls k is a r = reads_arrived c h bytes f
     r (subst (λ (z : Held). AreReads z.fin calls) (sym is.1) a.1))))
 reads_its (Returned x) c d h m calls k is a r = reads_returned x c d h m calls k is.0 is.1 is.2 a (r (subst (λ (b : Bool). AreReads b calls) (sym is.2) a))
 reads_its (Interim f) c d h m calls k is a r = absurd a
+reads_its Tunnelled c d h m calls k is a r = absurd a
 reads_its (Made e f) c d h m calls k is a r = absurd a
 
 -- ---- all streams
@@ -233,6 +266,12 @@ interleaved (Accepts m ∷ steps) c d t u n q l o a i =
 interleaved (Stops p ∷ steps) c d t u n q l o a i =
     reads_before c (stops c p).0 (t n) (calls_on n steps) (u n) q (opens_follows c (stops c p).0 (stopped_opens (is_for_critical p && not c.over) c (fault.Stream stream.ClosedCriticalStream) (Some (fault.Stream stream.ClosedCriticalStream))) (λ e. ap (λ (z : Connection). z.over) (stopped_over (is_for_critical p) c.over c (closed_by c (fault.Stream stream.ClosedCriticalStream)) (Some (fault.Stream stream.ClosedCriticalStream)) e) ∙ e)) (
     interleaved steps (stops c p).0 d t u n ((stopped_opens (is_for_critical p && not c.over) c (fault.Stream stream.ClosedCriticalStream) (Some (fault.Stream stream.ClosedCriticalStream))).plain q) l o a i)
+interleaved (Datagram bytes ∷ steps) c d t u n q l o a i =
+    reads_before c (after_taken c (taken c bytes)) (t n) (calls_on n steps) (u n) q (datagram_follows c bytes) (
+    interleaved steps (after_taken c (taken c bytes)) d t u n ((datagram_follows c bytes).plain q) l o a i)
+interleaved (EarlyDataRefused ∷ steps) c d t u n q l o a i =
+    reads_before c (without_resumption c) (t n) (calls_on n steps) (u n) q (refused_follows c) (
+    interleaved steps (without_resumption c) d t u n ((refused_follows c).plain q) l o a i)
 interleaved (At m x ∷ steps) c d t u n q (e, k, is, l) o a i = elim (cases_Bool (eqb m n)) [
   | inl same ↦
       let one : m ≡ n = eqb-true m n same in

@@ -5,16 +5,19 @@ use Rattle.wtp_connection.specs.declared.connection.Connection.{Connection}
 use Rattle.wtp_connection.specs.declared.connection.Found.{Found}
 use Rattle.wtp_connection.specs.declared.fault.Fault.{Fault}
 use Rattle.wtp_connection.specs.declared.stream.Purpose.{Purpose}
+use Rattle.wtp_connection.specs.Datagrams.{taken, after_taken}
+use Rattle.wtp_connection.specs.Opening.{connected}
 use Rattle.wtp_connection.specs.Receiving.{seen_of, rest_after, FoundIs, settings_of, settings_after}
-use Rattle.wtp_connection.specs.Streams.{accepts, Seen, rests, tells_interim, stops}
+use Rattle.wtp_connection.specs.Streams.{without_resumption, accepts, Seen, rests, tells_interim, stops}
 use Rattle.wtp_transcripts.specs.Transcript.{read, Held, Event, called, Table, with_held}
 
 -- bytes come, which may be the last, and are held; `receive` returns this; HEADERS are said to be those
--- of an interim response; or another call is made, which returns this
+-- of an interim response, or to make the stream a tunnel; or another call is made, which returns this
 pub data Call : Type 0 where
   Arrived : List ℕ → Bool → Call
   Returned : Found → Call
   Interim : Option Fault → Call
+  Tunnelled : Call
   Made : Event → Option Fault → Call
 
 -- What it does to the connection and to a stream.
@@ -28,12 +31,16 @@ CallIs (Returned x) c h d k =
     × (k.fin ≡ h.fin)
     × (settings_of d ≡ settings_after x c)
 CallIs (Interim f) c h d k = (d, k.stream, f) ≡ tells_interim c h.stream
+CallIs Tunnelled c h d k = (d ≡ c) × (k ≡ record h { stream = connected h.stream })
 CallIs (Made e f) c h d k = (d, k.stream, f) ≡ called c h.stream e
 
--- the peer opens a stream, or asks to stop an own one; or a call on a stream
+-- the peer opens a stream, asks to stop an own one, sends a datagram, or does not accept 0-RTT; or a call
+-- on a stream
 pub data CallStep : Type 0 where
   Accepts : ℕ → CallStep
   Stops : Purpose → CallStep
+  Datagram : List ℕ → CallStep
+  EarlyDataRefused : CallStep
   At : ℕ → Call → CallStep
 
 -- These steps lead from a connection and its streams to those after them.
@@ -41,6 +48,8 @@ abbrev pub Leads : List CallStep → Connection → Table → Connection → Tab
 Leads [] c t d u = (d ≡ c) × ((k : ℕ) → u k ≡ t k)
 Leads (Accepts n ∷ steps) c t d u = Leads steps (accepts c n).0 t d u
 Leads (Stops p ∷ steps) c t d u = Leads steps (stops c p).0 t d u
+Leads (Datagram bytes ∷ steps) c t d u = Leads steps (after_taken c (taken c bytes)) t d u
+Leads (EarlyDataRefused ∷ steps) c t d u = Leads steps (without_resumption c) t d u
 Leads (At n x ∷ steps) c t d u =
     (e : Connection) × (k : Held) × CallIs x c (t n) e k × Leads steps e (with_held n k t) d u
 

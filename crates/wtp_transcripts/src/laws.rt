@@ -27,7 +27,8 @@ pub fn calls_find_everything()
 /// before another one is. While no error ends the connection, and nothing but `receive` is called on a
 /// stream, what its calls find is what is in all of its bytes, joined, as the connection was before
 /// them, once they find nothing more. A stream that waits gives nothing and loses no byte; one of an
-/// open session gives exactly its bytes, and its end. The connection resumes no session, or SETTINGS
+/// open session gives exactly its bytes, and its end. Between the calls datagrams may come, and other
+/// streams may give interim responses and become tunnels. The connection resumes no session, or SETTINGS
 /// came.
 pub fn calls_may_be_interleaved()
     ensures seen { (steps : List CallStep) (c d : Connection) (t u : Table) (n : ℕ)
