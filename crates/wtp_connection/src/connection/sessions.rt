@@ -55,10 +55,12 @@ impl Connection {
     }
 
     /// Returns what is known of a session if the caller has no stream with its ID: at a server, that
-    /// its request is to come, or that it came and is over. It is `Refused` if the request did not
-    /// come before others that are 512 places ahead of it, and `Impossible` if no client opens a
-    /// bidirectional stream with this ID (RFC 9000, section 2.1). A client that has no stream with
-    /// the ID did not ask for the session.
+    /// its request is to come, or that it came and is over. It may be `Refused` if another request came
+    /// that is 512 places or more ahead of its own, also if its own came. It is `Impossible` if no
+    /// client opens a bidirectional stream with this ID (RFC 9000, section 2.1).
+    ///
+    /// A client keeps the stream of each session that it asked for, or passes `Known::Over` itself:
+    /// without a stream the answer is `Impossible`, which ends the connection.
     pub fn known_without_stream(&self, session: u64) -> Known
         ensures { result ≡ known_alone self.now session }
     {
