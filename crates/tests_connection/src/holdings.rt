@@ -153,6 +153,46 @@ fn all_streams_together_hold_no_more_than_the_bounds(rt: HostRuntime) {
     }
 }
 
+/// Returns how many bytes are held of streams that wait and of others, where no more can be. Each
+/// stream begins with `start`; 61,440 bytes follow.
+fn most_held(alloc: Global, id: u64, start: &[u8]) -> (usize, usize) {
+    let mut connection = connection_of(true, true);
+    let mut holdings = Holdings::new(1_048_576);
+    let chunk = [0; 4096];
+    for turn in 0..9u64 {
+        let mut stream = Stream::of_peer(id.saturating_add(turn.saturating_mul(4)));
+        let mut hold = CountedHold::new(alloc);
+        pass(
+            &mut connection,
+            &mut stream,
+            &mut hold,
+            start,
+            &mut holdings,
+        );
+        connection.join(&mut stream, Known::Coming);
+        for _piece in 0..15u32 {
+            if !pass(
+                &mut connection,
+                &mut stream,
+                &mut hold,
+                &chunk,
+                &mut holdings,
+            ) {
+                return (holdings.early(), holdings.others());
+            }
+        }
+    }
+    (0, 0)
+}
+
+#[test]
+fn bounds_of_all_streams_by_default(rt: HostRuntime) {
+    let waiting = most_held(rt.alloc(), 2, &[0x40, 0x54, 0x00]);
+    assert_same(&rt, waiting, (65_536, 0), "streams that wait");
+    let headers = most_held(rt.alloc(), 0, &[0x01, 0x80, 0x01, 0x00, 0x00]);
+    assert_same(&rt, headers, (0, 262_144), "HEADERS of 65,536 bytes");
+}
+
 #[test]
 fn bytes_that_are_given_or_forgotten_count_no_longer(rt: HostRuntime) {
     let mut connection = connection_of(true, true);
