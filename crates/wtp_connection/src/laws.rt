@@ -1,6 +1,6 @@
 //! Laws of the definitions that the contracts cite. Each function does nothing: its contract is the
 //! law.
-ghost use Rattle.std.specs.Prelude.{◌≡◌, ℕ, ◌+◌, ◌/◌, ◌%◌, ◌<◌, ◌≤◌, Bool, true, false, List, [], ◌∷◌, ◌++◌, length, Some, None, Ok, Err};
+ghost use Rattle.std.specs.Prelude.{◌≡◌, ℕ, ◌+◌, ◌/◌, ◌%◌, ◌^◌, ◌<◌, ◌≤◌, Bool, true, false, List, [], ◌∷◌, ◌++◌, length, Some, None, Ok, Err};
 ghost use Rattle.wtp_core.specs.Varint.{Encodes};
 ghost use Rattle.wtp_frames.specs.declared.endpoint.Endpoint.{Endpoint};
 ghost use Rattle.wtp_frames.specs.declared.fault.Fault.TheVariants as stream;
@@ -12,6 +12,7 @@ ghost use Rattle.wtp_core.specs.declared.error.scope.ErrorScope.TheVariants as s
 ghost use Rattle.wtp_connection.specs.declared.connection.Connection.{Connection};
 ghost use Rattle.wtp_connection.specs.declared.connection.Known.TheVariants as known;
 ghost use Rattle.wtp_connection.specs.Fault.{code_of, scope_of};
+ghost use Rattle.wtp_qpack.specs.Integer.{IsInt};
 ghost use Rattle.wtp_wire.specs.Front.{EncodesPair};
 ghost use Rattle.wtp_wire.specs.SettingId.{IsReserved};
 ghost use Rattle.wtp_wire.specs.Settings.{ArePairs, IsCutSetting};
@@ -26,7 +27,7 @@ ghost use Rattle.wtp_connection.specs.declared.connection.Found.{Found};
 ghost use Rattle.wtp_connection.specs.declared.stream.Stream.{Stream};
 ghost use Rattle.wtp_connection.specs.Receiving.{AreReturned};
 ghost use Rattle.wtp_connection.specs.declared.instructions.DecoderPlace.TheVariants.{Between};
-ghost use Rattle.wtp_connection.specs.Instructions.{AreCancellations, after_bytes};
+ghost use Rattle.wtp_connection.specs.Instructions.{BeginsCancellation, AreCancellations, after_bytes};
 ghost use Rattle.wtp_connection.specs.Requests.{has_begun, IsNotFarBehind, beginning_of, beginning_at, begun_by};
 ghost use Rattle.wtp_connection.specs.declared.requests.Beginning.TheVariants as beginning;
 ghost use Rattle.wtp_connection.specs.Settings.{AreValid, values_of, is_refused, with_defaults, settings_in};
@@ -196,10 +197,13 @@ pub fn calls_end()
 {}
 
 /// Cancellations of streams are read on a decoder stream of QPACK, whatever encodings the IDs have.
-/// The first other instruction after them is not.
+/// The first other instruction after them is not, nor one whose ID is 2^62 or more.
 pub fn cancelled_streams_are_read()
     ensures cancelled { (ids s : List ℕ) → AreCancellations ids s
         → after_bytes Between s ≡ Some Between }
     ensures other { (ids s more : List ℕ) (b : ℕ) → AreCancellations ids s → (b / 64 ≡ 1 → ⊥)
         → after_bytes Between (s ++ (b ∷ more)) ≡ None }
+    ensures large { (ids s t more : List ℕ) (id : ℕ) → AreCancellations ids s
+        → BeginsCancellation t → IsInt 6 id t → 2 ^ 62 ≤ id
+        → after_bytes Between (s ++ (t ++ more)) ≡ None }
 {}
