@@ -64,13 +64,13 @@ pub record IsHeld (n limit : ℕ) (chunk : List ℕ) (k : Hold) (d : Connection)
   pub limited : length (pending k) ≤ limit
   pub quiet : IsQuiet k.fin d t (pending k)
 
--- all of the chunk was taken, if an error was found in it, or at the end of the stream after it; an
--- error in the bytes that are held leaves what was not taken before
+-- an error in the chunk itself takes all of it; one in the bytes that are held may leave some
 abbrev pub TakesAll : Source → ℕ → List ℕ → Type 0
 TakesAll Held n chunk = Unit {0}
 TakesAll (Chunk m) n chunk = n ≡ length chunk
 
--- after More, an error and the end of the stream nothing is held that was consumed or is not needed
+-- after More all of the chunk was taken, and the bytes that are left are held; after an error nothing is
+-- held; nor is at the end of the stream, where all of the chunk was taken
 abbrev pub Leaves : Found → Source → ℕ → ℕ → List ℕ → Hold → Connection → Stream → Type 0
 Leaves (found.More n) source taken limit chunk k d t = (n ≡ 0) × IsHeld taken limit chunk k d t
 Leaves (found.Fault f) source taken limit chunk k d t = (pending k ≡ []) × TakesAll source taken chunk

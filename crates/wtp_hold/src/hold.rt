@@ -27,8 +27,8 @@ pub struct Received {
     /// What its offsets count from.
     pub source: Source,
     /// How many bytes of the chunk were taken. The next call is to be made with the others. At the end
-    /// of the stream all of them were, and so they were if a fault was found in the chunk. A fault in
-    /// the bytes held leaves the rest of the chunk, in which nothing more is found.
+    /// of the stream all of them were, and so they were if a fault was found in the chunk itself. A
+    /// fault in the bytes held may leave some of the chunk.
     pub taken: usize,
 }
 

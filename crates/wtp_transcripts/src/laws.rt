@@ -188,8 +188,8 @@ pub fn valid_connections_go_on()
 /// What the streams of a peer that keeps the rules give does not depend on the order between them: if
 /// the same bytes come on each stream, and the same is known of its session at last, each gives the
 /// same, and no error ends the connection. A stream that is reset, abandoned or told of the end of its
-/// session has the same events in both orders. Interim responses are no events here: of what comes
-/// between two of them `calls_may_be_interleaved` speaks.
+/// session has the same events in both orders. Interim responses, tunnels and datagrams are no events
+/// here: of what comes between two of them `calls_may_be_interleaved` speaks.
 pub fn order_makes_no_difference()
     ensures seen { (e : Endpoint) (t : Table) (n : ℕ) (first second : Transcript) → NoneWaits t
         → KeepsRules e t first → ((k : ℕ) → SameOn e t k first second) → StopsNone second
