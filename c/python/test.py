@@ -313,8 +313,8 @@ def version(header):
     checks.same("WT_VERSION", found["VERSION"], f'"{text}"')
     checks.same("WT_VERSION_NUMBER", int(found["VERSION_NUMBER"], 0), number)
     checks.same("wt_version", lib.wt_version(), number)
-    described = (FOLDER / "wtransport.pc").read_text(encoding="utf-8")
-    checks.same("wtransport.pc", re.findall(r"^Version: (.*)$", described, re.M), [text])
+    described = (FOLDER / "wtransport-uninstalled.pc").read_text(encoding="utf-8")
+    checks.same("pkg-config", re.findall(r"^Version: (.*)$", described, re.M), [text])
     file = FOLDER / f"libwtransport.so.{text}"
     soname = f"libwtransport.so.{text.split('.')[0]}"
     checks.same("file", (FOLDER / "libwtransport.so").resolve(), file.resolve())
