@@ -311,6 +311,12 @@ def events_of(side, stream, content, fin, states, opened=None, interims=0):
     "request" or "session"; `interims` says how many sections of a response are those of interim
     ones."""
     model = Model(side, content, fin, states, interims)
+    read_stream(model, stream, opened)
+    return model.events, model.purpose
+
+
+def read_stream(model, stream, opened):
+    """Has a model read a stream by its ID and by what this end opened it for."""
     if opened == "request":
         model.message()
     elif opened:
@@ -319,4 +325,3 @@ def events_of(side, stream, content, fin, states, opened=None, interims=0):
         model.unidirectional()
     else:
         model.bidirectional()
-    return model.events, model.purpose

@@ -12,7 +12,8 @@ from dataclasses import dataclass
 from connection_model import CRITICAL, Side, events_of
 from connection_rows import frame, number
 from recorded_connections import number_at
-from replay import around_error, by_streams, ends_connection, events_in, is_start, replayed
+from random_streams import Batch, StreamOfScript, mixed
+from replay import around_error, by_streams, ends_connection, events_in, is_start
 
 # How many scripts a run of the program reads.
 BATCH = 2000
@@ -161,35 +162,14 @@ def is_critical(stream, content):
 
 
 @dataclass
-class Stream:
-    """A stream of a script: its ID, its bytes, whether it ends after them, who opened it, what it
-    has to give, what it is for, whether it is reset or abandoned at last, and how many of its
+class Stream(StreamOfScript):
+    """A stream with who opened it, what it has to give, what it is for, and how many of its
     sections are said to be those of interim responses."""
 
-    stream: int
-    content: bytes
-    fin: bool
     opened: str
     events: list
     purpose: str
-    left_by: str = ""
     interims: int = 0
-
-    def lines(self, pieces):
-        """Returns the lines of its pieces, which end at these offsets, and of its end."""
-        digits, lines, start = self.content.hex(), [], 0
-        for end in pieces:
-            lines.append(f"bytes {self.stream} {digits[2 * start : 2 * end]}\n")
-            start = end
-        if self.fin and lines:
-            lines[-1] = "end" + lines[-1][5:]
-        elif self.fin:
-            lines.append(f"end {self.stream}\n")
-        if self.left_by:
-            # (a stream is there from its first line on)
-            lines = lines or [f"bytes {self.stream}\n"]
-            lines.append(f"{self.left_by} {self.stream}\n")
-        return lines
 
 
 class Script:
@@ -264,23 +244,11 @@ class Script:
                 lines.append(f"session {stream.stream} {OWN_SESSION}\n")
         return "".join(lines)
 
-    def cuts(self, stream):
-        """Returns the offsets at which the pieces of a stream end."""
-        size = len(stream.content)
-        if not size:
-            return []
-        if self.rng.random() < 0.2:
-            return list(range(1, size + 1))
-        places = {self.rng.randrange(1, size + 1) for _ in range(self.rng.randrange(6))}
-        return sorted({*places, size})
-
     def text(self):
         """Returns the script of the three ways."""
         rng = self.rng
-        whole = [
-            stream.lines([len(stream.content)] if stream.content else []) for stream in self.streams
-        ]
-        cut = [stream.lines(self.cuts(stream)) for stream in self.streams]
+        whole = [stream.lines(stream.end()) for stream in self.streams]
+        cut = [stream.lines(stream.cuts(rng)) for stream in self.streams]
         known = [f"known {session} {state}\n" for session, state in self.states.items()]
         order = list(range(len(self.streams)))
         rng.shuffle(order)
@@ -290,11 +258,7 @@ class Script:
             lists = [parts[index] for index in order]
             lists.insert(place, known)
             ways.append("".join("".join(lines) for lines in lists))
-        parts = [*cut, *([line] for line in known)]
-        turns = [index for index, lines in enumerate(parts) for _ in lines]
-        rng.shuffle(turns)
-        left = [iter(lines) for lines in parts]
-        ways.append("".join([next(left[index]) for index in turns]))
+        ways.append(mixed(rng, [*cut, *([line] for line in known)]))
         head = self.head()
         return "".join(head + way for way in ways)
 
@@ -348,26 +312,7 @@ def has_no_headers(stream):
     return stream.stream % 4 == 0 and not stream.opened and not names & {"frame", "skipped"}
 
 
-class Batch:
-    """Some scripts."""
-
-    def __init__(self, seed, first, count):
-        self.scripts = [(f"{seed} {n}", Script(f"{seed} {n}")) for n in range(first, first + count)]
-
-    def fault(self, program, first_line=""):
-        """Returns what is wrong with the first script that does not give what it has to, where all
-        scripts come after this line."""
-        texts = [script.text() for _, script in self.scripts]
-        found = replayed(program, "".join([first_line, *texts]))
-        if len(found) != 3 * len(texts):
-            return f"{len(found)} connections, where {3 * len(texts)} were wanted"
-        for index, (seed, script) in enumerate(self.scripts):
-            ways = [events_in(lines) for lines in found[3 * index : 3 * index + 3]]
-            if fault := script.fault(ways):
-                return f"the script of seed {seed!r}: {fault}\n{texts[index]}"
-        return None
-
-
 def batch_of(seed, first, count):
     """Returns the scripts of a seed from this one on."""
-    return Batch(seed, first, count)
+    names = [f"{seed} {n}" for n in range(first, first + count)]
+    return Batch([(name, Script(name)) for name in names], events_in)

@@ -13,7 +13,7 @@ from connection_model import CONNECT, CRITICAL, DATAGRAM, DEFAULTS, Side, WEBTRA
 from connection_rows import frame
 from nghttp3_sections import fields_of
 from random_scripts import Maker, is_critical
-from replay import replayed
+from random_streams import Batch, StreamOfScript, mixed
 from session_events import Sessions, decision_in, difference, is_done, is_last, is_start
 from session_events import of_streams, session_events_in
 from session_model import CLOSE, DRAIN, Surroundings, session_events
@@ -190,32 +190,12 @@ def piece_start(piece):
 
 
 @dataclass
-class Stream:
-    """A stream of a script: its ID, its bytes, whether it ends after them, who opened it and what
-    it asked for, and whether it is reset or abandoned at last."""
+class Stream(StreamOfScript):
+    """A stream with who opened it, what it asked for, and the session that it was opened in."""
 
-    stream: int
-    content: bytes
-    fin: bool
     opened: str = None
     asked: str = None
     session: int = None
-    left_by: str = ""
-
-    def lines(self, ends):
-        """Returns the lines of its pieces, which end at these offsets, and of its end."""
-        digits, lines, start = self.content.hex(), [], 0
-        for end in ends:
-            lines.append(f"bytes {self.stream} {digits[2 * start : 2 * end]}\n")
-            start = end
-        if self.fin and lines:
-            lines[-1] = "end" + lines[-1][5:]
-        elif self.fin:
-            lines.append(f"end {self.stream}\n")
-        if self.left_by:
-            lines = lines or [f"bytes {self.stream}\n"]
-            lines.append(f"{self.left_by} {self.stream}\n")
-        return lines
 
     def first_line(self):
         if self.opened == "request":
@@ -301,21 +281,11 @@ class SessionScript:
         enabled = " webtransport" if self.side.webtransport else " connect"
         return f"{side}{enabled}\n" + "".join(stream.first_line() for stream in self.streams)
 
-    def cuts(self, stream):
-        """Returns the offsets at which the pieces of a stream end."""
-        size = len(stream.content)
-        if not size:
-            return []
-        if self.rng.random() < 0.2:
-            return list(range(1, size + 1))
-        places = {self.rng.randrange(1, size + 1) for _ in range(self.rng.randrange(6))}
-        return sorted({*places, size})
-
     def text(self):
         """Returns the script of the three ways."""
         rng = self.rng
-        whole = [s.lines([len(s.content)] if s.content else []) for s in self.streams]
-        cut = [stream.lines(self.cuts(stream)) for stream in self.streams]
+        whole = [stream.lines(stream.end()) for stream in self.streams]
+        cut = [stream.lines(stream.cuts(rng)) for stream in self.streams]
         others = [[f"answer {stream} {status}\n"] for stream, status in self.answers.items()]
         others.append([f"datagram {content.hex()}\n" for content in self.datagrams])
         order = list(range(len(cut) + len(others)))
@@ -324,11 +294,7 @@ class SessionScript:
         for parts in (whole, cut):
             lists = [*parts, *others]
             ways.append(head + "".join("".join(lists[index]) for index in order))
-        parts = [*cut, *others]
-        turns = [index for index, lines in enumerate(parts) for _ in lines]
-        rng.shuffle(turns)
-        left = [iter(lines) for lines in parts]
-        ways.append(head + "".join([next(left[index]) for index in turns]))
+        ways.append(head + mixed(rng, [*cut, *others]))
         return "".join(ways)
 
     # ---- what they have to give
@@ -504,21 +470,7 @@ class SessionScript:
         return [s for kind in CRITICAL for s in purposes.get(kind, []) if len(purposes[kind]) > 1]
 
 
-class SessionBatch:
-    """Some scripts."""
-
-    def __init__(self, seed, first, count):
-        names = [f"sessions {seed} {n}" for n in range(first, first + count)]
-        self.scripts = [(name, SessionScript(name)) for name in names]
-
-    def fault(self, program):
-        """Returns what is wrong with the first script that does not give what it has to."""
-        texts = [script.text() for _, script in self.scripts]
-        found = replayed(program, "".join(["sessions\n", *texts]))
-        if len(found) != 3 * len(texts):
-            return f"{len(found)} connections, where {3 * len(texts)} were wanted"
-        for index, (seed, script) in enumerate(self.scripts):
-            ways = [session_events_in(lines) for lines in found[3 * index : 3 * index + 3]]
-            if fault := script.fault(ways):
-                return f"the script of seed {seed!r}: {fault}\n{texts[index]}"
-        return None
+def batch_of(seed, first, count):
+    """Returns the scripts of a seed from this one on."""
+    names = [f"sessions {seed} {n}" for n in range(first, first + count)]
+    return Batch([(name, SessionScript(name)) for name in names], session_events_in)

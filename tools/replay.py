@@ -9,7 +9,6 @@ import subprocess
 from pathlib import Path
 
 TOP = Path(__file__).resolve().parent.parent
-CRATE = TOP / "crates/wt_replay"
 # How long a run may take.
 SECONDS = 600
 # The first line of a script whose pieces are passed once each.
@@ -18,14 +17,15 @@ PUSHED = "push\n"
 SESSIONS = "sessions\n"
 
 
-def built_program():
-    """Returns the path of the program, which is built if there is none."""
+def built_program(name):
+    """Returns the path of a program, which PROGRAM may say, and which is built otherwise."""
     if program := os.environ.get("PROGRAM"):
         return os.path.abspath(program)
-    ran = subprocess.run(["rt", "run"], cwd=CRATE, input=b"", capture_output=True, check=False)
+    crate = TOP / "crates" / name
+    ran = subprocess.run(["rt", "run"], cwd=crate, input=b"", capture_output=True, check=False)
     if ran.returncode:
         raise SystemExit(ran.stdout.decode() + ran.stderr.decode())
-    return str(CRATE / "out/wt_replay")
+    return str(crate / "out" / name)
 
 
 def replayed(program, script):

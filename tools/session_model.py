@@ -11,7 +11,7 @@ from dataclasses import dataclass, field
 
 from connection_model import DATA, HEADERS, HTTP2, MAX_IDLE, MAX_INTERIMS, MAX_SECTION, Model
 from connection_model import CANCEL_PUSH, GOAWAY, MAX_PUSH_ID, PUSH_PROMISE, SETTINGS, WEBTRANSPORT
-from connection_model import SESSION_FAULTS, number_in
+from connection_model import SESSION_FAULTS, number_in, read_stream
 from message_rules import expected_length, is_malformed_request, is_malformed_response
 from message_rules import is_malformed_section, status_of
 
@@ -322,14 +322,7 @@ def session_events(side, stream, content, fin, around, opened=None, asked=None):
     """Returns the events of a stream. `opened` is what this end opened it for: "request", which
     asked for something, or "session"."""
     model = SessionModel(side, stream, content, fin, around, asked)
-    if opened == "request":
-        model.message()
-    elif opened:
-        model.application()
-    elif stream % 4 >= 2:
-        model.unidirectional()
-    else:
-        model.bidirectional()
+    read_stream(model, stream, opened)
     return model.translated(), model.purpose
 
 
