@@ -1,3 +1,4 @@
+pub mod Budget
 pub mod Fault
 pub mod Settings
 pub mod Resumption

@@ -1,6 +1,6 @@
 //! Laws of the definitions that the contracts cite. Each function does nothing: its contract is the
 //! law.
-ghost use Rattle.std.specs.Prelude.{◌≡◌, ℕ, ◌+◌, ◌/◌, ◌%◌, ◌^◌, ◌<◌, ◌≤◌, Bool, true, false, List, [], ◌∷◌, ◌++◌, length, Some, None, Ok, Err};
+ghost use Rattle.std.specs.Prelude.{◌≡◌, ℕ, ◌+◌, ◌/◌, ◌%◌, ◌^◌, ◌<◌, ◌≤◌, Bool, true, false, List, [], ◌∷◌, ◌++◌, length, take, Some, None, Ok, Err};
 ghost use Rattle.wtp_core.specs.Varint.{Encodes};
 ghost use Rattle.wtp_frames.specs.declared.endpoint.Endpoint.{Endpoint};
 ghost use Rattle.wtp_frames.specs.declared.fault.Fault.TheVariants as stream;
@@ -9,6 +9,8 @@ ghost use Rattle.wtp_frames.specs.declared.endpoint.Side.TheVariants.{Client, Se
 ghost use Rattle.wtp_frames.specs.Grammar.{Frame, written, IsFrame, Interim, ValidInterim};
 ghost use Rattle.wtp_frames.specs.Start.{between, awaiting, message_reader};
 ghost use Rattle.wtp_core.specs.declared.error.scope.ErrorScope.TheVariants as scope;
+ghost use Rattle.wtp_connection.specs.Budget.{Fate, budget_of, is_exceeded, after_all, answers_in, resets_in};
+ghost use Rattle.wtp_connection.specs.declared.budget.RequestBudget.{RequestBudget};
 ghost use Rattle.wtp_connection.specs.declared.connection.Connection.{Connection};
 ghost use Rattle.wtp_connection.specs.declared.connection.Known.TheVariants as known;
 ghost use Rattle.wtp_connection.specs.Fault.{code_of, scope_of};
@@ -167,6 +169,19 @@ pub fn interim_responses_are_found()
         (c, Over, Some (fault.Stream stream.TooManyInterim)) }
     ensures code { code_of (fault.Stream stream.TooManyInterim) ≡ 0x0107 }
     ensures scope { scope_of (fault.Stream stream.TooManyInterim) ≡ scope.Stream }
+{}
+
+/// Requests that are reset before their answer are too many as soon as more of them were than were
+/// answered and the excess together, and not before. From then on nothing changes.
+pub fn excessive_resets_are_reported()
+    ensures found { (excess n : ℕ) (fates : List Fate) → length fates < 2 ^ 64
+        → answers_in (take n fates) + excess < resets_in (take n fates)
+        → is_exceeded (after_all (budget_of excess) fates) ≡ true }
+    ensures alone { (excess : ℕ) (fates : List Fate) → length fates < 2 ^ 64
+        → is_exceeded (after_all (budget_of excess) fates) ≡ true
+        → (n : ℕ) × (answers_in (take n fates) + excess < resets_in (take n fates)) }
+    ensures kept { (b : RequestBudget) (fates : List Fate) → is_exceeded b ≡ true
+        → after_all b fates ≡ b }
 {}
 
 /// It is known of each request whether it has begun, unless one that has is 512 places or more ahead of
