@@ -2,6 +2,7 @@ pub mod AlikeLemmas
 pub mod CallLemmas
 pub mod CutLemmas
 pub mod IndependentLemmas
+pub mod JoinedLemmas
 pub mod OnceLemmas
 pub mod OrderLemmas
 pub mod OverLemmas
