@@ -14,7 +14,7 @@ use Rattle.wtp_frames.specs.declared.reader.Step.{Step}
 use Rattle.wtp_frames.specs.declared.reader.Step.TheVariants as step
 use Rattle.wtp_frames.specs.Item.{Item, Whole, Byte, TooLarge, Broken}
 use Rattle.wtp_frames.specs.Run.{Run, is_failed, run}
-use Rattle.wtp_frames.specs.Reading.{Gives, StepIs, IsPast, items_of, left_after, slice}
+use Rattle.wtp_frames.specs.Reading.{Gives, StepIs, IsPast, slice}
 use Rattle.wtp_frames.specs.Start.{between}
 use Rattle.wtp_frames.specs.declared.endpoint.Endpoint.{Endpoint}
 use Rattle.wtp_connection.specs.declared.fault.Fault.{Fault}

@@ -1,10 +1,9 @@
 -- The bytes that come between two events may come at once.
-use Rattle.std.proofs.Common.{◌≡◌, ℕ, ◌||◌, Bool, true, false, List, [], ◌∷◌, ◌++◌, refl, sym, ap, subst, ◌∙◌}
+use Rattle.std.proofs.Common.{◌≡◌, ℕ, ◌||◌, Bool, true, false, List, [], ◌∷◌, ◌++◌, refl, ap, subst, ◌∙◌}
 use Rattle.std.proofs.lemmas.Bool.{false≢true}
 use Rattle.wtp_connection.specs.declared.connection.Connection.{Connection}
 use Rattle.wtp_transcripts.specs.Transcript.{Held, Event, Came, Told, Interim, Tunnelled, Reset, Overflowed, Abandoned, Outcome, after_seen, happens, alone, before_all, joined, EndsOnce}
 use Rattle.wtp_transcripts.proofs.OnceLemmas.{after_twice, or_twice, came, came_more}
-use Rattle.wtp_transcripts.proofs.TranscriptLemmas.{and_then}
 
 -- two pieces, one after the other
 pieces_alone : (events : List Event) (c : Connection) (h : Held) (a b : List ℕ) (old fin : Bool) → ((h.fin || old) ≡ true → b ≡ []) → alone c h (Came (a ++ b) (old || fin) ∷ events) ≡ alone c h (Came a old ∷ Came b fin ∷ events)

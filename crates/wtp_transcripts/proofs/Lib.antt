@@ -7,6 +7,8 @@ pub mod OnceLemmas
 pub mod OrderLemmas
 pub mod OverLemmas
 pub mod PlaceLemmas
+pub mod ResumedLemmas
+pub mod ResumedStepLemmas
 pub mod SessionLemmas
 pub mod ScheduleLemmas
 pub mod ShowLemmas

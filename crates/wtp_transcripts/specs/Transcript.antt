@@ -7,13 +7,15 @@ use Rattle.wtp_connection.specs.declared.connection.Found.TheVariants as found
 use Rattle.wtp_connection.specs.declared.connection.Known.{Known}
 use Rattle.wtp_connection.specs.declared.connection.Known.TheVariants as known
 use Rattle.wtp_connection.specs.declared.fault.Fault.{Fault}
+use Rattle.wtp_connection.specs.declared.settings.PeerSettings.{PeerSettings}
 use Rattle.wtp_connection.specs.declared.stream.Purpose.{Purpose}
 use Rattle.wtp_connection.specs.declared.stream.Purpose.TheVariants as «for»
 use Rattle.wtp_connection.specs.declared.stream.Stream.{Stream}
 use Rattle.wtp_connection.specs.declared.stream.Stream.TheVariants.{Joining, Waiting}
 use Rattle.wtp_connection.specs.Opening.{connected, is_for_critical}
+use Rattle.wtp_connection.specs.Resumption.{loses_capacity, loses_limits}
 use Rattle.wtp_connection.specs.Receiving.{seen_of, rest_after, FoundIs}
-use Rattle.wtp_connection.specs.Streams.{connection_of, accepts, Seen, Broke, Ended, StreamRun, rests, run_stream, ended, most_waiting, Joined, joins, tells_interim, resets, stops, overflows, abandons}
+use Rattle.wtp_connection.specs.Streams.{connection_of, resuming_of, accepts, Seen, Configured, Broke, Ended, StreamRun, rests, run_stream, ended, most_waiting, Joined, joins, tells_interim, resets, stops, overflows, abandons}
 
 -- ---- one stream is read
 
@@ -219,6 +221,10 @@ pub record State : Type 0 where
 abbrev pub begin : Endpoint → Table → State
 begin e t = record { connection = connection_of e; streams = t }
 
+-- the same, where a client resumes a session with these settings of the server
+abbrev pub resumes : Endpoint → PeerSettings → Table → State
+resumes e v t = record { connection = resuming_of e v; streams = t }
+
 -- what an event of stream n does
 abbrev pub at_stream : State → ℕ → Event → Outcome
 at_stream x n e = happens x.connection (x.streams n) e
@@ -377,3 +383,19 @@ abbrev pub SameOn : Endpoint → Table → ℕ → Transcript → Transcript →
 SameOn e t n first second =
     (events_of n second ≡ events_of n first)
     ⊎ (SameBytes e t n first second ⊎ SameCalls t n first second)
+
+-- ---- a session that is resumed
+
+-- SETTINGS that lose something of what is remembered
+abbrev pub loses : PeerSettings → Seen → Bool
+loses old (Configured v payload) = loses_capacity old v || loses_limits old v
+loses old other = false
+
+abbrev pub loses_any : PeerSettings → List (ℕ × Seen) → Bool
+loses_any old [] = false
+loses_any old (x ∷ seen) = loses old x.1 || loses_any old seen
+
+-- No SETTINGS of the peer lose anything of what is remembered, as far as they are found where no session
+-- is resumed.
+abbrev pub KeepsRemembered : Endpoint → PeerSettings → Table → Transcript → Type 0
+KeepsRemembered e v t steps = loses_any v (seen_in (begin e t) steps) ≡ false

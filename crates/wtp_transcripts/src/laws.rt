@@ -6,13 +6,14 @@ ghost use Rattle.wtp_frames.specs.declared.endpoint.Endpoint.{Endpoint};
 ghost use Rattle.wtp_connection.specs.declared.connection.Connection.{Connection};
 ghost use Rattle.wtp_connection.specs.declared.connection.Found.{Found};
 ghost use Rattle.wtp_connection.specs.declared.connection.Known.TheVariants as known;
+ghost use Rattle.wtp_connection.specs.declared.settings.PeerSettings.{PeerSettings};
 ghost use Rattle.wtp_connection.specs.declared.stream.Purpose.TheVariants as «for»;
 ghost use Rattle.wtp_connection.specs.declared.stream.Stream.{Stream};
 ghost use Rattle.wtp_connection.specs.declared.stream.Stream.TheVariants.{Uni, Bi, Waiting, Session};
 ghost use Rattle.wtp_connection.specs.Receiving.{FoundIs, seen_of, consumed_in};
-ghost use Rattle.wtp_connection.specs.Streams.{connection_of, Opened, bytes_seen};
+ghost use Rattle.wtp_connection.specs.Streams.{connection_of, resuming_of, without_resumption, Opened, bytes_seen};
 ghost use Rattle.wtp_transcripts.specs.Calls.{CallStep, Leads, calls_on, AreReads, arrived, end_arrived, found_in, IsIdle};
-ghost use Rattle.wtp_transcripts.specs.Transcript.{read, AreCalls, seen_by, Held, Event, Came, Told, happens, alone, bytes_in, end_in, last_said, at_once, joined, EndsOnce, IsPiece, IsRead, IsStill, Table, Step, On, Transcript, State, begin, next, after, found_by, seen_in, on_stream, events_of, end_seen, places, waiting_among, AreDistinct, AreOf, HasPlaces, KeepsRules, StopsNone, AllHavePlaces, WaitAmong, NoneWaits, SameOn};
+ghost use Rattle.wtp_transcripts.specs.Transcript.{read, AreCalls, seen_by, Held, Event, Came, Told, happens, alone, bytes_in, end_in, last_said, at_once, joined, EndsOnce, IsPiece, IsRead, IsStill, Table, Step, On, Transcript, State, begin, next, after, found_by, seen_in, on_stream, events_of, end_seen, places, waiting_among, AreDistinct, AreOf, HasPlaces, KeepsRules, StopsNone, AllHavePlaces, WaitAmong, NoneWaits, SameOn, resumes, KeepsRemembered};
 
 /// A loop of calls that goes on until one returns `More` finds all that is in the bytes, and at the end
 /// of the stream if it comes after them. The connection, the stream and the bytes that are left are
@@ -217,4 +218,41 @@ pub fn order_makes_no_difference()
     ensures over { (e : Endpoint) (t : Table) (first second : Transcript) → NoneWaits t
         → KeepsRules e t first → ((k : ℕ) → SameOn e t k first second) → StopsNone second
         → AllHavePlaces (begin e t) second → (after (begin e t) second).connection.over ≡ false }
+{}
+
+/// On a connection that resumes a session and that no error ends, everything is found as on one that
+/// resumes none, on all streams and in the same order. It goes on if that one does, and all SETTINGS keep
+/// what is remembered (RFC 9114, section 7.2.4.2). If the server does not accept 0-RTT nothing is
+/// remembered.
+pub fn resumption_changes_nothing_else()
+    ensures seen { (e : Endpoint) (v : PeerSettings) (t : Table) (steps : Transcript)
+        → (after (resumes e v t) steps).connection.over ≡ false
+        → seen_in (resumes e v t) steps ≡ seen_in (begin e t) steps }
+    ensures streams { (e : Endpoint) (v : PeerSettings) (t : Table) (steps : Transcript) (n : ℕ)
+        → (after (resumes e v t) steps).connection.over ≡ false
+        → (after (resumes e v t) steps).streams n ≡ (after (begin e t) steps).streams n }
+    ensures over { (e : Endpoint) (v : PeerSettings) (t : Table) (steps : Transcript)
+        → (after (resumes e v t) steps).connection.over ≡ false
+        → (after (begin e t) steps).connection.over ≡ false }
+    ensures kept { (e : Endpoint) (v : PeerSettings) (t : Table) (steps : Transcript)
+        → (after (begin e t) steps).connection.over ≡ false → KeepsRemembered e v t steps
+        → (after (resumes e v t) steps).connection.over ≡ false }
+    ensures refused { (e : Endpoint) (v : PeerSettings)
+        → without_resumption (resuming_of e v) ≡ connection_of e }
+{}
+
+/// `order_makes_no_difference` holds of a connection that resumes a session too, if the SETTINGS of the
+/// server keep what is remembered.
+pub fn order_makes_no_difference_to_a_resumed_session()
+    ensures seen { (e : Endpoint) (v : PeerSettings) (t : Table) (n : ℕ) (first second : Transcript)
+        → NoneWaits t → KeepsRules e t first → ((k : ℕ) → SameOn e t k first second)
+        → StopsNone second → AllHavePlaces (begin e t) first → AllHavePlaces (begin e t) second
+        → KeepsRemembered e v t first
+        → on_stream n (seen_in (resumes e v t) second)
+        ≡ on_stream n (seen_in (resumes e v t) first) }
+    ensures over { (e : Endpoint) (v : PeerSettings) (t : Table) (first second : Transcript)
+        → NoneWaits t → KeepsRules e t first → ((k : ℕ) → SameOn e t k first second)
+        → StopsNone second → AllHavePlaces (begin e t) first → AllHavePlaces (begin e t) second
+        → KeepsRemembered e v t first
+        → (after (resumes e v t) second).connection.over ≡ false }
 {}
