@@ -2,6 +2,8 @@ pub mod HeadLemmas
 pub mod NumberLemmas
 pub mod RunLemmas
 pub mod MoveLemmas
+pub mod FirstLemmas
+pub mod FirstCutLemmas
 pub mod StepLemmas
 pub mod OrderLemmas
 pub mod CutLemmas

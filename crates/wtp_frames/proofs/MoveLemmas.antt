@@ -242,7 +242,7 @@ stuck_payload r bytes k id n start z same e w is less =
       gives = gives_nothing r bytes;
     }
 
-place_end : (n start : ℕ) (bytes : List ℕ) → start ≤ length bytes → n ≤ length bytes - start → bytes_at n (drop start bytes) ≡ Some (slice start (start + n) bytes, drop (start + n) bytes)
+pub place_end : (n start : ℕ) (bytes : List ℕ) → start ≤ length bytes → n ≤ length bytes - start → bytes_at n (drop start bytes) ≡ Some (slice start (start + n) bytes, drop (start + n) bytes)
 place_end n start bytes w l =
     let size : (start + n) - start ≡ n = omega arith in
     bytes_there n (drop start bytes) (omega (arith, length-drop start bytes, w, l)) ∙ rw (size, drop-drop n start bytes) refl

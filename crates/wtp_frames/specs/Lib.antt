@@ -5,6 +5,7 @@ pub mod Item
 pub mod Run
 pub mod Interim
 pub mod Reading
+pub mod First
 pub mod Grammar
 pub mod Start
 pub mod Pieces
