@@ -1,5 +1,7 @@
 pub mod EndLemmas
 pub mod FinishLemmas
+pub mod FirstLemmas
+pub mod FirstCutLemmas
 pub mod InstructionLemmas
 pub mod OpeningLemmas
 pub mod SettingFrameLemmas

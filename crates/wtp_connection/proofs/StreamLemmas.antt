@@ -97,7 +97,7 @@ waiting_found c n bytes e = record { fits = (omega arith, record { idle = intact
 
 -- ---- the application's bytes
 
-seen_append : (xs ys : List ℕ) → bytes_seen (xs ++ ys) ≡ bytes_seen xs ++ bytes_seen ys
+pub seen_append : (xs ys : List ℕ) → bytes_seen (xs ++ ys) ≡ bytes_seen xs ++ bytes_seen ys
 seen_append xs ys = ap (λ (l : List Item). map Gave l) (map-append Byte xs ys) ∙ map-append Gave (map Byte xs) (map Byte ys)
 
 session_run : (c : Connection) (n : ℕ) (bytes : List ℕ) → c.over ≡ false → run_stream c (Session n) bytes ≡ all_given c (Session n) (bytes_seen bytes)
@@ -135,11 +135,11 @@ item_same (Whole kind.Settings payload) c f g h = settings_same (received_settin
 item_same (Broken x) c f g h = ap (λ (y : StreamRun). followed (Broke (fault.Stream x) ∷ []) y) (h (closed_by c (fault.Stream x)))
 item_same other c f g h = ap (λ (y : StreamRun). followed (Gave other ∷ []) y) (h c)
 
-items_append : (xs ys : List Item) (c : Connection) (f : Connection → StreamRun) → of_items c f (xs ++ ys) ≡ of_items c (λ d. of_items d f ys) xs
+pub items_append : (xs ys : List Item) (c : Connection) (f : Connection → StreamRun) → of_items c f (xs ++ ys) ≡ of_items c (λ d. of_items d f ys) xs
 items_append [] ys c f = refl
 items_append (i ∷ xs) ys c f = item_same i c (λ d. of_items d f (xs ++ ys)) (λ d. of_items d (λ e. of_items e f ys) xs) (λ d. items_append xs ys d f)
 
-items_bytes : (bytes : List ℕ) (c : Connection) (f : Connection → StreamRun) → of_items c f (map Byte bytes) ≡ followed (bytes_seen bytes) (f c)
+pub items_bytes : (bytes : List ℕ) (c : Connection) (f : Connection → StreamRun) → of_items c f (map Byte bytes) ≡ followed (bytes_seen bytes) (f c)
 items_bytes [] c f = refl
 items_bytes (b ∷ bytes) c f = ap (λ (y : StreamRun). followed (Gave (Byte b) ∷ []) y) (items_bytes bytes c f)
 
@@ -147,14 +147,14 @@ pub or_true : (b : Bool) → true ≡ (b || true)
 or_true true = refl
 or_true false = refl
 
-frames_append : (xs ys : List Item) (g : Bool) → (has_frames (xs ++ ys) || g) ≡ (has_frames ys || (has_frames xs || g))
+pub frames_append : (xs ys : List Item) (g : Bool) → (has_frames (xs ++ ys) || g) ≡ (has_frames ys || (has_frames xs || g))
 frames_append [] ys g = refl
 frames_append (Whole k payload ∷ xs) ys g = or_true (has_frames ys)
 frames_append (TooLarge n ∷ xs) ys g = or_true (has_frames ys)
 frames_append (Byte b ∷ xs) ys g = frames_append xs ys g
 frames_append (Broken f ∷ xs) ys g = frames_append xs ys g
 
-no_frames : (bytes : List ℕ) → has_frames (map Byte bytes) ≡ false
+pub no_frames : (bytes : List ℕ) → has_frames (map Byte bytes) ≡ false
 no_frames [] = refl
 no_frames (b ∷ bytes) = no_frames bytes
 

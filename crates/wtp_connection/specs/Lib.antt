@@ -5,5 +5,6 @@ pub mod Instructions
 pub mod Opening
 pub mod Streams
 pub mod Receiving
+pub mod First
 pub mod Requests
 pub mod Datagrams

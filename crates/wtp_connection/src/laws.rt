@@ -26,6 +26,7 @@ ghost use Rattle.wtp_connection.specs.Streams.{with_control, configured, receive
 ghost use Rattle.wtp_connection.specs.declared.connection.Found.{Found};
 ghost use Rattle.wtp_connection.specs.declared.stream.Stream.{Stream};
 ghost use Rattle.wtp_connection.specs.Receiving.{AreReturned};
+ghost use Rattle.wtp_connection.specs.First.{first_seen, with_more};
 ghost use Rattle.wtp_connection.specs.declared.instructions.DecoderPlace.TheVariants.{Between};
 ghost use Rattle.wtp_connection.specs.Instructions.{BeginsCancellation, AreCancellations, after_bytes};
 ghost use Rattle.wtp_connection.specs.Requests.{has_begun, IsNotFarBehind, beginning_of, beginning_at, begun_by};
@@ -187,6 +188,13 @@ pub fn sessions_without_a_stream_are_known()
     ensures known { (e : Endpoint) (ids : List ℕ) (s : ℕ) → e.side ≡ Server → s % 4 ≡ 0
         → ((id : ℕ) → has_begun ids id ≡ true → id % 4 ≡ 0 → id < s + 2048)
         → known_alone (accepted_all e ids) s ≡ over_if (has_begun ids s) }
+{}
+
+/// What a call finds first does not depend on the bytes that follow, but for the length of a piece of
+/// DATA: what is found, the states after it and the bytes consumed are the same.
+pub fn first_finds_may_be_cut()
+    ensures { (c : Connection) (s : Stream) (a b : List ℕ)
+        → first_seen c s (a ++ b) ≡ with_more (first_seen c s a) b }
 {}
 
 /// A loop of calls ends: of `n` bytes at most `n + 2` calls return something before one returns `More`
