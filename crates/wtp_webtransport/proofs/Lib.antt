@@ -3,3 +3,8 @@ pub mod CapsuleLemmas
 pub mod HalfLemmas
 pub mod CutLemmas
 pub mod ContentLemmas
+pub mod SectionLemmas
+pub mod FoundLemmas
+pub mod CallLemmas
+pub mod StopLemmas
+pub mod GivenLemmas

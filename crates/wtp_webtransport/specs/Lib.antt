@@ -7,5 +7,6 @@ pub mod Events
 pub mod Streams
 pub mod Sessions
 pub mod Receiving
+pub mod Calls
 pub mod Joining
 pub mod Endings

@@ -1,9 +1,10 @@
 //! Laws of the definitions that the contracts cite. Each function does nothing: its contract is the
 //! law.
-ghost use Rattle.std.specs.Prelude.{◌≡◌, ◌||◌, ◌+◌, ◌<◌, ◌≤◌, ℕ, Bool, true, false, List, ◌∷◌, ◌++◌, length, Option};
+ghost use Rattle.std.specs.Prelude.{◌≡◌, ◌||◌, ◌+◌, ◌<◌, ◌≤◌, ℕ, Bool, true, false, List, ◌∷◌, ◌++◌, length, drop, Option};
 ghost use Rattle.wtp_webtransport.specs.declared.connection.Connection.{Connection};
 ghost use Rattle.wtp_webtransport.specs.declared.stream.Stream.{Stream};
 ghost use Rattle.wtp_webtransport.specs.Receiving.{Outcome, Receives};
+ghost use Rattle.wtp_webtransport.specs.Calls.{Stops, course_of, plain, moved, IsSession, IsPiece, HasMemory};
 ghost use Rattle.wtp_webtransport.specs.Endings.{KeepsSession, KeepsAfter, accepts_session};
 ghost use Rattle.wtp_webtransport.specs.Joining.{resets, stops_half, abandons, joins};
 ghost use Rattle.wtp_webtransport.specs.Streams.{is_held, answered};
@@ -30,6 +31,24 @@ pub fn sessions_end_once()
     ensures join { (c : Connection) (s : Stream) (k : Known) → KeepsAfter s (joins c s k) }
     ensures answer { (s : Stream) (status : ℕ) → is_held (answered s status).part
         ≡ (is_held s.part || accepts_session s.part status) }
+{}
+
+/// The bytes of a stream may be cut anywhere, but for the content of a session (see
+/// [`content_of_sessions_may_be_cut`]). A call that needs more bytes, or waits, changes nothing: the
+/// calls with what it left and the bytes that follow return what one over all bytes returns. What a call
+/// returns otherwise does not depend on the bytes that follow, but for the length of a piece: neither
+/// does the state of the connection and of the stream. All but which of the rules that a malformed
+/// section breaks is named.
+pub fn calls_may_be_cut()
+    ensures stops { (limit : ℕ) (c : Connection) (s : Stream) (a b : List ℕ) (fin : Bool) (o p q : Outcome)
+        → (IsSession s.part → ⊥) → Receives limit c s a false o → course_of o.1 ≡ Stops
+        → Receives limit o.2 o.3 (drop o.0 a ++ b) fin p → HasMemory p
+        → Receives limit c s (a ++ b) fin q → HasMemory q
+        → plain q ≡ moved o.0 (length (a ++ b)) p }
+    ensures given { (limit : ℕ) (c : Connection) (s : Stream) (a b : List ℕ) (fin : Bool) (o q : Outcome)
+        → (IsSession s.part → ⊥) → Receives limit c s a false o → HasMemory o
+        → (course_of o.1 ≡ Stops → ⊥) → (IsPiece o.1 → ⊥)
+        → Receives limit c s (a ++ b) fin q → HasMemory q → plain q ≡ moved 0 (length (a ++ b)) o }
 {}
 
 /// The content of a session may be cut anywhere, also where allocation failed: whatever follows the
