@@ -1,16 +1,16 @@
 -- What is found first, where more bytes follow.
-use Rattle.std.proofs.Common.{◌≡◌, ℕ, ◌<◌, ◌==◌, ◌&&◌, ◌||◌, Bool, true, false, cond, ltb, List, [], ◌∷◌, ◌++◌, map, length, Option, Some, None, Result, Ok, Err, refl, sym, ap, ◌∙◌, arith, inl, inr}
-use Rattle.std.proofs.lemmas.Bool.{cases_Bool}
+use Rattle.std.proofs.Common.{◌≡◌, ℕ, ◌+◌, ◌<◌, ◌==◌, ◌&&◌, ◌||◌, Bool, true, false, cond, ltb, List, [], ◌∷◌, ◌++◌, map, length, Option, Some, None, Result, Ok, Err, refl, subst, sym, ap, ◌∙◌, arith, inl, inr}
+use Rattle.std.proofs.lemmas.Bool.{cases_Bool, ltb-true}
 use Rattle.std.proofs.lemmas.List.{append-nil}
 use Rattle.std.specs.List.{list_all}
 use Rattle.std.proofs.lemmas.List.Folds.{list_all-append}
 use Rattle.wtp_frames.specs.declared.frame_type.FrameType.{FrameType}
 use Rattle.wtp_frames.specs.declared.frame_type.FrameType.TheVariants as kind
 use Rattle.wtp_frames.specs.declared.reader.Reader.{Reader}
-use Rattle.wtp_frames.specs.Item.{Item, Whole, Byte}
+use Rattle.wtp_frames.specs.Item.{Item, Whole, Byte, TooLarge, Broken}
 use Rattle.wtp_frames.specs.Run.{Run, stays, preceded}
 use Rattle.wtp_frames.specs.First.{first, longer as frames_longer, with_more as frames_more}
-use Rattle.wtp_frames.proofs.FirstCutLemmas.{first_more, Shape, Nothing, Frame, Section, Fails, Piece, first_shape}
+use Rattle.wtp_frames.proofs.FirstCutLemmas.{first_more, Shape, Nothing, Frame, Section, Fails, Piece, first_shape, is_piece, after, InData, first_in_data, NextPiece as Data, next_piece}
 use Rattle.wtp_connection.specs.declared.fault.Fault.{Fault}
 use Rattle.wtp_connection.specs.declared.settings.PeerSettings.{PeerSettings}
 use Rattle.wtp_connection.specs.declared.instructions.DecoderPlace.{DecoderPlace}
@@ -19,9 +19,10 @@ use Rattle.wtp_connection.specs.declared.stream.Stream.{Stream}
 use Rattle.wtp_connection.specs.declared.stream.Stream.TheVariants.{Uni, Bi, Frames, Joining, Waiting, Session, Encoder, Decoder, Ignored, Incomplete, Over}
 use Rattle.wtp_connection.specs.declared.connection.Connection.{Connection}
 use Rattle.wtp_connection.specs.Instructions.{sets_zero, then_bytes, after_bytes}
-use Rattle.wtp_connection.specs.Streams.{opens, received_settings, Seen, StreamRun, rests, followed, all_given, by_settings, of_items, has_frames, of_frames, bytes_seen, by_capacity, by_place}
+use Rattle.wtp_connection.specs.Streams.{abandons, opens, received_settings, Seen, Gave, StreamRun, rests, followed, all_given, by_settings, of_items, has_frames, of_frames, bytes_seen, by_capacity, by_place}
+use Rattle.wtp_connection.specs.Opening.{remaining_of, over_from, is_control, is_critical}
 use Rattle.wtp_connection.specs.Receiving.{IsFirst, opening_of}
-use Rattle.wtp_connection.specs.First.{first_purpose, first_opening, first_seen, longer, by_seen, with_more}
+use Rattle.wtp_connection.specs.First.{first_purpose, first_opening, first_seen, in_piece, longer, by_seen, with_more}
 use Rattle.wtp_connection.proofs.InstructionLemmas.{after_append}
 use Rattle.wtp_connection.proofs.OpeningLemmas.{opening_more}
 use Rattle.wtp_connection.proofs.StreamLemmas.{items_append, items_bytes, frames_append, no_frames, seen_append}
@@ -42,7 +43,7 @@ piece_frames bytes c g r left =
     ∙ bytes_frames bytes c g (stays r left)
     ∙ ap (λ (l : List Seen). record { seen = l; connection = c; stream = Frames r g; left = left }) (append-nil (bytes_seen bytes))
 
-piece_seen : (bytes : List ℕ) (x : StreamRun) (b : List ℕ) → 0 < length bytes → by_seen (bytes_seen bytes) x b ≡ longer x b
+pub piece_seen : (bytes : List ℕ) (x : StreamRun) (b : List ℕ) → 0 < length bytes → by_seen (bytes_seen bytes) x b ≡ longer x b
 piece_seen [] x b l = absurd (omega (arith, l))
 piece_seen (c ∷ bytes) x b l = refl
 
@@ -145,3 +146,179 @@ seen_more c s a b = elim (cases_Bool c.over) [
   | inl over ↦ discards_more c s a b (λ l. first_over c s l over)
   | inr intact ↦ open_more s c a b intact
 ]
+
+-- ---- a piece that goes on with the next byte
+
+abbrev pub IsFrames : Stream → Type 0
+IsFrames (Frames r g) = Unit {0}
+IsFrames other = ⊥
+
+-- the bytes of it that are next, and the state after them
+pub record NextPiece (c : Connection) (t : Stream) (b : List ℕ) : Type 0 where
+  pub piece : List ℕ
+  pub rest : List ℕ
+  pub stream : Stream
+  pub some : 0 < length piece
+  pub parts : b ≡ piece ++ rest
+  pub is : first_seen c t b ≡ record { seen = bytes_seen piece; connection = c; stream = stream; left = rest }
+  pub left : IsFrames t → remaining_of t ≡ length piece + remaining_of stream
+  pub abandoned : is_critical t ≡ false → abandons c stream ≡ abandons c t
+
+no_piece : (p : List ℕ) → 0 < length p → bytes_seen p ≡ [] → ⊥
+no_piece [] l e = omega (arith, l)
+no_piece (b ∷ p) l e = cc e
+
+abbrev PieceNext : StreamRun → List ℕ → Type 0
+PieceNext x b = (p : List ℕ) → 0 < length p → x.seen ≡ bytes_seen p → in_piece x ≡ true → NextPiece x.connection x.stream b
+
+-- where something else is found first
+abbrev is_byte : List Seen → Bool
+is_byte (Gave (Byte b) ∷ seen) = true
+is_byte other = false
+
+byte_first : (p : List ℕ) → 0 < length p → is_byte (bytes_seen p) ≡ true
+byte_first [] l = absurd (omega (arith, l))
+byte_first (b ∷ p) l = refl
+
+no_byte : (x : StreamRun) (b : List ℕ) → is_byte x.seen ≡ false → PieceNext x b
+no_byte x b n p l e i = absurd (cc (sym n ∙ ap is_byte e ∙ byte_first p l))
+
+in_stream : (x y : StreamRun) (b : List ℕ) → x ≡ y → PieceNext y b → PieceNext x b
+in_stream x y b e h = subst (λ (z : StreamRun). PieceNext z b) (sym e) h
+
+over_frames : (r s : Reader) (g : Bool) → over_from (Frames r g) ≡ over_from (Frames s g)
+over_frames r s true = refl
+over_frames r s false = refl
+
+abbrev gone_if : Bool → Connection → Stream → Connection × Stream
+gone_if k c t = cond k (c, t) (c, over_from t)
+
+abandoned_if : (k : Bool) (c : Connection) (r s : Reader) (g : Bool) → k ≡ false → gone_if k c (Frames r g) ≡ gone_if k c (Frames s g)
+abandoned_if true c r s g e = absurd (cc e)
+abandoned_if false c r s g e = ap (λ (t : Stream). gone_if true c t) (over_frames r s g)
+
+frames_next : (c : Connection) (r : Reader) (g : Bool) (b : List ℕ) → c.over ≡ false → InData r → 0 < length b → NextPiece c (Frames r g) b
+frames_next c r g b e h some =
+    let n : Data r b = next_piece r b h some in
+    record {
+      piece = n.piece;
+      rest = n.rest;
+      stream = Frames (after r (length n.piece)) g;
+      some = n.some;
+      parts = n.parts;
+      is =
+          first_open c (Frames r g) b e
+          ∙ ap (λ (x : Run). of_frames c g x) n.is
+          ∙ piece_frames n.piece c g (after r (length n.piece)) n.rest;
+      left = λ u. omega (arith, n.within);
+      abandoned = λ u. abandoned_if (is_control r.place) c (after r (length n.piece)) r g u;
+    }
+
+both_true : (a b : Bool) → (a && b) ≡ true → b ≡ true
+both_true true b e = e
+both_true false b e = absurd (cc e)
+
+settings_piece : (o : Result PeerSettings Fault) (payload : List ℕ) (c : Connection) (r : Reader) (left b : List ℕ) → PieceNext (by_settings c payload (λ d. rests d (Frames r true) left) o) b
+settings_piece (Ok v) payload c r left b = no_byte (by_settings c payload (λ d. rests d (Frames r true) left) (Ok v)) b refl
+settings_piece (Err f) payload c r left b = no_byte (by_settings c payload (λ d. rests d (Frames r true) left) (Err f)) b refl
+
+frame_piece : (k : FrameType) (payload : List ℕ) (c : Connection) (g : Bool) (r : Reader) (left b : List ℕ) → PieceNext (of_frames c g (record { items = Whole k payload ∷ []; reader = r; left = left })) b
+frame_piece kind.Settings payload c g r left b = settings_piece (received_settings c payload) payload c r left b
+frame_piece other payload c g r left b = no_byte (of_frames c g (record { items = Whole other payload ∷ []; reader = r; left = left })) b refl
+
+shape_next : (items : List Item) (c : Connection) (g : Bool) (r : Reader) (left b : List ℕ) → c.over ≡ false → 0 < length b → Shape items → (is_piece items ≡ true → 0 < r.remaining → InData r) → PieceNext (of_frames c g (record { items = items; reader = r; left = left })) b
+shape_next _ c g r left b e some Nothing h = no_byte (of_frames c g (record { items = []; reader = r; left = left })) b refl
+shape_next _ c g r left b e some (Frame k payload) h = frame_piece k payload c g r left b
+shape_next _ c g r left b e some (Section n) h = no_byte (of_frames c g (record { items = TooLarge n ∷ []; reader = r; left = left })) b refl
+shape_next _ c g r left b e some (Fails f) h = no_byte (of_frames c g (record { items = Broken f ∷ []; reader = r; left = left })) b refl
+shape_next _ c g r left b e some (Piece bytes full) h =
+    in_stream (of_frames c g (record { items = map Byte bytes; reader = r; left = left })) (record { seen = bytes_seen bytes; connection = c; stream = Frames r g; left = left }) b (piece_frames bytes c g r left)
+    (λ p l s i. frames_next c r g b e (h (piece_is bytes full) (ltb-true 0 r.remaining (both_true (length left == 0) (ltb 0 r.remaining) i))) some)
+  where
+    piece_is : (bytes : List ℕ) → 0 < length bytes → is_piece (map Byte bytes) ≡ true
+    piece_is [] l = absurd (omega (arith, l))
+    piece_is (x ∷ bytes) l = refl
+
+session_next : (c : Connection) (n : ℕ) (a b : List ℕ) → c.over ≡ false → 0 < length b → PieceNext (all_given c (Session n) (bytes_seen a)) b
+session_next c n a b e some p l s i = record {
+  piece = b;
+  rest = [];
+  stream = Session n;
+  some = some;
+  parts = sym (append-nil b);
+  is = first_open c (Session n) b e;
+  left = λ u. absurd u;
+  abandoned = λ u. refl;
+}
+
+capacity_next : (p : Bool) (c : Connection) (b : List ℕ) → PieceNext (by_capacity c p) b
+capacity_next true c b = no_byte (by_capacity c true) b refl
+capacity_next false c b = no_byte (by_capacity c false) b refl
+
+place_next : (o : Option DecoderPlace) (c : Connection) (b : List ℕ) → PieceNext (by_place c o) b
+place_next None c b = no_byte (by_place c None) b refl
+place_next (Some place) c b = no_byte (by_place c (Some place)) b refl
+
+purpose_next : (o : Result (Connection × Stream) Fault) (c : Connection) (p : Purpose) (rest b : List ℕ) → PieceNext (first_purpose c p rest o) b
+purpose_next (Ok x) c p rest b = no_byte (first_purpose c p rest (Ok x)) b refl
+purpose_next (Err f) c p rest b = no_byte (first_purpose c p rest (Err f)) b refl
+
+opening_next : (o : Option (Purpose × List ℕ)) (c : Connection) (s : Stream) (a b : List ℕ) → PieceNext (first_opening c s a o) b
+opening_next None c s a b = no_byte (rests c s a) b refl
+opening_next (Some o) c s a b = purpose_next (opens c o.0) c o.0 o.1 b
+
+open_next : (s : Stream) (c : Connection) (a b : List ℕ) → c.over ≡ false → 0 < length b → PieceNext (first_seen c s a) b
+open_next Uni c a b e some = in_stream (first_seen c Uni a) (first_opening c Uni a (opening_of c.endpoint Uni a)) b (first_by c Uni a e tt) (opening_next (opening_of c.endpoint Uni a) c Uni a b)
+open_next Bi c a b e some = in_stream (first_seen c Bi a) (first_opening c Bi a (opening_of c.endpoint Bi a)) b (first_by c Bi a e tt) (opening_next (opening_of c.endpoint Bi a) c Bi a b)
+open_next (Frames r g) c a b e some = in_stream (first_seen c (Frames r g) a) (of_frames c g (first r a)) b (first_open c (Frames r g) a e) (shape_next (first r a).items c g (first r a).reader (first r a).left b e some (first_shape r a) (first_in_data r a))
+open_next (Session n) c a b e some = in_stream (first_seen c (Session n) a) (all_given c (Session n) (bytes_seen a)) b (first_open c (Session n) a e) (session_next c n a b e some)
+open_next Encoder c a b e some = in_stream (first_seen c Encoder a) (by_capacity c (list_all sets_zero a)) b (first_open c Encoder a e) (capacity_next (list_all sets_zero a) c b)
+open_next (Decoder place) c a b e some = in_stream (first_seen c (Decoder place) a) (by_place c (after_bytes place a)) b (first_open c (Decoder place) a e) (place_next (after_bytes place a) c b)
+open_next (Joining n) c a b e some = in_stream (first_seen c (Joining n) a) (rests c (Joining n) a) b (first_open c (Joining n) a e) (no_byte (rests c (Joining n) a) b refl)
+open_next (Waiting n) c a b e some = in_stream (first_seen c (Waiting n) a) (rests c (Waiting n) a) b (first_open c (Waiting n) a e) (no_byte (rests c (Waiting n) a) b refl)
+open_next Ignored c a b e some = in_stream (first_seen c Ignored a) (all_given c Ignored []) b (first_open c Ignored a e) (no_byte (all_given c Ignored []) b refl)
+open_next Incomplete c a b e some = in_stream (first_seen c Incomplete a) (all_given c Incomplete []) b (first_open c Incomplete a e) (no_byte (all_given c Incomplete []) b refl)
+open_next Over c a b e some = in_stream (first_seen c Over a) (all_given c Over []) b (first_open c Over a e) (no_byte (all_given c Over []) b refl)
+
+pub piece_next : (s : Stream) (c : Connection) (a b p : List ℕ) → c.over ≡ false → 0 < length b → 0 < length p → (first_seen c s a).seen ≡ bytes_seen p → in_piece (first_seen c s a) ≡ true → NextPiece (first_seen c s a).connection (first_seen c s a).stream b
+piece_next s c a b p e some l seen i = open_next s c a b e some p l seen i
+
+-- a stream of frames is one after a piece of DATA
+abbrev StaysFrames : StreamRun → Type 0
+StaysFrames x = is_byte x.seen ≡ true → IsFrames x.stream
+
+no_frames_after : (x : StreamRun) → is_byte x.seen ≡ false → StaysFrames x
+no_frames_after x n e = absurd (cc (sym n ∙ e))
+
+stays_in : (x y : StreamRun) → x ≡ y → StaysFrames y → StaysFrames x
+stays_in x y e h = subst (λ (z : StreamRun). StaysFrames z) (sym e) h
+
+settings_stay : (o : Result PeerSettings Fault) (payload : List ℕ) (c : Connection) (r : Reader) (left : List ℕ) → StaysFrames (by_settings c payload (λ d. rests d (Frames r true) left) o)
+settings_stay (Ok v) payload c r left e = absurd (cc e)
+settings_stay (Err f) payload c r left e = absurd (cc e)
+
+frame_stays : (k : FrameType) (payload : List ℕ) (c : Connection) (g : Bool) (r : Reader) (left : List ℕ) → StaysFrames (of_frames c g (record { items = Whole k payload ∷ []; reader = r; left = left }))
+frame_stays kind.Settings payload c g r left = settings_stay (received_settings c payload) payload c r left
+frame_stays other payload c g r left = λ e. absurd (cc e)
+
+shape_stays : (items : List Item) (c : Connection) (g : Bool) (r : Reader) (left : List ℕ) → Shape items → StaysFrames (of_frames c g (record { items = items; reader = r; left = left }))
+shape_stays _ c g r left Nothing = λ e. absurd (cc e)
+shape_stays _ c g r left (Frame k payload) = frame_stays k payload c g r left
+shape_stays _ c g r left (Section n) = λ e. absurd (cc e)
+shape_stays _ c g r left (Fails f) = λ e. absurd (cc e)
+shape_stays _ c g r left (Piece bytes full) =
+    stays_in (of_frames c g (record { items = map Byte bytes; reader = r; left = left })) (record { seen = bytes_seen bytes; connection = c; stream = Frames r g; left = left }) (piece_frames bytes c g r left) (λ e. tt)
+
+pub frames_stay : (s : Stream) (c : Connection) (a p : List ℕ) → c.over ≡ false → 0 < length p → (first_seen c s a).seen ≡ bytes_seen p → IsFrames s → IsFrames (first_seen c s a).stream
+frames_stay (Frames r g) c a p e l seen is =
+    stays_in (first_seen c (Frames r g) a) (of_frames c g (first r a)) (first_open c (Frames r g) a e) (shape_stays (first r a).items c g (first r a).reader (first r a).left (first_shape r a)) (ap is_byte seen ∙ byte_first p l)
+frames_stay Uni c a p e l seen is = absurd is
+frames_stay Bi c a p e l seen is = absurd is
+frames_stay (Joining n) c a p e l seen is = absurd is
+frames_stay (Waiting n) c a p e l seen is = absurd is
+frames_stay (Session n) c a p e l seen is = absurd is
+frames_stay Encoder c a p e l seen is = absurd is
+frames_stay (Decoder place) c a p e l seen is = absurd is
+frames_stay Ignored c a p e l seen is = absurd is
+frames_stay Incomplete c a p e l seen is = absurd is
+frames_stay Over c a p e l seen is = absurd is

@@ -163,7 +163,7 @@ unopened_first c s bytes i f e = sym (first_by c s bytes i f ∙ ap (λ (o : Opt
 pub goes_first : (x : Found) (c : Connection) (s : Stream) (bytes : List ℕ) (fin : Bool) (d : Connection) (t : Stream) → fin ≡ false → found_by x bytes d t ≡ first_seen c s bytes → found_by x bytes d t ≡ first_found fin c s bytes
 goes_first x c s bytes fin d t e h = rw e h
 
-piece_seen : (start end : ℕ) (bytes : List ℕ) → start < end → end ≤ length bytes → has_none (bytes_seen (slice start end bytes)) ≡ false
+pub piece_seen : (start end : ℕ) (bytes : List ℕ) → start < end → end ≤ length bytes → has_none (bytes_seen (slice start end bytes)) ≡ false
 piece_seen start end bytes l m = taken_seen (end - start) (drop start bytes) (omega (arith, l)) (omega (arith, l, m, length-drop start bytes))
   where
     taken_seen : (n : ℕ) (rest : List ℕ) → 0 < n → n ≤ length rest → has_none (bytes_seen (take n rest)) ≡ false

@@ -1,7 +1,7 @@
 -- What is given first, where more bytes follow.
 use Rattle.std.proofs.Common.{◌≡◌, ℕ, zero, suc, ◌+◌, ◌-◌, ◌==◌, ◌<◌, ◌≤◌, ◌&&◌, Bool, true, false, cond, List, [], ◌∷◌, ◌++◌, map, length, take, drop, Option, Some, None, Result, Ok, Err, refl, sym, ap, subst, ◌∙◌, arith, length-append, length-drop, inl, inr}
 use Rattle.std.proofs.lemmas.Bool.{cases_lt, cases_Bool, lt-ltb}
-use Rattle.std.proofs.lemmas.List.{map-append, append-nil, take-append-le, drop-append-le}
+use Rattle.std.proofs.lemmas.List.{length-take-le, map-append, append-nil, take-append-drop, take-append-le, drop-append-le}
 use Rattle.std.proofs.Math.Seq.{take-append-add, drop-append-add}
 use Rattle.wtp_core.specs.Varint.{bytes_at}
 use Rattle.wtp_frames.specs.declared.frame_type.FrameType.{FrameType}
@@ -28,6 +28,11 @@ pub data Shape : List Item → Type 0 where
   Fails : (f : Fault) → Shape (Broken f ∷ [])
   Piece : (bytes : List ℕ) → 0 < length bytes → Shape (map Byte bytes)
 
+-- the first is a byte
+abbrev pub is_piece : List Item → Bool
+is_piece (Byte b ∷ items) = true
+is_piece other = false
+
 -- ---- what one move gives, whatever follows
 
 data Case (r : Reader) (a : List ℕ) : Type 0 where
@@ -37,14 +42,15 @@ data Case (r : Reader) (a : List ℕ) : Type 0 where
       → length rest < length a → Case r a
   Gives : (i : Item) (s : Reader) (rest : List ℕ)
       → ((b : List ℕ) → moves r (a ++ b) ≡ record { items = i ∷ []; reader = s; left = rest ++ b })
-      → ((x : Run) (b : List ℕ) → by_given (i ∷ []) x b ≡ left_over x b) → Shape (i ∷ []) → Case r a
+      → ((x : Run) (b : List ℕ) → by_given (i ∷ []) x b ≡ left_over x b) → Shape (i ∷ [])
+      → is_piece (i ∷ []) ≡ false → Case r a
   Breaks : (f : Fault) → ((b : List ℕ) → moves r (a ++ b) ≡ breaks r f) → Case r a
   All : InPayload r → 0 < length a → length a < r.remaining → Case r a
   Rest : InPayload r → r.remaining ≤ length a → Case r a
 
 case_place : (r : Reader) (a rest payload left : List ℕ) (id n : ℕ) (o : Result Place Fault) → AtHead r → head_at a ≡ Some (id, n, rest) → action_at r (type_of id) n ≡ Give → bytes_at n rest ≡ Some (payload, left) → accepted r.endpoint.side r.place (type_of id) payload ≡ o → Case r a
 case_place r a rest payload left id n (Ok place) z e is p h =
-    Gives (Whole (type_of id) payload) (moved r place) left (λ b. moves_whole r (a ++ b) (rest ++ b) payload (left ++ b) id n (Ok place) z (head_more a rest b id n e) is (bytes_more n rest payload left b p) h) (λ x b. refl) (Frame (type_of id) payload)
+    Gives (Whole (type_of id) payload) (moved r place) left (λ b. moves_whole r (a ++ b) (rest ++ b) payload (left ++ b) id n (Ok place) z (head_more a rest b id n e) is (bytes_more n rest payload left b p) h) (λ x b. refl) (Frame (type_of id) payload) refl
 case_place r a rest payload left id n (Err f) z e is p h =
     Breaks f (λ b. moves_whole r (a ++ b) (rest ++ b) payload (left ++ b) id n (Err f) z (head_more a rest b id n e) is (bytes_more n rest payload left b p) h)
 
@@ -56,7 +62,7 @@ case_frame : (r : Reader) (a rest : List ℕ) (id n : ℕ) (o : Action) → AtHe
 case_frame r a rest id n Give z e is = case_payload r a rest id n (bytes_at n rest) z e is refl
 case_frame r a rest id n Stream z e is = Goes (streams r n) rest (λ b. moves_frame r (a ++ b) (rest ++ b) id n Stream z (head_more a rest b id n e) is) (head_shorter a rest id n e)
 case_frame r a rest id n Skip z e is = Goes (skips r n) rest (λ b. moves_frame r (a ++ b) (rest ++ b) id n Skip z (head_more a rest b id n e) is) (head_shorter a rest id n e)
-case_frame r a rest id n SkipSection z e is = Gives (TooLarge n) (skips_section r n) rest (λ b. moves_frame r (a ++ b) (rest ++ b) id n SkipSection z (head_more a rest b id n e) is) (λ x b. refl) (Section n)
+case_frame r a rest id n SkipSection z e is = Gives (TooLarge n) (skips_section r n) rest (λ b. moves_frame r (a ++ b) (rest ++ b) id n SkipSection z (head_more a rest b id n e) is) (λ x b. refl) (Section n) refl
 case_frame r a rest id n (Refuse f) z e is = Breaks f (λ b. moves_frame r (a ++ b) (rest ++ b) id n (Refuse f) z (head_more a rest b id n e) is)
 
 case_head : (r : Reader) (a : List ℕ) (o : Option (ℕ × ℕ × List ℕ)) → AtHead r → head_at a ≡ o → Case r a
@@ -89,7 +95,7 @@ first_failed r bytes e = elim (cases_lt 0 (length bytes)) [
 -- ---- within a payload
 
 -- the reader after so many bytes of it
-abbrev after : Reader → ℕ → Reader
+abbrev pub after : Reader → ℕ → Reader
 after r n = record r { remaining = r.remaining - n }
 
 abbrev done : Reader → Reader
@@ -230,7 +236,7 @@ by_case : (r : Reader) (a b : List ℕ) → Case r a → ((s : Reader) (rest : L
 by_case r a b (Failed e) h = first_failed r (a ++ b) e ∙ sym (first_failed r b e) ∙ ap (λ (y : Run). with_more y b) (sym (first_failed r a e))
 by_case r a b (Stuck e) h = ap (λ (y : Run). with_more y b) (sym (first_stuck r r a a e (omega arith)))
 by_case r a b (Goes s rest e l) h = goes_more r s a rest b e l (h s rest l)
-by_case r a b (Gives i s rest e g w) h =
+by_case r a b (Gives i s rest e g w n) h =
     let x : Run = record { items = i ∷ []; reader = s; left = rest } in
     first_gives r (a ++ b) (left_over x b) (e b) refl
     ∙ sym (g x b)
@@ -266,7 +272,7 @@ shape_case : (r : Reader) (a : List ℕ) → Case r a → ((s : Reader) (rest : 
 shape_case r a (Failed e) h = shaped (first r a) (stays r []) (first_failed r a e) Nothing
 shape_case r a (Stuck e) h = shaped (first r a) (stays r a) (first_stuck r r a a e (omega arith)) Nothing
 shape_case r a (Goes s rest e l) h = shaped (first r a) (first s rest) (first_goes r s a rest (rw (append-nil a, append-nil rest) at (e [])) l) (h s rest l)
-shape_case r a (Gives i s rest e g w) h = shaped (first r a) (record { items = i ∷ []; reader = s; left = rest }) (first_gives r a (record { items = i ∷ []; reader = s; left = rest }) (rw (append-nil a, append-nil rest) at (e [])) refl) w
+shape_case r a (Gives i s rest e g w n) h = shaped (first r a) (record { items = i ∷ []; reader = s; left = rest }) (first_gives r a (record { items = i ∷ []; reader = s; left = rest }) (rw (append-nil a, append-nil rest) at (e [])) refl) w
 shape_case r a (Breaks f e) h = shaped (first r a) (breaks r f) (first_gives r a (breaks r f) (rw (append-nil a) at (e [])) refl) (Fails f)
 shape_case r a (All z some few) h = elim (cases_Bool r.streamed) [
   | inl streamed ↦ shaped (first r a) (record { items = map Byte a; reader = after r (length a); left = [] }) (stream_all r a z streamed few) (Piece a some)
@@ -283,3 +289,65 @@ shape_within (suc n) r a l = shape_case r a (case_of r a) (λ s rest less. shape
 
 pub first_shape : (r : Reader) (a : List ℕ) → Shape (first r a).items
 first_shape r a = shape_within (length a) r a (omega arith)
+
+-- ---- a piece of DATA that goes on
+
+-- the reader is within a payload that is given
+pub record InData (r : Reader) : Type 0 where
+  pub payload : InPayload r
+  pub streamed : r.streamed ≡ true
+
+abbrev IsData : Run → Type 0
+IsData x = is_piece x.items ≡ true → 0 < x.reader.remaining → InData x.reader
+
+data_in : (x y : Run) → x ≡ y → IsData y → IsData x
+data_in x y e h = subst (λ (z : Run). IsData z) (sym e) h
+
+no_data : (x y : Run) → x ≡ y → is_piece y.items ≡ false → IsData x
+no_data x y e n = data_in x y e (λ p l. absurd (cc (sym n ∙ p)))
+
+data_case : (r : Reader) (a : List ℕ) → Case r a → ((s : Reader) (rest : List ℕ) → length rest < length a → IsData (first s rest)) → IsData (first r a)
+data_case r a (Failed e) h = no_data (first r a) (stays r []) (first_failed r a e) refl
+data_case r a (Stuck e) h = no_data (first r a) (stays r a) (first_stuck r r a a e (omega arith)) refl
+data_case r a (Goes s rest e l) h = data_in (first r a) (first s rest) (first_goes r s a rest (rw (append-nil a, append-nil rest) at (e [])) l) (h s rest l)
+data_case r a (Gives i s rest e g w n) h = no_data (first r a) (record { items = i ∷ []; reader = s; left = rest }) (first_gives r a (record { items = i ∷ []; reader = s; left = rest }) (rw (append-nil a, append-nil rest) at (e [])) refl) n
+data_case r a (Breaks f e) h = no_data (first r a) (breaks r f) (first_gives r a (breaks r f) (rw (append-nil a) at (e [])) refl) refl
+data_case r a (All z some few) h = elim (cases_Bool r.streamed) [
+  | inl streamed ↦ data_in (first r a) (record { items = map Byte a; reader = after r (length a); left = [] }) (stream_all r a z streamed few) (λ p l. record { payload = record { intact = z.intact; some = l }; streamed = streamed })
+  | inr skipped ↦ no_data (first r a) (stays (after r (length a)) []) (skip_all r a z skipped few) refl
+]
+data_case r a (Rest z all) h = elim (cases_Bool r.streamed) [
+  | inl streamed ↦ data_in (first r a) (record { items = map Byte (take r.remaining a); reader = done r; left = drop r.remaining a }) (stream_rest r a z streamed all) (λ p l. absurd (omega (arith, l)))
+  | inr skipped ↦ data_in (first r a) (first (done r) (drop r.remaining a)) (skip_rest r a z skipped all) (h (done r) (drop r.remaining a) (omega (arith, z.some, all, length-drop r.remaining a)))
+]
+
+data_within : (n : ℕ) (r : Reader) (a : List ℕ) → length a ≤ n → IsData (first r a)
+data_within zero r a l = data_case r a (case_of r a) (λ s rest less. absurd (omega (arith, less, l)))
+data_within (suc n) r a l = data_case r a (case_of r a) (λ s rest less. data_within n s rest (omega (arith, less, l)))
+
+pub first_in_data : (r : Reader) (a : List ℕ) → is_piece (first r a).items ≡ true → 0 < (first r a).reader.remaining → InData (first r a).reader
+first_in_data r a p l = data_within (length a) r a (omega arith) p l
+
+-- then the next bytes are the next piece
+pub record NextPiece (r : Reader) (b : List ℕ) : Type 0 where
+  pub piece : List ℕ
+  pub rest : List ℕ
+  pub some : 0 < length piece
+  pub within : length piece ≤ r.remaining
+  pub parts : b ≡ piece ++ rest
+  pub is : first r b ≡ record { items = map Byte piece; reader = after r (length piece); left = rest }
+
+pub next_piece : (r : Reader) (b : List ℕ) → InData r → 0 < length b → NextPiece r b
+next_piece r b h some = elim (cases_lt (length b) r.remaining) [
+  | inl few ↦ record { piece = b; rest = []; some = some; within = omega (arith, few); parts = sym (append-nil b); is = stream_all r b h.payload h.streamed few }
+  | inr all ↦
+      let size : length (take r.remaining b) ≡ r.remaining = length-take-le r.remaining b all in
+      record {
+        piece = take r.remaining b;
+        rest = drop r.remaining b;
+        some = taken_some r.remaining b h.payload.some all;
+        within = omega (arith, size);
+        parts = sym (take-append-drop r.remaining b);
+        is = stream_rest r b h.payload h.streamed all ∙ ap (λ (k : ℕ). record { items = map Byte (take r.remaining b); reader = record r { remaining = k }; left = drop r.remaining b }) (omega (arith, size));
+      }
+]

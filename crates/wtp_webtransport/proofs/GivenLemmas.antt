@@ -10,6 +10,7 @@ use Rattle.wtp_connection.specs.declared.connection.Connection.{Connection as St
 use Rattle.wtp_connection.specs.declared.connection.Found.{Found}
 use Rattle.wtp_connection.specs.declared.connection.Found.TheVariants as found
 use Rattle.wtp_connection.specs.declared.stream.Stream.{Stream as Frames}
+use Rattle.wtp_connection.specs.declared.fault.Fault.{Fault}
 use Rattle.wtp_connection.specs.Receiving.{Fits, seen_of, rest_after}
 use Rattle.wtp_connection.specs.Streams.{StreamRun, Seen}
 use Rattle.wtp_connection.specs.First.{first_seen, at_end, found_by, has_none, left_over, with_more}
@@ -32,14 +33,14 @@ use Rattle.wtp_webtransport.proofs.StopLemmas.{keeps_end}
 
 -- ---- what is due comes first
 
-due_of : (w : Due) (limit : ℕ) (c : Connection) (s : Stream) (bytes : List ℕ) (fin : Bool) (o : Outcome) → Receives limit c s bytes fin o → c.over ≡ false → s.unread ≡ unread.Nothing → due_by s.part (length bytes == 0) ≡ w → DueGives w limit c s bytes fin o
+pub due_of : (w : Due) (limit : ℕ) (c : Connection) (s : Stream) (bytes : List ℕ) (fin : Bool) (o : Outcome) → Receives limit c s bytes fin o → c.over ≡ false → s.unread ≡ unread.Nothing → due_by s.part (length bytes == 0) ≡ w → DueGives w limit c s bytes fin o
 due_of w limit c s bytes fin o h e f g =
     subst (λ (w : Due). DueGives w limit c s bytes fin o) g (
     subst (λ (u : Unread). StreamGives u limit c s bytes fin o) f (
     subst (λ (b : Bool). ReceivesIf b limit c s bytes fin o) e h))
 
 -- more bytes leave it due
-spoiled_still : (p : Part) (e f : Bool) → (e ≡ false → f ≡ false) → due_by p e ≡ due.Spoiled → due_by p f ≡ due.Spoiled
+pub spoiled_still : (p : Part) (e f : Bool) → (e ≡ false → f ≡ false) → due_by p e ≡ due.Spoiled → due_by p f ≡ due.Spoiled
 spoiled_still (part.Closed true) e f h is = refl
 spoiled_still (part.Closed false) true f h is = absurd (cc is)
 spoiled_still (part.Closed false) false f h is = ap (λ (b : Bool). spoiled_if (not b)) (h refl)
@@ -49,11 +50,7 @@ spoiled_still part.Ending e f h is = absurd (cc is)
 spoiled_still part.Losing e f h is = absurd (cc is)
 spoiled_still other e f h is = absurd (cc is)
 
-spoiled_not : (b : Bool) (w : Due) → spoiled_if b ≡ w → (w ≡ due.Spoiled → ⊥) → w ≡ due.Nothing
-spoiled_not true w e h = absurd (h (sym e))
-spoiled_not false w e h = sym e
-
-end_still : (p : Part) (e f : Bool) → due_by p e ≡ due.End → due_by p f ≡ due.End
+pub end_still : (p : Part) (e f : Bool) → due_by p e ≡ due.End → due_by p f ≡ due.End
 end_still (part.Closed more) e f is = absurd (closed_end (more || not e) is)
   where
     closed_end : (b : Bool) → spoiled_if b ≡ due.End → ⊥
@@ -65,7 +62,7 @@ end_still part.Ending e f is = is
 end_still part.Losing e f is = absurd (cc is)
 end_still other e f is = absurd (cc is)
 
-lost_still : (p : Part) (e f : Bool) → due_by p e ≡ due.Lost → due_by p f ≡ due.Lost
+pub lost_still : (p : Part) (e f : Bool) → due_by p e ≡ due.Lost → due_by p f ≡ due.Lost
 lost_still (part.Closed more) e f is = absurd (closed_lost (more || not e) is)
   where
     closed_lost : (b : Bool) → spoiled_if b ≡ due.Lost → ⊥
@@ -77,7 +74,7 @@ lost_still part.Ending e f is = absurd (cc is)
 lost_still part.Losing e f is = is
 lost_still other e f is = absurd (cc is)
 
-empty_still : (a b : List ℕ) → (length a == 0) ≡ false → (length (a ++ b) == 0) ≡ false
+pub empty_still : (a b : List ℕ) → (length a == 0) ≡ false → (length (a ++ b) == 0) ≡ false
 empty_still [] b e = absurd (cc e)
 empty_still (x ∷ a) b e = some_bytes ((x ∷ a) ++ b) (omega arith)
 
@@ -98,12 +95,12 @@ same_given limit c s a b fin o q x d t z ns v intact none idle w first gives is 
     (ap (λ (r : StreamRun). r.connection) all ∙ keeps) (ap (λ (r : StreamRun). r.stream) all ∙ stays) (has_front a b) ns v m
 
 -- where the bytes that follow are left over
-left_given : (limit : ℕ) (c : Connection) (s : Stream) (a b : List ℕ) (fin : Bool) (o q : Outcome) (x : Found) (d : Streams) (t : Frames) → (IsSession s.part → ⊥) → HasMemory o → c.over ≡ false → s.unread ≡ unread.Nothing → due_by s.part false ≡ due.Nothing → Fits x a d t → found_by x a d t ≡ first_seen c.streams s.frames a → FoundGives limit x (with_streams c d) (with_frames s t) a o → with_more (found_by x a d t) b ≡ left_over (found_by x a d t) b → has_none (seen_of x a) ≡ false → Given limit c s a b fin o q
+pub left_given : (limit : ℕ) (c : Connection) (s : Stream) (a b : List ℕ) (fin : Bool) (o q : Outcome) (x : Found) (d : Streams) (t : Frames) → (IsSession s.part → ⊥) → HasMemory o → c.over ≡ false → s.unread ≡ unread.Nothing → due_by s.part false ≡ due.Nothing → Fits x a d t → found_by x a d t ≡ first_seen c.streams s.frames a → FoundGives limit x (with_streams c d) (with_frames s t) a o → with_more (found_by x a d t) b ≡ left_over (found_by x a d t) b → has_none (seen_of x a) ≡ false → Given limit c s a b fin o q
 left_given limit c s a b fin o q x d t ns v intact none idle w first gives is some =
     same_given limit c s a b fin o q x d t (left_over (found_by x a d t) b) ns v intact none idle w first gives is some refl refl
     (λ y e u g all. found_there x y 0 (length b) a (a ++ b) d e t u w g (omega (arith, length-append a b)) (ap (λ (r : StreamRun). r.seen) all) (ap (λ (r : StreamRun). length r.left) all ∙ length-append (rest_after x a) b))
 
-more_course : (f : Frames) → course_of (told_more f) ≡ Stops
+pub more_course : (f : Frames) → course_of (told_more f) ≡ Stops
 more_course (frames.Waiting id) = refl
 more_course other = refl
 
@@ -122,26 +119,32 @@ data_is_piece (part.Session k) c s start end bytes o ns g = absurd (ns tt)
 data_is_piece part.OfSession c s start end bytes o ns g = subst (λ (z : Outcome). IsPiece z.1) (sym g) tt
 data_is_piece other c s start end bytes o ns g = subst (λ (z : Outcome). IsPiece z.1) (sym g) tt
 
-found_given : (x : Found) (limit : ℕ) (c : Connection) (s : Stream) (a b : List ℕ) (fin : Bool) (o q : Outcome) (d : Streams) (t : Frames) → (IsSession s.part → ⊥) → HasMemory o → c.over ≡ false → s.unread ≡ unread.Nothing → due_by s.part false ≡ due.Nothing → Fits x a d t → found_by x a d t ≡ first_seen c.streams s.frames a → FoundGives limit x (with_streams c d) (with_frames s t) a o → (course_of o.1 ≡ Stops → ⊥) → (IsPiece o.1 → ⊥) → Given limit c s a b fin o q
+pub fault_given : (limit : ℕ) (c : Connection) (s : Stream) (a b : List ℕ) (fin : Bool) (o q : Outcome) (f : Fault) (d : Streams) (t : Frames) → (IsSession s.part → ⊥) → HasMemory o → c.over ≡ false → s.unread ≡ unread.Nothing → due_by s.part false ≡ due.Nothing → found_by (found.Fault f) a d t ≡ first_seen c.streams s.frames a → FoundGives limit (found.Fault f) (with_streams c d) (with_frames s t) a o → Given limit c s a b fin o q
+fault_given limit c s a b fin o q f d t ns v intact none idle first g =
+    same_given limit c s a b fin o q (found.Fault f) d t (found_by (found.Fault f) a d t) ns v intact none idle tt first g refl refl refl refl
+    (λ y e u h all. found_is y (a ++ b) e u h ∙ ap (λ (l : List Seen). found_from l (length (a ++ b)) (length (rest_after y (a ++ b)))) (ap (λ (r : StreamRun). r.seen) all))
+
+pub end_given : (limit : ℕ) (c : Connection) (s : Stream) (a b : List ℕ) (fin : Bool) (o q : Outcome) (d : Streams) (t : Frames) → (IsSession s.part → ⊥) → HasMemory o → c.over ≡ false → s.unread ≡ unread.Nothing → due_by s.part false ≡ due.Nothing → found_by found.End a d t ≡ first_seen c.streams s.frames a → FoundGives limit found.End (with_streams c d) (with_frames s t) a o → Given limit c s a b fin o q
+end_given limit c s a b fin o q d t ns v intact none idle first g =
+    same_given limit c s a b fin o q found.End d t (left_over (found_by found.End a d t) b) ns v intact none idle tt first g refl refl refl refl
+    (λ y e u h all. found_is y (a ++ b) e u h ∙ ap (λ (l : List Seen). found_from l (length (a ++ b)) (length (rest_after y (a ++ b)))) (ap (λ (r : StreamRun). r.seen) all))
+
+pub found_given : (x : Found) (limit : ℕ) (c : Connection) (s : Stream) (a b : List ℕ) (fin : Bool) (o q : Outcome) (d : Streams) (t : Frames) → (IsSession s.part → ⊥) → HasMemory o → c.over ≡ false → s.unread ≡ unread.Nothing → due_by s.part false ≡ due.Nothing → Fits x a d t → found_by x a d t ≡ first_seen c.streams s.frames a → FoundGives limit x (with_streams c d) (with_frames s t) a o → (course_of o.1 ≡ Stops → ⊥) → (IsPiece o.1 → ⊥) → Given limit c s a b fin o q
 found_given (found.Opened p n) limit c s a b fin o q d t ns v intact none idle w first g goes whole = left_given limit c s a b fin o q (found.Opened p n) d t ns v intact none idle w first g refl refl
 found_given (found.Settings k start end) limit c s a b fin o q d t ns v intact none idle w first g goes whole = left_given limit c s a b fin o q (found.Settings k start end) d t ns v intact none idle w first g refl refl
 found_given (found.Frame k start end) limit c s a b fin o q d t ns v intact none idle w first g goes whole = left_given limit c s a b fin o q (found.Frame k start end) d t ns v intact none idle w first g refl refl
 found_given (found.Data start end) limit c s a b fin o q d t ns v intact none idle w first g goes whole = absurd (whole (data_is_piece s.part (with_streams c d) (with_frames s t) start end a o ns g))
 found_given (found.TooLarge size n) limit c s a b fin o q d t ns v intact none idle w first g goes whole = left_given limit c s a b fin o q (found.TooLarge size n) d t ns v intact none idle w first g refl refl
 found_given (found.More n) limit c s a b fin o q d t ns v intact none idle w first g goes whole = absurd (goes (ap (λ (z : Outcome). course_of z.1) g ∙ more_course t))
-found_given (found.Fault f) limit c s a b fin o q d t ns v intact none idle w first g goes whole =
-    same_given limit c s a b fin o q (found.Fault f) d t (found_by (found.Fault f) a d t) ns v intact none idle w first g refl refl refl refl
-    (λ y e u h all. found_is y (a ++ b) e u h ∙ ap (λ (l : List Seen). found_from l (length (a ++ b)) (length (rest_after y (a ++ b)))) (ap (λ (r : StreamRun). r.seen) all))
-found_given found.End limit c s a b fin o q d t ns v intact none idle w first g goes whole =
-    same_given limit c s a b fin o q found.End d t (left_over (found_by found.End a d t) b) ns v intact none idle w first g refl refl refl refl
-    (λ y e u h all. found_is y (a ++ b) e u h ∙ ap (λ (l : List Seen). found_from l (length (a ++ b)) (length (rest_after y (a ++ b)))) (ap (λ (r : StreamRun). r.seen) all))
+found_given (found.Fault f) limit c s a b fin o q d t ns v intact none idle w first g goes whole = fault_given limit c s a b fin o q f d t ns v intact none idle first g
+found_given found.End limit c s a b fin o q d t ns v intact none idle w first g goes whole = end_given limit c s a b fin o q d t ns v intact none idle first g
 
 -- without bytes nothing is found
 none_seen : (p : List ℕ) → 0 < length p → bytes_seen p ≡ [] → ⊥
 none_seen [] l e = omega (arith, l)
 none_seen (b ∷ p) l e = cc e
 
-empty_given : (x : Found) (limit : ℕ) (c : Connection) (s : Stream) (o : Outcome) (d : Streams) (t : Frames) → Fits x [] d t → seen_of x [] ≡ [] → FoundGives limit x (with_streams c d) (with_frames s t) [] o → course_of o.1 ≡ Stops
+pub empty_given : (x : Found) (limit : ℕ) (c : Connection) (s : Stream) (o : Outcome) (d : Streams) (t : Frames) → Fits x [] d t → seen_of x [] ≡ [] → FoundGives limit x (with_streams c d) (with_frames s t) [] o → course_of o.1 ≡ Stops
 empty_given (found.Opened p n) limit c s o d t w e g = absurd (cc e)
 empty_given (found.Settings k start end) limit c s o d t w e g = absurd (cc e)
 empty_given (found.Frame k start end) limit c s o d t w e g = absurd (cc e)
@@ -165,7 +168,7 @@ goes_given limit c s (y ∷ a) b fin o q ns v intact none idle g goes whole =
 fixed_given : (n len : ℕ) (o q u z : Outcome) → o ≡ u → q ≡ z → plain z ≡ moved 0 len u → plain q ≡ moved 0 len o
 fixed_given n len o q u z e f h = ap plain f ∙ h ∙ ap (λ (w : Outcome). moved 0 len w) (sym e)
 
-due_given : (x : Due) (limit : ℕ) (c : Connection) (s : Stream) (a b : List ℕ) (fin : Bool) (o q : Outcome) → (IsSession s.part → ⊥) → HasMemory o → c.over ≡ false → s.unread ≡ unread.Nothing → due_by s.part (length a == 0) ≡ x → DueGives x limit c s a false o → (course_of o.1 ≡ Stops → ⊥) → (IsPiece o.1 → ⊥) → Given limit c s a b fin o q
+pub due_given : (x : Due) (limit : ℕ) (c : Connection) (s : Stream) (a b : List ℕ) (fin : Bool) (o q : Outcome) → (IsSession s.part → ⊥) → HasMemory o → c.over ≡ false → s.unread ≡ unread.Nothing → due_by s.part (length a == 0) ≡ x → DueGives x limit c s a false o → (course_of o.1 ≡ Stops → ⊥) → (IsPiece o.1 → ⊥) → Given limit c s a b fin o q
 due_given due.Wait limit c s a b fin o q ns v intact none is g goes whole h m = absurd (goes (ap (λ (z : Outcome). course_of z.1) g))
 due_given (due.Content size) limit c s a b fin o q ns v intact none is g goes whole h m = absurd (ns (content_due s.part (length a == 0) size is))
 due_given due.Spoiled limit c s a b fin o q ns v intact none is g goes whole h m =
@@ -177,7 +180,7 @@ due_given due.Lost limit c s a b fin o q ns v intact none is g goes whole h m =
     fixed_given 0 (length (a ++ b)) o q (last c s SessionLost (length a)) (last c s SessionLost (length (a ++ b))) g (due_of due.Lost limit c s (a ++ b) fin q h intact none (lost_still s.part (length a == 0) (length (a ++ b) == 0) is)) refl
 due_given due.Nothing limit c s a b fin o q ns v intact none is g goes whole h m = goes_given limit c s a b fin o q ns v intact none is g goes whole h m
 
-unread_given : (n : Bool) (size limit : ℕ) (c : Connection) (s : Stream) (a b : List ℕ) (o q : Outcome) → nat_lt (length a) size ≡ n → UnreadBy n limit c s size a o → UnreadBy (nat_lt (length (a ++ b)) size) limit c s size (a ++ b) q → HasMemory o → HasMemory q → (course_of o.1 ≡ Stops → ⊥) → plain q ≡ moved 0 (length (a ++ b)) o
+pub unread_given : (n : Bool) (size limit : ℕ) (c : Connection) (s : Stream) (a b : List ℕ) (o q : Outcome) → nat_lt (length a) size ≡ n → UnreadBy n limit c s size a o → UnreadBy (nat_lt (length (a ++ b)) size) limit c s size (a ++ b) q → HasMemory o → HasMemory q → (course_of o.1 ≡ Stops → ⊥) → plain q ≡ moved 0 (length (a ++ b)) o
 unread_given true size limit c s a b o q is g h v m goes = absurd (goes (ap (λ (z : Outcome). course_of z.1) g))
 unread_given false size limit c s a b o q is g h v m goes =
     let l : size ≤ length a = not_less (length a) size is in

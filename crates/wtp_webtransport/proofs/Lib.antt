@@ -8,3 +8,4 @@ pub mod FoundLemmas
 pub mod CallLemmas
 pub mod StopLemmas
 pub mod GivenLemmas
+pub mod PieceLemmas

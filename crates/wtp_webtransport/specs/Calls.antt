@@ -1,12 +1,14 @@
 -- Calls of one stream, and what they say together, however its bytes are cut.
-use Rattle.std.specs.Prelude.{◌≡◌, ℕ, ◌+◌}
+use Rattle.std.specs.Prelude.{◌≡◌, ℕ, ◌+◌, Bool, List, ◌++◌, length}
 use Rattle.wtp_messages.specs.declared.malformed.Malformed.TheVariants.{MissingHead, ContentTooLong}
 use Rattle.wtp_webtransport.specs.declared.connection.messages.Taken.{Taken}
 use Rattle.wtp_webtransport.specs.declared.connection.messages.Taken.TheVariants as taken
 use Rattle.wtp_webtransport.specs.declared.stream.Part.{Part}
 use Rattle.wtp_webtransport.specs.declared.stream.Part.TheVariants as part
 use Rattle.wtp_webtransport.specs.Events.{Told, SessionLost, Data, StreamData, Malformed, StreamError, ConnectionError, End, NoMemory, Waits, More}
-use Rattle.wtp_webtransport.specs.Receiving.{Outcome}
+use Rattle.wtp_connection.specs.declared.stream.Stream.{Stream as Frames}
+use Rattle.wtp_connection.specs.declared.stream.Stream.TheVariants as frames
+use Rattle.wtp_webtransport.specs.Receiving.{Outcome, Receives}
 
 -- ---- events
 
@@ -68,3 +70,29 @@ IsPiece (Data piece) = Unit {0}
 IsPiece (StreamData piece) = Unit {0}
 IsPiece (Malformed ContentTooLong) = Unit {0}
 IsPiece other = ⊥
+
+-- one that is longer by the next one
+abbrev pub joined_told : Told → Told → Told
+joined_told (Data x) (Data y) = Data (x ++ y)
+joined_told (StreamData x) (StreamData y) = StreamData (x ++ y)
+joined_told x y = x
+
+-- the outcome of a call, and that of the next one, as one
+abbrev pub joined : Outcome → Outcome → Outcome
+joined o p = (o.0 + p.0, joined_told o.1 p.1, p.2, p.3)
+
+-- What a call on the bytes a and b returns that on a alone returned this: the same, or, if that took all
+-- of a, what it and any call on b return together.
+pub data Grown (limit : ℕ) (a b : List ℕ) (fin : Bool) (o q : Outcome) : Type 0 where
+  Whole : plain q ≡ moved 0 (length (a ++ b)) o → Grown limit a b fin o q
+  Longer : o.0 ≡ length a
+      → ((p : Outcome) → Receives limit o.2 o.3 b fin p → IsPiece p.1 × (q ≡ joined o p))
+      → Grown limit a b fin o q
+
+-- a message has frames
+abbrev pub HasFrames : Part → Frames → Type 0
+HasFrames (part.Head m) (frames.Frames r given) = Unit {0}
+HasFrames (part.Body m) (frames.Frames r given) = Unit {0}
+HasFrames (part.Head m) other = ⊥
+HasFrames (part.Body m) other = ⊥
+HasFrames p t = Unit {0}

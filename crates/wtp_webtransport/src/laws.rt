@@ -4,7 +4,8 @@ ghost use Rattle.std.specs.Prelude.{◌≡◌, ◌||◌, ◌+◌, ◌<◌, ◌�
 ghost use Rattle.wtp_webtransport.specs.declared.connection.Connection.{Connection};
 ghost use Rattle.wtp_webtransport.specs.declared.stream.Stream.{Stream};
 ghost use Rattle.wtp_webtransport.specs.Receiving.{Outcome, Receives};
-ghost use Rattle.wtp_webtransport.specs.Calls.{Stops, course_of, plain, moved, IsSession, IsPiece, HasMemory};
+ghost use Rattle.wtp_webtransport.specs.Calls.{Stops, course_of, plain, moved, IsSession, IsPiece, HasMemory, HasFrames, Grown};
+ghost use Rattle.wtp_connection.specs.Opening.{is_critical};
 ghost use Rattle.wtp_webtransport.specs.Endings.{KeepsSession, KeepsAfter, accepts_session};
 ghost use Rattle.wtp_webtransport.specs.Joining.{resets, stops_half, abandons, joins};
 ghost use Rattle.wtp_webtransport.specs.Streams.{is_held, answered};
@@ -33,12 +34,18 @@ pub fn sessions_end_once()
         ≡ (is_held s.part || accepts_session s.part status) }
 {}
 
-/// The bytes of a stream may be cut anywhere, but for the content of a session (see
-/// [`content_of_sessions_may_be_cut`]). A call that needs more bytes, or waits, changes nothing: the
-/// calls with what it left and the bytes that follow return what one over all bytes returns. What a call
-/// returns otherwise does not depend on the bytes that follow, but for the length of a piece: neither
-/// does the state of the connection and of the stream. All but which of the rules that a malformed
-/// section breaks is named.
+/// The bytes of a stream may be cut anywhere, but for the content of a session (of that see
+/// [`content_of_sessions_may_be_cut`]). Wherever the calls have memory:
+///
+/// - `stops`: after a call on the bytes `a` that needs more bytes, or waits, a call with what it left
+///   and `b` returns what one on `a` and `b` returns.
+/// - `given`: any other event does not depend on the bytes that follow, and neither do the states after
+///   it and the bytes consumed; with an error all are.
+/// - `pieces`: a piece of content is the same, or longer by the piece that the next call returns. So is
+///   the error that it is too long. The stream of a message has frames, and is none that must not be
+///   closed.
+///
+/// Of a malformed section it is left open which of the rules that it breaks is named.
 pub fn calls_may_be_cut()
     ensures stops { (limit : ℕ) (c : Connection) (s : Stream) (a b : List ℕ) (fin : Bool) (o p q : Outcome)
         → (IsSession s.part → ⊥) → Receives limit c s a false o → course_of o.1 ≡ Stops
@@ -49,6 +56,10 @@ pub fn calls_may_be_cut()
         → (IsSession s.part → ⊥) → Receives limit c s a false o → HasMemory o
         → (course_of o.1 ≡ Stops → ⊥) → (IsPiece o.1 → ⊥)
         → Receives limit c s (a ++ b) fin q → HasMemory q → plain q ≡ moved 0 (length (a ++ b)) o }
+    ensures pieces { (limit : ℕ) (c : Connection) (s : Stream) (a b : List ℕ) (fin : Bool) (o q : Outcome)
+        → (IsSession s.part → ⊥) → HasFrames s.part s.frames
+        → Receives limit c s a false o → IsPiece o.1 → is_critical o.3.frames ≡ false
+        → Receives limit c s (a ++ b) fin q → HasMemory q → Grown limit a b fin o q }
 {}
 
 /// The content of a session may be cut anywhere, also where allocation failed: whatever follows the

@@ -23,8 +23,8 @@ returns-in-Failed-clause-step c = step_fault c.args.self.now c.moves.self _ c.ar
 
 pub moves-preserved : goal.moves-preserved
 moves-preserved c = (
-    moved_on c.args.self.now c.moves.self _ c.args.bytes.now c.moves.at c.in-Passed.n c.moves.invariant.0 (rw c.split_at.ensures.back at c.in-Passed.ensures.moves),
-    then_first c.args.self.now c.moves.self _ c.args.bytes.now c.moves.at c.in-Passed.n c.moves.invariant.1 (rw c.split_at.ensures.back at c.in-Passed.ensures.exact) (rw c.split_at.ensures.back at c.in-Passed.ensures.moves).within.0 (rw c.split_at.ensures.back at c.in-Passed.ensures.moves).within.1,
+  moved_on c.args.self.now c.moves.self _ c.args.bytes.now c.moves.at c.in-Passed.n c.moves.invariant.0 (rw c.split_at.ensures.back at c.in-Passed.ensures.moves),
+  then_first c.args.self.now c.moves.self _ c.args.bytes.now c.moves.at c.in-Passed.n c.moves.invariant.1 (rw c.split_at.ensures.back at c.in-Passed.ensures.exact) (rw c.split_at.ensures.back at c.in-Passed.ensures.moves).within.0 (rw c.split_at.ensures.back at c.in-Passed.ensures.moves).within.1,
 )
 
 pub returns-in-Whole-clause-first : goal.returns-in-Whole-clause-first
