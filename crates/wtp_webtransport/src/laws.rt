@@ -7,7 +7,7 @@ ghost use Rattle.wtp_webtransport.specs.Receiving.{Outcome, Receives};
 ghost use Rattle.wtp_webtransport.specs.Calls.{Stops, course_of, plain, moved, IsSession, IsPiece, HasMemory, HasFrames, Grown};
 ghost use Rattle.wtp_connection.specs.Opening.{is_critical};
 ghost use Rattle.wtp_webtransport.specs.Endings.{KeepsSession, KeepsAfter, accepts_session};
-ghost use Rattle.wtp_webtransport.specs.Joining.{resets, stops_half, abandons, joins};
+ghost use Rattle.wtp_webtransport.specs.Joining.{resets, stops_half, abandons, joins, overflows};
 ghost use Rattle.wtp_webtransport.specs.Streams.{is_held, answered};
 ghost use Rattle.wtp_connection.specs.declared.connection.Known.{Known};
 ghost use Rattle.wtp_messages.specs.Content.{fits, left_after};
@@ -30,6 +30,7 @@ pub fn sessions_end_once()
     ensures stop { (c : Connection) (s : Stream) → KeepsAfter s (stops_half c s) }
     ensures abandon { (c : Connection) (s : Stream) → KeepsAfter s (abandons c s) }
     ensures join { (c : Connection) (s : Stream) (k : Known) → KeepsAfter s (joins c s k) }
+    ensures overflow { (c : Connection) (s : Stream) → KeepsAfter s (overflows c s) }
     ensures answer { (s : Stream) (status : ℕ) → is_held (answered s status).part
         ≡ (is_held s.part || accepts_session s.part status) }
 {}
