@@ -9,3 +9,4 @@ pub mod CallLemmas
 pub mod StopLemmas
 pub mod GivenLemmas
 pub mod PieceLemmas
+pub mod RunLemmas

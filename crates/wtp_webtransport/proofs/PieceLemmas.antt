@@ -5,11 +5,11 @@ use Rattle.wtp_messages.specs.declared.message.Message.{Message}
 use Rattle.wtp_connection.specs.Opening.{remaining_of}
 use Rattle.wtp_messages.specs.Content.{fits, left_after}
 use Rattle.wtp_messages.specs.declared.malformed.Malformed.TheVariants.{ContentTooLong}
-use Rattle.std.proofs.lemmas.List.{append-nil, drop-append-le}
+use Rattle.std.proofs.lemmas.List.{append-nil, drop-append-le, map-append}
 use Rattle.std.proofs.Math.Seq.{take-append-add, take-length, take-append_seam}
 use Rattle.wtp_frames.specs.Reading.{slice}
 use Rattle.wtp_connection.specs.Opening.{over_from, is_critical}
-use Rattle.wtp_connection.specs.Streams.{without, followed}
+use Rattle.wtp_connection.specs.Streams.{without, followed, rests}
 use Rattle.wtp_connection.specs.First.{in_piece, longer}
 use Rattle.wtp_connection.proofs.FirstLemmas.{first_over, piece_seen as some_piece}
 use Rattle.wtp_connection.proofs.FirstCutLemmas.{piece_seen, IsFrames, NextPiece, piece_next, frames_stay}
@@ -19,7 +19,7 @@ use Rattle.wtp_webtransport.proofs.FoundLemmas.{data_from, slice_length}
 use Rattle.wtp_webtransport.specs.Events.{Told, Data, StreamData, Malformed}
 use Rattle.wtp_webtransport.specs.Streams.{with_part, with_message}
 use Rattle.wtp_webtransport.specs.Receiving.{malformed, counted, content_found, left_by}
-use Rattle.wtp_webtransport.specs.Calls.{Repeats, joined_told, joined, Grown, Whole, Longer, HasFrames}
+use Rattle.wtp_webtransport.specs.Calls.{Repeats, joined_told, joined, Grown, Whole, Longer, HasFrames, Continues, Stops, Rests, spread, each_byte}
 use Rattle.wtp_connection.specs.declared.stream.Stream.TheVariants as frames
 use Rattle.wtp_connection.specs.Streams.{bytes_seen}
 use Rattle.wtp_connection.specs.declared.connection.Connection.{Connection as Streams}
@@ -44,7 +44,7 @@ use Rattle.wtp_webtransport.specs.Calls.{IsPiece, Stops, course_of, plain, moved
 use Rattle.wtp_webtransport.proofs.FoundLemmas.{found_from, found_is}
 use Rattle.wtp_webtransport.proofs.CallLemmas.{goes_of, due_still, some_bytes, seen_empty, content_due}
 use Rattle.wtp_webtransport.proofs.StopLemmas.{keeps_end}
-use Rattle.wtp_webtransport.proofs.GivenLemmas.{fault_given, end_given, left_given, empty_given, unread_given}
+use Rattle.wtp_webtransport.proofs.GivenLemmas.{fault_given, end_given, left_given, empty_given, unread_given, more_course}
 
 -- ---- bytes
 
@@ -96,18 +96,65 @@ next_found limit c s b fin p intact none idle n h =
 
 -- ---- what the pieces are together
 
+-- without bytes a call changes nothing
+record RestsAt (c : Connection) (s : Stream) (r : Outcome) : Type 0 where
+  stops : course_of r.1 ≡ Stops
+  none : r.0 ≡ 0
+  connection : r.2 ≡ c
+  stream : r.3 ≡ s
+
+rests_of : (o r : Outcome) (c : Connection) (s : Stream) → o.2 ≡ c → o.3 ≡ s → RestsAt c s r → Rests o r
+rests_of o r c s e f h = record { stops = h.stops; none = h.none; connection = h.connection ∙ sym e; stream = h.stream ∙ sym f }
+
+found_rests : (x : Found) (limit : ℕ) (c : Connection) (s : Stream) (r : Outcome) (d : Streams) (t : Frames) → Fits x [] d t → found_by x [] d t ≡ rests c.streams s.frames [] → FoundGives limit x (with_streams c d) (with_frames s t) [] r → RestsAt c s r
+found_rests (found.More n) limit c s r d t w e g = record {
+  stops = ap (λ (z : Outcome). course_of z.1) g ∙ more_course t;
+  none = ap (λ (z : Outcome). z.0) g ∙ omega (arith, w.0);
+  connection = ap (λ (z : Outcome). z.2) g ∙ ap (λ (z : StreamRun). with_streams c z.connection) e;
+  stream = ap (λ (z : Outcome). z.3) g ∙ ap (λ (z : StreamRun). with_frames s z.stream) e;
+}
+found_rests (found.Data start end) limit c s r d t w e g = absurd (none_size w.0 w.1)
+  where
+    none_size : {m k : ℕ} → m < k → k ≤ 0 → ⊥
+    none_size l n = omega (arith, l, n)
+found_rests (found.Opened p n) limit c s r d t w e g = absurd (cc (ap (λ (z : StreamRun). z.seen) e))
+found_rests (found.Settings k start end) limit c s r d t w e g = absurd (cc (ap (λ (z : StreamRun). z.seen) e))
+found_rests (found.Frame k start end) limit c s r d t w e g = absurd (cc (ap (λ (z : StreamRun). z.seen) e))
+found_rests (found.TooLarge size n) limit c s r d t w e g = absurd (cc (ap (λ (z : StreamRun). z.seen) e))
+found_rests (found.Fault f) limit c s r d t w e g = absurd (cc (ap (λ (z : StreamRun). z.seen) e))
+found_rests found.End limit c s r d t w e g = absurd (cc (ap (λ (z : StreamRun). z.seen) e))
+
+empty_rests : (limit : ℕ) (c : Connection) (s : Stream) (r : Outcome) → c.over ≡ false → s.unread ≡ unread.Nothing → due_by s.part false ≡ due.Nothing → Receives limit c s [] false r → RestsAt c s r
+empty_rests limit c s r intact none idle h =
+    let x : GoesOn limit c s [] false r = goes_of limit c s [] false r h intact none (due_still s.part true idle) in
+    found_rests x.x limit c s r x.d x.t x.found.fits (x.first ∙ seen_empty c.streams s.frames) x.gives
+
 -- bytes that are not counted
-bytes_grown : (f : List ℕ → Told) (limit : ℕ) (c : Connection) (s : Stream) (a b : List ℕ) (fin : Bool) (start end : ℕ) (o q : Outcome) → ((l : List ℕ) → IsPiece (f l)) → ((x y : List ℕ) → joined_told (f x) (f y) ≡ f (x ++ y)) → start ≤ end → end ≡ length a → (n : NextPiece c.streams s.frames b) → ((p : Outcome) → Receives limit c s b fin p → p ≡ (length n.piece, f (slice 0 (length n.piece) b), c, with_frames s n.stream)) → o ≡ (end, f (slice start end a), c, s) → q ≡ (end + length n.piece, f (slice start (end + length n.piece) (a ++ b)), c, with_frames s n.stream) → Grown limit a b fin o q
-bytes_grown f limit c s a b fin start end o q piece joins l e n next g h =
-    Longer (ap (λ (z : Outcome). z.0) g ∙ e) (λ p r.
-    let is : p ≡ (length n.piece, f (slice 0 (length n.piece) b), c, with_frames s n.stream) = next p (subst (λ (z : Outcome). Receives limit z.2 z.3 b fin p) g r) in (
-      subst (λ (z : Outcome). IsPiece z.1) (sym is) (piece (slice 0 (length n.piece) b)),
-      h
-          ∙ ap (λ (k : List ℕ). (end + length n.piece, f k, c, with_frames s n.stream)) (whole_slice start end a b n.piece n.rest l e n.parts ∙ ap (λ (k : List ℕ). slice start end a ++ k) (sym (first_slice b n.piece n.rest n.parts)))
-          ∙ ap (λ (t : Told). (end + length n.piece, t, c, with_frames s n.stream)) (sym (joins (slice start end a) (slice 0 (length n.piece) b)))
-          ∙ ap (λ (z : Outcome). joined (end, f (slice start end a), c, s) z) (sym is)
-          ∙ ap (λ (z : Outcome). joined z p) (sym g),
-    ))
+bytes_grown : (f : List ℕ → Told) (limit : ℕ) (c : Connection) (s : Stream) (a b : List ℕ) (fin : Bool) (start end : ℕ) (o q : Outcome) → ((l : List ℕ) → course_of (f l) ≡ Continues) → ((l : List ℕ) → spread (f l) ≡ each_byte f l) → ((x y : List ℕ) → joined_told (f x) (f y) ≡ f (x ++ y)) → start ≤ end → end ≡ length a → (n : NextPiece c.streams s.frames b) → ((p : Outcome) → Receives limit c s b fin p → p ≡ (length n.piece, f (slice 0 (length n.piece) b), c, with_frames s n.stream)) → ((r : Outcome) → Receives limit c s [] false r → RestsAt c s r) → o ≡ (end, f (slice start end a), c, s) → q ≡ (end + length n.piece, f (slice start (end + length n.piece) (a ++ b)), c, with_frames s n.stream) → Grown limit a b fin o q
+bytes_grown f limit c s a b fin start end o q goes spreads joins l e n next rests g h =
+    let x : List ℕ = slice start end a in
+    let y : List ℕ = slice 0 (length n.piece) b in
+    let both : slice start (end + length n.piece) (a ++ b) ≡ x ++ y = whole_slice start end a b n.piece n.rest l e n.parts ∙ ap (λ (k : List ℕ). slice start end a ++ k) (sym (first_slice b n.piece n.rest n.parts)) in
+    Longer (ap (λ (z : Outcome). z.0) g ∙ e) (ap (λ (z : Outcome). course_of z.1) g ∙ goes x) (λ p r.
+    let is : p ≡ (length n.piece, f y, c, with_frames s n.stream) = next p (subst (λ (z : Outcome). Receives limit z.2 z.3 b fin p) g r) in
+    record {
+      goes = ap (λ (z : Outcome). course_of z.1) is ∙ goes y;
+      is =
+          h
+          ∙ ap (λ (k : List ℕ). (end + length n.piece, f k, c, with_frames s n.stream)) both
+          ∙ ap (λ (t : Told). (end + length n.piece, t, c, with_frames s n.stream)) (sym (joins x y))
+          ∙ ap (λ (z : Outcome). joined (end, f x, c, s) z) (sym is)
+          ∙ ap (λ (z : Outcome). joined z p) (sym g);
+      bytes =
+          ap (λ (z : Outcome). spread z.1) h
+          ∙ ap (λ (k : List ℕ). spread (f k)) both
+          ∙ spreads (x ++ y)
+          ∙ map-append (λ (k : ℕ). f (k ∷ [])) x y
+          ∙ ap (λ (k : List Told). k ++ each_byte f y) (sym (spreads x))
+          ∙ ap (λ (k : List Told). spread (f x) ++ k) (sym (spreads y))
+          ∙ ap (λ (z : Outcome). spread z.1 ++ spread (f y)) (sym g)
+          ∙ ap (λ (z : Outcome). spread o.1 ++ spread z.1) (sym is);
+    }) (λ r k. rests_of o r c s (ap (λ (z : Outcome). z.2) g) (ap (λ (z : Outcome). z.3) g) (rests r (subst (λ (z : Outcome). Receives limit z.2 z.3 [] false r) g k)))
 
 -- content, which is counted
 message_twice : (k : Part) (m n : Message) → with_message (with_message k m) n ≡ with_message k n
@@ -156,21 +203,29 @@ counted_grown limit c s m a b fin start end o q intact none l e n left is (g, h)
     let s1 : Stream = with_part s (with_message s.part m1) in
     let size : ℕ = length n.piece in
     let both : List ℕ = slice start end a ++ slice 0 size b in
-    Longer (ap (λ (z : Outcome). z.0) g ∙ e) (λ p r.
+    Longer (ap (λ (z : Outcome). z.0) g ∙ e) (ap (λ (z : Outcome). course_of z.1) g) (λ p r.
     let found : DataBy s1.part c (with_frames s1 n.stream) 0 size b p = next_found limit c s1 b fin p intact none (due_message s.part m1) n (subst (λ (z : Outcome). Receives limit z.2 z.3 b fin p) g r) in
     let by : p ≡ content_found c (with_frames s1 n.stream) m1 0 size b = content_data s.part m1 c (with_frames s1 n.stream) 0 size b p found in
     let fits_more : fits m1.content.left ((size - 0) + remaining_of n.stream) ≡ true =
     ap (λ (i : ℕ). fits m1.content.left i) (omega (arith, left)) ∙ fits_later m.content.left (end - start) (remaining_of s.frames) is in
-    let whole : p ≡ content_by true c (with_frames s1 n.stream) m1 0 size b = by ∙ ap (λ (k : Bool). content_by k c (with_frames s1 n.stream) m1 0 size b) fits_more in (
-      subst (λ (z : Outcome). IsPiece z.1) (sym whole) tt,
-      h
+    let whole : p ≡ content_by true c (with_frames s1 n.stream) m1 0 size b = by ∙ ap (λ (k : Bool). content_by k c (with_frames s1 n.stream) m1 0 size b) fits_more in
+    record {
+      goes = ap (λ (z : Outcome). course_of z.1) whole;
+      bytes =
+          ap (λ (z : Outcome). spread z.1) h
+          ∙ ap (λ (k : List ℕ). each_byte Data k) (whole_slice start end a b n.piece n.rest l e n.parts ∙ ap (λ (x : List ℕ). slice start end a ++ x) (sym (first_slice b n.piece n.rest n.parts)))
+          ∙ map-append (λ (k : ℕ). Data (k ∷ [])) (slice start end a) (slice 0 size b)
+          ∙ ap (λ (z : Outcome). spread z.1 ++ each_byte Data (slice 0 size b)) (sym g)
+          ∙ ap (λ (z : Outcome). spread o.1 ++ spread z.1) (sym whole);
+      is =
+          h
           ∙ ap (λ (x : List ℕ). (end + size, Data x, c, with_part (with_frames s n.stream) (with_message s.part (counted m ((end + size) - start))))) (whole_slice start end a b n.piece n.rest l e n.parts ∙ ap (λ (x : List ℕ). slice start end a ++ x) (sym (first_slice b n.piece n.rest n.parts)))
           ∙ ap (λ (x : Option ℕ). (end + size, Data both, c, with_part (with_frames s n.stream) (with_message s.part (record m { content = record { left = x } }))))
           (ap (λ (i : ℕ). left_after m.content.left i) (omega (arith, l)) ∙ sym (counted_alike m.content.left (end - start) (size - 0)))
           ∙ ap (λ (x : Part). (end + size, Data both, c, with_part (with_frames s n.stream) x)) (sym (message_twice s.part m1 (counted m1 (size - 0))))
           ∙ ap (λ (z : Outcome). joined (end, Data (slice start end a), c, s1) z) (sym whole)
-          ∙ ap (λ (z : Outcome). joined z p) (sym g),
-    ))
+          ∙ ap (λ (z : Outcome). joined z p) (sym g);
+    }) (λ r k. rests_of o r c s1 (ap (λ (z : Outcome). z.2) g) (ap (λ (z : Outcome). z.3) g) (empty_rests limit c s1 r intact none (due_message s.part m1) (subst (λ (z : Outcome). Receives limit z.2 z.3 [] false r) g k)))
 
 content_grown : (k : Bool) (limit : ℕ) (c : Connection) (s : Stream) (m : Message) (a b : List ℕ) (fin : Bool) (start end : ℕ) (o q : Outcome) → c.over ≡ false → s.unread ≡ unread.Nothing → start ≤ end → end ≡ length a → (n : NextPiece c.streams s.frames b) → remaining_of s.frames ≡ length n.piece + remaining_of n.stream → fits m.content.left ((end - start) + remaining_of s.frames) ≡ k → Content k c s m a b start end (length n.piece) n.stream o q → is_critical o.3.frames ≡ false → Grown limit a b fin o q
 content_grown true limit c s m a b fin start end o q intact none l e n left is g free = counted_grown limit c s m a b fin start end o q intact none l e n left is g
@@ -204,11 +259,11 @@ part_grown (part.Body m) limit c s a b fin start end o q is ns idle intact none 
     (g, h ∙ ap (λ (i : ℕ). content_by (fits m.content.left i) c (with_frames s n.stream) m start (end + length n.piece) (a ++ b)) (later_size start end (remaining_of n.stream) (length n.piece) l ∙ ap (λ (i : ℕ). (end - start) + i) (sym left))) free
 part_grown (part.Session size) limit c s a b fin start end o q is ns idle intact none l e n frames g h free = absurd (ns tt)
 part_grown part.OfSession limit c s a b fin start end o q is ns idle intact none l e n frames g h free =
-    bytes_grown StreamData limit c s a b fin start end o q (λ x. tt) (λ x y. refl) l e n
-    (λ p r. subst (λ (k : Part). DataBy k c (with_frames s n.stream) 0 (length n.piece) b p) is (next_found limit c s b fin p intact none (subst (λ (k : Part). due_by k false ≡ due.Nothing) (sym is) idle) n r)) g h
+    bytes_grown StreamData limit c s a b fin start end o q (λ x. refl) (λ x. refl) (λ x y. refl) l e n
+    (λ p r. subst (λ (k : Part). DataBy k c (with_frames s n.stream) 0 (length n.piece) b p) is (next_found limit c s b fin p intact none (subst (λ (k : Part). due_by k false ≡ due.Nothing) (sym is) idle) n r)) (λ r k. empty_rests limit c s r intact none (subst (λ (k : Part). due_by k false ≡ due.Nothing) (sym is) idle) k) g h
 part_grown k limit c s a b fin start end o q is ns idle intact none l e n frames g h free =
-    bytes_grown Data limit c s a b fin start end o q (λ x. tt) (λ x y. refl) l e n
-    (λ p r. subst (λ (k : Part). DataBy k c (with_frames s n.stream) 0 (length n.piece) b p) is (next_found limit c s b fin p intact none (subst (λ (k : Part). due_by k false ≡ due.Nothing) (sym is) idle) n r)) g h
+    bytes_grown Data limit c s a b fin start end o q (λ x. refl) (λ x. refl) (λ x y. refl) l e n
+    (λ p r. subst (λ (k : Part). DataBy k c (with_frames s n.stream) 0 (length n.piece) b p) is (next_found limit c s b fin p intact none (subst (λ (k : Part). due_by k false ≡ due.Nothing) (sym is) idle) n r)) (λ r k. empty_rests limit c s r intact none (subst (λ (k : Part). due_by k false ≡ due.Nothing) (sym is) idle) k) g h
 
 -- ---- by whether the piece goes on
 

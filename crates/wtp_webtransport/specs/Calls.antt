@@ -1,5 +1,5 @@
 -- Calls of one stream, and what they say together, however its bytes are cut.
-use Rattle.std.specs.Prelude.{◌≡◌, ℕ, ◌+◌, Bool, List, ◌++◌, length}
+use Rattle.std.specs.Prelude.{◌≡◌, ◌⊎◌, ◌≤◌, ℕ, ◌+◌, Bool, false, List, [], ◌∷◌, ◌++◌, map, length, drop}
 use Rattle.wtp_messages.specs.declared.malformed.Malformed.TheVariants.{MissingHead, ContentTooLong}
 use Rattle.wtp_webtransport.specs.declared.connection.messages.Taken.{Taken}
 use Rattle.wtp_webtransport.specs.declared.connection.messages.Taken.TheVariants as taken
@@ -8,6 +8,9 @@ use Rattle.wtp_webtransport.specs.declared.stream.Part.TheVariants as part
 use Rattle.wtp_webtransport.specs.Events.{Told, SessionLost, Data, StreamData, Malformed, StreamError, ConnectionError, End, NoMemory, Waits, More}
 use Rattle.wtp_connection.specs.declared.stream.Stream.{Stream as Frames}
 use Rattle.wtp_connection.specs.declared.stream.Stream.TheVariants as frames
+use Rattle.wtp_connection.specs.Opening.{is_critical}
+use Rattle.wtp_webtransport.specs.declared.connection.Connection.{Connection}
+use Rattle.wtp_webtransport.specs.declared.stream.Stream.{Stream}
 use Rattle.wtp_webtransport.specs.Receiving.{Outcome, Receives}
 
 -- ---- events
@@ -81,12 +84,36 @@ joined_told x y = x
 abbrev pub joined : Outcome → Outcome → Outcome
 joined o p = (o.0 + p.0, joined_told o.1 p.1, p.2, p.3)
 
--- What a call on the bytes a and b returns that on a alone returned this: the same, or, if that took all
--- of a, what it and any call on b return together.
+-- what an event says, byte by byte
+abbrev pub each_byte : (List ℕ → Told) → List ℕ → List Told
+each_byte f bytes = map (λ b. f (b ∷ [])) bytes
+
+abbrev pub spread : Told → List Told
+spread (Data piece) = each_byte Data piece
+spread (StreamData piece) = each_byte StreamData piece
+spread told = ruleless told ∷ []
+
+-- two calls of which each returned a piece, and one that returned both
+pub record Joins (o p q : Outcome) : Type 0 where
+  pub goes : course_of p.1 ≡ Continues
+  pub is : q ≡ joined o p
+  pub bytes : spread q.1 ≡ spread o.1 ++ spread p.1
+
+-- a call that needs more bytes, and changed nothing
+pub record Rests (o r : Outcome) : Type 0 where
+  pub stops : course_of r.1 ≡ Stops
+  pub none : r.0 ≡ 0
+  pub connection : r.2 ≡ o.2
+  pub stream : r.3 ≡ o.3
+
+-- What a call on the bytes a and b returns, if that on a alone returned a piece: the same; or, if that
+-- took all of a, what it and any call on b return together. Without more bytes there is nothing more.
 pub data Grown (limit : ℕ) (a b : List ℕ) (fin : Bool) (o q : Outcome) : Type 0 where
   Whole : plain q ≡ moved 0 (length (a ++ b)) o → Grown limit a b fin o q
   Longer : o.0 ≡ length a
-      → ((p : Outcome) → Receives limit o.2 o.3 b fin p → IsPiece p.1 × (q ≡ joined o p))
+      → course_of o.1 ≡ Continues
+      → ((p : Outcome) → Receives limit o.2 o.3 b fin p → Joins o p q)
+      → ((r : Outcome) → Receives limit o.2 o.3 [] false r → Rests o r)
       → Grown limit a b fin o q
 
 -- a message has frames
@@ -96,3 +123,43 @@ HasFrames (part.Body m) (frames.Frames r given) = Unit {0}
 HasFrames (part.Head m) other = ⊥
 HasFrames (part.Body m) other = ⊥
 HasFrames p t = Unit {0}
+
+-- ---- the calls of a stream, one after the other
+
+-- What holds at a call: there is no open session, the stream of a message has frames, pieces of content
+-- come on no stream that must not be closed, and the bytes that are consumed came.
+pub record IsCall (limit : ℕ) (c : Connection) (s : Stream) (bytes : List ℕ) (fin : Bool)
+    (o : Outcome) : Type 0 where
+  pub ordinary : IsSession s.part → ⊥
+  pub frames : HasFrames s.part s.frames
+  pub gives : Receives limit c s bytes fin o
+  pub free : IsPiece o.1 → is_critical o.3.frames ≡ false
+  pub within : o.0 ≤ length bytes
+
+-- the caller goes on with the bytes that are left after the first outcomes, and not after the last one
+abbrev pub Reads : ℕ → List Outcome → Outcome → Connection → Stream → List ℕ → Bool → Type 0
+Reads limit [] z c s bytes fin =
+    IsCall limit c s bytes fin z × ((course_of z.1 ≡ Stops) ⊎ (course_of z.1 ≡ Finishes))
+Reads limit (o ∷ os) z c s bytes fin =
+    IsCall limit c s bytes fin o
+    × (course_of o.1 ≡ Continues)
+    × Reads limit os z o.2 o.3 (drop o.0 bytes) fin
+
+-- what they say, before the last one and with it
+abbrev pub told_before : List Outcome → List Told
+told_before [] = []
+told_before (o ∷ os) = spread o.1 ++ told_before os
+
+abbrev pub told_all : List Outcome → Outcome → List Told
+told_all os z = told_before os ++ spread z.1
+
+-- the bytes that are left
+abbrev pub left_of : List Outcome → Outcome → List ℕ → List ℕ
+left_of [] z bytes = drop z.0 bytes
+left_of (o ∷ os) z bytes = left_of os z (drop o.0 bytes)
+
+-- calls that say this, and end with the states of this outcome
+pub record SaysTo (said : List Told) (w : Outcome) (gs : List Outcome) (y : Outcome) : Type 0 where
+  pub told : told_all gs y ≡ said
+  pub connection : y.2 ≡ w.2
+  pub stream : y.3 ≡ w.3

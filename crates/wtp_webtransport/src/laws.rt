@@ -4,7 +4,7 @@ ghost use Rattle.std.specs.Prelude.{◌≡◌, ◌||◌, ◌+◌, ◌<◌, ◌�
 ghost use Rattle.wtp_webtransport.specs.declared.connection.Connection.{Connection};
 ghost use Rattle.wtp_webtransport.specs.declared.stream.Stream.{Stream};
 ghost use Rattle.wtp_webtransport.specs.Receiving.{Outcome, Receives};
-ghost use Rattle.wtp_webtransport.specs.Calls.{Stops, course_of, plain, moved, IsSession, IsPiece, HasMemory, HasFrames, Grown};
+ghost use Rattle.wtp_webtransport.specs.Calls.{Stops, Finishes, Reads, SaysTo, left_of, told_before, told_all, course_of, plain, moved, IsSession, IsPiece, HasMemory, HasFrames, Grown};
 ghost use Rattle.wtp_connection.specs.Opening.{is_critical};
 ghost use Rattle.wtp_webtransport.specs.Endings.{KeepsSession, KeepsAfter, accepts_session};
 ghost use Rattle.wtp_webtransport.specs.Joining.{resets, stops_half, abandons, joins, overflows};
@@ -61,6 +61,21 @@ pub fn calls_may_be_cut()
         → (IsSession s.part → ⊥) → HasFrames s.part s.frames
         → Receives limit c s a false o → IsPiece o.1 → is_critical o.3.frames ≡ false
         → Receives limit c s (a ++ b) fin q → HasMemory q → Grown limit a b fin o q }
+{}
+
+/// However the bytes of a stream are cut, its calls say the same: the calls on the bytes `a`, up to one
+/// that needs more bytes or waits, and then those on what it left and `b`, say together what the calls on
+/// `a` and `b` say, byte by byte of pieces, and end with the same states; up to an error or the end they
+/// say so alone. This is with memory, before a session is open on the stream, and where each call consumes
+/// bytes that came.
+pub fn streams_may_be_cut()
+    ensures stops { (limit : ℕ) (os fs gs : List Outcome) (z w y : Outcome) (c : Connection) (s : Stream)
+        (a b : List ℕ) (fin : Bool) → Reads limit os z c s a false → course_of z.1 ≡ Stops
+        → Reads limit fs w z.2 z.3 (left_of os z a ++ b) fin → Reads limit gs y c s (a ++ b) fin
+        → SaysTo (told_before os ++ told_all fs w) w gs y }
+    ensures ends { (limit : ℕ) (os gs : List Outcome) (z y : Outcome) (c : Connection) (s : Stream)
+        (a b : List ℕ) (fin : Bool) → Reads limit os z c s a false → course_of z.1 ≡ Finishes
+        → Reads limit gs y c s (a ++ b) fin → SaysTo (told_all os z) z gs y }
 {}
 
 /// The content of a session may be cut anywhere, also where allocation failed: whatever follows the
