@@ -2,7 +2,7 @@
 -- refer (RFC 9204, sections 2.1.1.1, 4.3 and 4.5).
 use Rattle.std.specs.Prelude.{◌≡◌, ◌⊎◌, ℕ, ◌-◌, ◌/◌, ◌<◌, ◌≤◌, nat_le, min, Bool, true, false, List, [], ◌∷◌, Option, Some, None}
 use Rattle.wtp_qpack.specs.Field.{Field}
-use Rattle.wtp_qpack.specs.StaticTable.{first_entry}
+use Rattle.wtp_qpack.specs.StaticTable.{first_entry, FindsStatic}
 use Rattle.wtp_dynamic.specs.Table.{Table, insert_count, entry_size, evicted, HasNone, IsLatest, FindsLatest}
 use Rattle.wtp_dynamic.specs.Writing.{Order, Sets, InsertsNamed, InsertsLiteral, Duplicates}
 use Rattle.wtp_dynamic.specs.Plans.{Plan, StaticField, TableField, StaticName, TableName, NewName}
@@ -10,7 +10,6 @@ use Rattle.wtp_dynamic_encoder.specs.declared.proposal.Indexing.{Indexing}
 use Rattle.wtp_dynamic_encoder.specs.declared.proposal.Indexing.TheVariants.{ByPolicy, Insert, Without, Never}
 use Rattle.wtp_dynamic_encoder.specs.declared.proposal.Policy.{Policy}
 use Rattle.wtp_dynamic_encoder.specs.declared.proposal.Proposal.{Proposal}
-use Rattle.wtp_dynamic_encoder.specs.Lookup.{FindsStatic}
 
 -- ---- proposals
 
