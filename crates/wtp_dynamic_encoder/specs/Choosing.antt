@@ -57,9 +57,13 @@ draining_index policy table =
 
 -- ---- the order that inserts an entry
 
+-- the absolute index of the latest such entry, or that there is none
+abbrev pub IsCopy : Field → Table → Option ℕ → Type 0
+IsCopy entry table latest = FindsLatest (is_field entry) table (insert_count table) latest
+
 -- the table has no such entry
 abbrev pub IsNew : Field → Table → Type 0
-IsNew entry table = FindsLatest (is_field entry) table (insert_count table) None
+IsNew entry table = IsCopy entry table None
 
 -- The latest such entry is inserted again (section 4.3.4). If there is none, the entry has the name
 -- of the first static entry with that name, or else of the latest dynamic entry (4.3.2), or else its

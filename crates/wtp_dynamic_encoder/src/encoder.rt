@@ -8,15 +8,16 @@ ghost use Rattle.wtp_dynamic_encoder.specs.Acknowledging.{most_bytes};
 ghost use Rattle.wtp_dynamic_encoder.specs.Choosing.{default_policy};
 ghost use Rattle.wtp_dynamic_encoder.specs.Encoding.{Runs, State, held_count, encoder_of, InsertsIf, ResizesIf, Ordered, prefix_for, sent_at, opened, bound_for, Encodes, PieceRead};
 
-use crate::choice::draining_index;
+use crate::choice::{copy_of, draining_index};
 use crate::decoder_stream::DecoderStream;
 use crate::indexed::IndexedTable;
 use crate::insertion;
-use crate::key::{Key, keys_of};
+use crate::key::{Key, fill_keys};
 use crate::proposal::{Policy, Proposal};
 use crate::section::{Lines, write_lines};
 use std::alloc::{AllocError, Global};
 use std::marker::Model;
+use std::mem::replace;
 use wtp_dynamic::error::DecoderStreamError;
 use wtp_dynamic::ledger::{Ledger, Sent};
 use wtp_dynamic::table::DynamicTable;
@@ -89,6 +90,9 @@ pub struct QpackEncoder {
     fault: Option<DecoderStreamError>,
     most: u64,
     policy: Policy,
+    /// Memory for the keys of a section, and for its lines, which is kept from one to the next.
+    keys: Vec<Key>,
+    room: Vec<u8>,
 }
 
 // Contracts treat the encoder as its table, its ledger, the decoder stream, how many streams may be
@@ -134,6 +138,8 @@ impl QpackEncoder {
             fault: None,
             most,
             policy: Policy::new(),
+            keys: Vec::new(alloc),
+            room: Vec::new(alloc),
         }
     }
 
@@ -223,11 +229,14 @@ impl QpackEncoder {
             encoder_stream.new.items }
         ensures same { self.new ≡ record self.old { table = self.new.table } }
     {
+        let key = Key::of(name, value);
+        let latest = copy_of(&self.table, key, name, value);
         insertion::insert_entry(
             self.alloc,
             &mut self.table,
             &self.ledger,
-            Key::of(name, value),
+            key,
+            latest,
             name,
             value,
             encoder_stream,
@@ -260,30 +269,32 @@ impl QpackEncoder {
         ensures { Encodes stream proposals.now self.old self.new encoder_stream.old.items
             encoder_stream.new.items section.old.items section.new.items result }
     {
-        let keys = keys_of(self.alloc, proposals);
+        fill_keys(&mut self.keys, proposals);
         insertion::insert_all(
             self.alloc,
             self.policy,
             &mut self.table,
             &self.ledger,
             proposals,
-            keys.as_slice(),
+            self.keys.as_slice(),
             encoder_stream,
         )?;
         let low = draining_index(self.policy, &self.table);
         let bound = bound_of(self.policy, &self.table, &self.ledger, stream, self.most);
         let lines = match write_lines(
-            self.alloc,
+            replace(&mut self.room, Vec::new(self.alloc)),
             &self.table,
             low,
             bound,
             proposals,
-            keys.as_slice(),
+            self.keys.as_slice(),
         ) {
             Ok(lines) => lines,
             Err(fault) => return Err(fault),
         };
-        send(stream, &self.table, &mut self.ledger, &lines, section)
+        let sent = send(stream, &self.table, &mut self.ledger, &lines, section);
+        self.room = lines.into_room();
+        sent
     }
 
     /// Reads the next piece of the decoder stream: does the instructions that are now complete

@@ -1,6 +1,6 @@
 use Rattle.std.proofs.Common.{◌≡◌, length}
 use Rattle.wtp_dynamic_encoder.specs.Keys.{AreKeys}
-use Rattle.wtp_dynamic_encoder.proofs.key.keys_of.Given as goal
+use Rattle.wtp_dynamic_encoder.proofs.key.fill_keys.Given as goal
 
 abbrev pub invariant-loop-proposal : goal.invariant-loop-proposal
 invariant-loop-proposal l = record {
