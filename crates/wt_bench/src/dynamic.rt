@@ -207,7 +207,10 @@ pub extern "C" fn wt_bench_dynamic_encode(
 ) -> i64 {
     let mut encoder = QpackEncoder::new(alloc, capacity as u64, 100);
     let mut rooms = Rooms::new(alloc);
-    if encoder.set_capacity(capacity as u64, &mut rooms.orders).is_err() {
+    if encoder
+        .set_capacity(capacity as u64, &mut rooms.orders)
+        .is_err()
+    {
         return -1;
     }
     let mut sum = rooms.orders.len();
