@@ -81,6 +81,20 @@ fn send(
 /// It evicts no entry of which it does not know that the decoder received it, and none to which a
 /// section refers that is not acknowledged (section 2.1.1). It sends no section that may block more
 /// streams than the decoder allows (section 2.1.2).
+///
+/// Between calls it keeps the memory that the largest section so far needed: for its lines, and at most
+/// 96 bytes for each of its fields.
+///
+/// # Cost
+///
+/// A field is looked up in the dynamic table at most four times: by its texts and by its name, for its
+/// insertion and for its line. A look-up goes over the entries whose hashes belong to one bucket, of
+/// which there are at least as many as entries. Hashes have no key: whoever chooses the fields, as
+/// clients of a proxy do, can give them the same hash. Then a look-up compares a field with every
+/// entry, of which there are at most `limit / 32`: 128 in a table of 4 KiB. So a hostile list of `n`
+/// fields costs at most `n * limit / 8` comparisons of texts, and the policy
+/// [`Indexing::Without`](crate::proposal::Indexing::Without) keeps fields out of the table. A look-up
+/// in the static table compares one name and one value at most, whatever they are.
 #[derive(Drop)]
 pub struct QpackEncoder {
     alloc: Global,
