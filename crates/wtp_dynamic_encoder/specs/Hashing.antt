@@ -33,6 +33,7 @@ hash_words (suc n) state bytes =
 unfoldable pub folded : ℕ → ℕ
 folded state = bit_xor state (state / 2 ^ 32)
 
+-- the hash of a text, from a seed
 unfoldable pub hash_text : ℕ → List ℕ → ℕ
 hash_text seed text =
     folded (mixed (hash_words (length text / 8) (mixed seed (length text)) text) (last_word text))
