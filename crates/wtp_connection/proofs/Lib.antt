@@ -13,3 +13,4 @@ pub mod KnownLemmas
 pub mod ProgressLemmas
 pub mod PurposeLemmas
 pub mod KeptLemmas
+pub mod WordLemmas

@@ -7,3 +7,4 @@ pub mod Streams
 pub mod Receiving
 pub mod Requests
 pub mod Datagrams
+pub mod Words

@@ -6,6 +6,7 @@ ghost use Rattle.wtp_connection.specs.Receiving.{FoundIs, StepIsFound, IsNearer,
 pub mod datagrams;
 mod resumption;
 mod sessions;
+pub mod words;
 
 use crate::fault::Fault;
 use crate::fields::Fields;

@@ -12,3 +12,4 @@ pub mod GrammarLemmas
 pub mod RowLemmas
 pub mod InterimLemmas
 pub mod TunnelLemmas
+pub mod WordLemmas

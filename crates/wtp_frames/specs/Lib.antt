@@ -11,3 +11,4 @@ pub mod Pieces
 pub mod Order
 pub mod Codes
 pub mod Tunnel
+pub mod Words

@@ -3,3 +3,4 @@ pub mod CapsuleLemmas
 pub mod HalfLemmas
 pub mod CutLemmas
 pub mod ContentLemmas
+pub mod WordLemmas

@@ -9,3 +9,4 @@ pub mod Sessions
 pub mod Receiving
 pub mod Joining
 pub mod Endings
+pub mod Words

@@ -8,6 +8,7 @@ ghost use Rattle.wtp_webtransport.specs.Streams.{connection_of, accepted, reques
 mod messages;
 mod sessions;
 mod streams;
+pub mod words;
 
 use crate::event::{Event, Received, Waits};
 use crate::fault::Fault;
