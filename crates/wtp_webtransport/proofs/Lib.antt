@@ -4,3 +4,4 @@ pub mod HalfLemmas
 pub mod CutLemmas
 pub mod ContentLemmas
 pub mod WordLemmas
+pub mod PlaceLemmas

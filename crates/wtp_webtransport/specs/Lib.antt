@@ -10,3 +10,4 @@ pub mod Receiving
 pub mod Joining
 pub mod Endings
 pub mod Words
+pub mod Places

@@ -15,6 +15,7 @@ ghost use Rattle.wtp_webtransport.specs.declared.capsules.CapsuleType.{CapsuleTy
 ghost use Rattle.wtp_webtransport.specs.declared.capsules.Sort.TheVariants.{Read, Skip, Refuse};
 ghost use Rattle.wtp_webtransport.specs.Capsules.{Found, Place, between, place_by, sort_of, CapsuleIs, IsPlace};
 ghost use Rattle.wtp_webtransport.specs.Cuts.{breaks, followed, after_found, run, IsProper};
+ghost use Rattle.wtp_webtransport.specs.Places.{IsPlaced};
 ghost use Rattle.wtp_webtransport.specs.Prefix.{names_table};
 
 /// A session ends once: `SessionClosed` and `SessionLost` come only on the own stream of a session that
@@ -74,4 +75,11 @@ pub fn prefixes_that_name_a_table_are_refused()
         → IsInt 8 count s → 0 < count → names_table (s ++ more) ≡ true }
     ensures sign { (b : ℕ) (more : List ℕ) → 128 ≤ b → names_table (0 ∷ b ∷ more) ≡ true }
     ensures neither { (b : ℕ) (more : List ℕ) → b < 128 → names_table (0 ∷ b ∷ more) ≡ false }
+{}
+
+/// The bytes that an event refers to are the last of those that are consumed with it.
+#[tactic(auto, using(crate::proofs::PlaceLemmas::received_placed))]
+pub fn bytes_of_events_are_consumed_last()
+    ensures { (limit : ℕ) (c : Connection) (s : Stream) (bytes : List ℕ) (fin : Bool) (o : Outcome)
+        → Receives limit c s bytes fin o → IsPlaced o.1 o.0 bytes }
 {}
