@@ -212,6 +212,8 @@ class Crates:
         """Returns the module, or the module and the item, that a path means in a module, or
         None."""
         first, *rest = path
+        if first == "super":
+            return self.find(self.module(module.crate, module.path[:-1]), rest)
         if first == "crate" or first in self.folders:
             module = self.module(module.crate if first == "crate" else first, ())
             return self.find(module, rest) if rest else module
@@ -294,7 +296,7 @@ def public_api(crate, folders):
     crates, found = Crates(folders), {}
     public_items(crates, crates.module(crate, ()), (), found)
     entries = {key: Entry(item) for key, (_, _, item) in found.items()}
-    for name in {module.crate for _, module, _ in found.values()}:
+    for name in sorted({module.crate for _, module, _ in found.values()}):
         add_impls(crates, name, entries)
     api = {}
     for key, (path, module, item) in found.items():

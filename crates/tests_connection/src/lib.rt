@@ -5,6 +5,8 @@
 #[cfg(test)]
 mod begun;
 #[cfg(test)]
+mod budgets;
+#[cfg(test)]
 mod datagrams;
 #[cfg(test)]
 mod holdings;

@@ -17,7 +17,7 @@ struct Peer {
 }
 
 /// The settings of a peer, at an end that enables all.
-static PEERS: [Peer; 8] = [
+static PEERS: [Peer; 10] = [
     // 0x2b603742 and 0x33, of a client
     Peer {
         side: Side::Server,
@@ -31,6 +31,18 @@ static PEERS: [Peer; 8] = [
             0x00, 0x04, 0x0b, 0xc0, 0x00, 0x00, 0x00, 0xc6, 0x71, 0x70, 0x6a, 0x10, 0x33, 0x01,
         ],
         allows: true,
+    },
+    // 0x14e9cd29 and 0x33
+    Peer {
+        side: Side::Server,
+        control: &[0x00, 0x04, 0x07, 0x94, 0xe9, 0xcd, 0x29, 0x01, 0x33, 0x01],
+        allows: true,
+    },
+    // 0x14e9cd29 = 0 and 0x33
+    Peer {
+        side: Side::Server,
+        control: &[0x00, 0x04, 0x07, 0x94, 0xe9, 0xcd, 0x29, 0x00, 0x33, 0x01],
+        allows: false,
     },
     // 0x2b603742 alone
     Peer {

@@ -297,7 +297,7 @@ fn responses_to_sessions(rt: HostRuntime) {
 static LONG: [u8; 10] = [0x00, 0x80, 0x01, 0x00, 0x05, 0x00, 0x80, 0x01, 0x00, 0x00];
 
 /// Returns 65,536 bytes.
-fn many_bytes(alloc: Global) -> Result<Vec<u8>, AllocError> {
+pub(crate) fn many_bytes(alloc: Global) -> Result<Vec<u8>, AllocError> {
     let mut bytes = Vec::from_slice(alloc, b"0123456789abcdef")?;
     for _double in 0..12u32 {
         let copy = Vec::from_slice(alloc, bytes.as_slice())?;

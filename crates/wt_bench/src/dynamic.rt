@@ -138,27 +138,60 @@ pub extern "C" fn wt_bench_dynamic_table(
     }
 }
 
+/// Memory that is used for one section after another.
+#[derive(Drop)]
+struct Rooms<'a> {
+    proposals: Vec<Proposal<'a>>,
+    orders: Vec<u8>,
+    section: Vec<u8>,
+    heard: Vec<u8>,
+}
+
+impl<'a> Rooms<'a> {
+    /// Creates rooms. Nothing is allocated.
+    fn new(alloc: Global) -> Self {
+        Rooms {
+            proposals: Vec::new(alloc),
+            orders: Vec::new(alloc),
+            section: Vec::new(alloc),
+            heard: Vec::new(alloc),
+        }
+    }
+
+    /// Replaces the proposals by those of pairs, and empties the rest.
+    fn fill(&mut self, pairs: &[Pair<'a>]) -> Result<(), AllocError> {
+        self.proposals.clear();
+        self.orders.clear();
+        self.section.clear();
+        self.heard.clear();
+        for pair in pairs {
+            self.proposals.push(Proposal::new(pair.name, pair.value))?;
+        }
+        Ok(())
+    }
+}
+
 /// Encodes a section of a stream, and reads its acknowledgment. Returns how many bytes were written.
-fn encode(
+fn encode<'a>(
     alloc: Global,
     encoder: &mut QpackEncoder,
+    rooms: &mut Rooms<'a>,
     stream: u64,
-    pairs: &[Pair<'_>],
+    pairs: &[Pair<'a>],
 ) -> Result<usize, AllocError> {
-    let mut proposals = Vec::with_capacity(alloc, pairs.len())?;
-    for pair in pairs {
-        proposals.push(Proposal::new(pair.name, pair.value))?;
-    }
-    let mut orders = Vec::new(alloc);
-    let mut section = Vec::new(alloc);
-    encoder.encode(stream, proposals.as_slice(), &mut orders, &mut section)?;
-    let mut heard = Vec::new(alloc);
+    rooms.fill(pairs)?;
+    encoder.encode(
+        stream,
+        rooms.proposals.as_slice(),
+        &mut rooms.orders,
+        &mut rooms.section,
+    )?;
     // A section that refers to the table begins with another byte than 0.
-    if section.as_slice().first() != Some(&0) {
-        acknowledgment::write(alloc, &mut heard, Acknowledgment::Section(stream))?;
+    if rooms.section.as_slice().first() != Some(&0) {
+        acknowledgment::write(alloc, &mut rooms.heard, Acknowledgment::Section(stream))?;
     }
-    match encoder.read_decoder_stream(heard.as_slice()) {
-        Ok(()) => Ok(orders.len().saturating_add(section.len())),
+    match encoder.read_decoder_stream(rooms.heard.as_slice()) {
+        Ok(()) => Ok(rooms.orders.len().saturating_add(rooms.section.len())),
         Err(_) => Err(AllocError),
     }
 }
@@ -173,14 +206,17 @@ pub extern "C" fn wt_bench_dynamic_encode(
     capacity: u32,
 ) -> i64 {
     let mut encoder = QpackEncoder::new(alloc, capacity as u64, 100);
-    let mut orders = Vec::new(alloc);
-    if encoder.set_capacity(capacity as u64, &mut orders).is_err() {
+    let mut rooms = Rooms::new(alloc);
+    if encoder
+        .set_capacity(capacity as u64, &mut rooms.orders)
+        .is_err()
+    {
         return -1;
     }
-    let mut sum = orders.len();
+    let mut sum = rooms.orders.len();
     let mut stream: u64 = 0;
     for section in pairs.chunks(fields.max(1)) {
-        match encode(alloc, &mut encoder, stream, section) {
+        match encode(alloc, &mut encoder, &mut rooms, stream, section) {
             Ok(size) => sum = sum.saturating_add(size),
             Err(_) => return -1,
         }

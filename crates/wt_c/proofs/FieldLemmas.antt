@@ -4,9 +4,13 @@ use Rattle.std.proofs.Common.{◌++◌, map, length, take, drop, refl, sym, ap, 
 use Rattle.std.proofs.Common.{length-append, append_assoc, slice_set, Ok}
 use Rattle.std.proofs.lemmas.Bool.{cases_lt, lt-ltb, le-ltb}
 use Rattle.std.proofs.lemmas.List.{take_more_set, length-set, drop-set-lt, drop-drop, drop_at}
+use Rattle.std.proofs.lemmas.Grind.{flat_map-append}
+use Rattle.std.proofs.lemmas.List.{append-nil}
+use Rattle.std.proofs.Math.Seq.{take-add}
+use Rattle.std.specs.List.{flat_map}
 use Rattle.wtp_fields.specs.Field.{Field}
 use Rattle.wtp_fields.specs.FieldLines.{octet_line_at, AreOctetLines}
-use Rattle.wt_c.specs.Fields.{field_in, IsWithin, AreWithin, texts_size, HoldLines, capped}
+use Rattle.wt_c.specs.Fields.{field_in, IsWithin, AreWithin, texts_size, line_texts, HoldLines, capped}
 use Rattle.wt_c.specs.Fields.{place_of, LinePut}
 use Rattle.wt_c.specs.declared.fields.WtField.{WtField}
 
@@ -99,6 +103,12 @@ hold_more first first_texts fields new old texts n at to name value lines p l to
   says = rw taken (map_more texts (take n fields) w
       ∙ ap (λ (r : List Field). r ++ (field_in texts w ∷ [])) (same_fields (take n fields) at texts old put.front p.within ∙ p.says)
       ∙ ap (λ (f : Field). lines ++ (f ∷ [])) same);
+  texts_are = ap (λ (k : ℕ). take k texts) to_is
+      ∙ take-add (at + length name) (length value) texts
+      ∙ ap (λ (s : List ℕ). take (at + length name) texts ++ s) put.value_is
+      ∙ ap (λ (s : List ℕ). s ++ value) (take-add at (length name) texts ∙ ap (λ (s : List ℕ). take at texts ++ s) put.name_is ∙ ap (λ (s : List ℕ). s ++ name) (put.front ∙ p.texts_are))
+      ∙ append_assoc (flat_map line_texts lines) name value
+      ∙ sym (flat_map-append line_texts lines ((name, value) ∷ []) ∙ ap (λ (s : List ℕ). flat_map line_texts lines ++ s) (append-nil (name ++ value)));
   fields_after = drop-set-lt (n + 1) fields n w (omega arith) ∙ later {A = WtField} n 1 fields first p.fields_after;
   texts_after = let more : to ≡ at + (length name + length value) = omega (arith, to_is) in
       rw (← to_is) at put.after ∙ rw more (later {A = ℕ} at (length name + length value) old first_texts p.texts_after);

@@ -1,6 +1,7 @@
 -- Field lines in arrays of the caller (RFC 9204, section 4.5).
 use Rattle.std.specs.Prelude.{◌≡◌, ℕ, ◌+◌, ◌-◌, ◌^◌, ◌<◌, ◌≤◌, ◌⊎◌, nat_lt, if◌then◌else◌, List, []}
-use Rattle.std.specs.Prelude.{◌∷◌, map, length, take, drop, slice_set, IsTrue, Ok, Err}
+use Rattle.std.specs.List.{flat_map}
+use Rattle.std.specs.Prelude.{◌++◌, ◌∷◌, map, length, take, drop, slice_set, IsTrue, Ok, Err}
 use Rattle.wtp_fields.specs.declared.qpack.DecodingError.{DecodingError}
 use Rattle.wtp_fields.specs.Field.{Field}
 use Rattle.wtp_fields.specs.FieldSection.{after_prefix}
@@ -73,6 +74,10 @@ abbrev pub texts_size : List Field → ℕ
 texts_size [] = 0
 texts_size (line ∷ lines) = (length line.0 + length line.1) + texts_size lines
 
+-- the name of a line, followed by its value
+abbrev pub line_texts : Field → List ℕ
+line_texts line = line.0 ++ line.1
+
 -- the first `count` fields are these lines, and the first `used` bytes are their texts; the rest
 -- of each array is unchanged
 pub record HoldLines (old : List WtField) (old_texts : List ℕ) (fields : List WtField)
@@ -83,6 +88,7 @@ pub record HoldLines (old : List WtField) (old_texts : List ℕ) (fields : List 
   pub texts_room : used ≤ length texts
   pub within : AreWithin used (take count fields)
   pub says : map (λ w. field_in texts w) (take count fields) ≡ lines
+  pub texts_are : take used texts ≡ flat_map line_texts lines
   pub fields_after : drop count fields ≡ drop count old
   pub texts_after : drop used texts ≡ drop used old_texts
 

@@ -16,13 +16,21 @@ fn main(rt: HostRuntime) -> ExitCode {
             &mut rt.stdout(),
             &mut rt.stderr(),
         ),
-        Err(_) => {
-            let fault = Fault::Usage;
+        Err(error) => {
+            let fault = fault_of(error);
             let _ = writeln!(rt.stderr(), "{fault}");
             fault.status()
         }
     };
     ExitCode::from(status)
+}
+
+/// Returns why there are no arguments: allocation failed, or they are not UTF-8.
+fn fault_of(error: io::Error) -> Fault {
+    match error.kind() {
+        io::ErrorKind::OutOfMemory => Fault::NoMemory,
+        _ => Fault::Usage,
+    }
 }
 
 /// Returns the program's arguments, without its name.

@@ -22,18 +22,19 @@ KIND says what the bytes are, from the first one on, in one direction of one str
   settings  the payload of a SETTINGS frame
 The other direction of a WebTransport stream is the application's bytes alone, so it has no KIND.
 
-What is written: a line for each item, with its place in bytes, what it is, and its size; below it,
-indented, the field lines, settings or capsules that it contains. A line 'warning' below an item
-says what a standard forbids, though reading went on. The last line says how the bytes end: 'end',
-'cut' within an item, or 'fault' with the error code and why; bytes after a fault are 'not read'.
+What is written: a line for each item, with its place in bytes, what it is, and mostly its size;
+below it, indented, the field lines, settings or capsules that it contains. A line 'warning' below
+an item says what a standard forbids, though reading went on. The last line says how the bytes end:
+'end', 'cut' within an item, or 'fault' with the error code and why; bytes after the item with the
+fault are 'not read'.
 A 'reserved' setting, frame or stream is one that peers send to be ignored; an 'unknown' one has no
 name here.
 
 To find a wrong setting in a recorded control stream, such as control.bin:
   wt_inspect uni --open control.bin
 The settings are below the frame SETTINGS, each with its name, identifier and value. One that must
-not be sent, or is there twice, says so in its line, and the last line says 'fault'. Values are not
-judged.
+not be sent, or is there twice, says so in its line. The last line says 'fault', unless an unknown
+one is there twice. Values are not judged.
 
 The same, with the bytes as text:
   echo 00 04 04 33 01 33 01 | wt_inspect uni --open --hex

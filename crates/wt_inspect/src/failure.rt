@@ -44,9 +44,11 @@ impl Failure {
 }
 
 impl From<AllocError> for Failure {
-    fn from(_: AllocError) -> Self
-        ensures { result ≡ Failure.Memory }
-    {
+    ghost use Rattle.wt_inspect.specs.declared.failure.Failure.TheVariants.{Memory};
+
+    ghost from_gives = { λ _ failure. failure ≡ Memory };
+
+    fn from(_: AllocError) -> Self {
         Failure::Memory
     }
 }

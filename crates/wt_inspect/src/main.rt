@@ -1,7 +1,7 @@
 //! Shows the contents of a recorded stream or datagram.
 #![tactic(auto)]
 
-ghost use Rattle.std.specs.Prelude.{◌≡◌, ◌≤◌, ◌⊎◌, IfOk};
+ghost use Rattle.std.specs.Prelude.{◌≡◌, ◌≤◌, ◌⊎◌, IfErr, IfOk};
 ghost use Rattle.wt_inspect.specs.Shown.{IsView, Shows};
 ghost use Rattle.wt_inspect.specs.Statuses.{end_status};
 
@@ -104,7 +104,8 @@ fn read_bytes(rt: &HostRuntime, alloc: Global, file: Option<&str>) -> Result<Vec
 
 /// Returns the output for these bytes and the exit status.
 fn show(alloc: Global, arguments: &Arguments<'_>, bytes: &[u8]) -> Result<(Vec<u8>, u8), Failure>
-    ensures { IfOk result (λ shown. Shows arguments.now bytes.now shown.0.items shown.1) }
+    ensures shows { IfOk result (λ shown. Shows arguments.now bytes.now shown.0.items shown.1) }
+    ensures fails { IfErr result (λ e. e ≡ Failure.Memory) }
 {
     let inspection = inspect(alloc, arguments.recorded, bytes, arguments.is_open)?;
     let text = write_inspection(alloc, arguments, &inspection, bytes)?;

@@ -32,12 +32,12 @@ use wtp_wire::stream_header::StreamKind;
 /// after them.
 ///
 /// The items tile the bytes: each byte belongs to exactly one item, and the items are in order.
-/// Each is what the bytes at its place are after the items before it. The bytes after the first
-/// fault, and too few bytes for an item, are one item that is not read. The end is then that fault,
-/// or where the bytes are cut: [`End::Cut`], unless `kind` is [`Recorded::Bi`] or
-/// [`Recorded::Response`] and they are not `open`. A stream may not end within a frame, so that is
-/// the fault [`ErrorCode::Frame`] (RFC 9114, section 7.1). DATA frames that end within a capsule are
-/// cut in that capsule, whether `open` or not.
+/// Each is what the bytes at its place are after the items before it. The bytes after the item with
+/// the first fault, and too few bytes for the head of an item, are one item that is not read. The
+/// end is then that fault, or where the bytes are cut: [`End::Cut`], unless `kind` is
+/// [`Recorded::Bi`] or [`Recorded::Response`] and they are not `open`. A stream may not end within
+/// a frame, so that is the fault [`ErrorCode::Frame`] (RFC 9114, section 7.1). DATA frames that end
+/// within a capsule are cut in that capsule, whether `open` or not.
 ///
 /// DATA frames contain capsules if the first header section, or the first that is not of an interim
 /// response, is that of a session: a request with `:protocol` (RFC 8441, section 4; RFC 9220,

@@ -1,12 +1,12 @@
 -- Texts without control characters: escaped bytes contain none, and a line contains only its line
 -- feed.
-use Rattle.std.proofs.Common.{arith, suc, inl, inr, ◌≡◌, ℕ, ◌+◌, ◌<◌, ◌≤◌, ◌/◌, ◌%◌, ◌^◌, ◌&&◌, not, cond, Bool, true, false, nat_eq, nat_lt, nat_le, List, [], ◌∷◌, ◌++◌, get_or, refl, sym, ap, subst}
+use Rattle.std.proofs.Common.{arith, suc, append_assoc, codes, ◌∙◌, inl, inr, ◌≡◌, ℕ, ◌+◌, ◌<◌, ◌≤◌, ◌/◌, ◌%◌, ◌^◌, ◌&&◌, not, cond, Bool, true, false, nat_eq, nat_lt, nat_le, List, [], ◌∷◌, ◌++◌, get_or, refl, sym, ap, subst}
 use Rattle.std.specs.Char.{is_control}
 use Rattle.std.specs.List.{flat_map, list_any}
 use Rattle.std.specs.Str.{NonePass, NoCharPasses}
 use Rattle.std.proofs.lemmas.Bool.{and_parts, and_left, and_right, or_from, or_parts, ltb-true, leb-true, lt-leb}
 use Rattle.std.proofs.lemmas.Str.{encode_ascii, NoCharPasses-nil, NoCharPasses-append}
-use Rattle.wt_inspection_views.specs.Escaped.{IsClean, IsLine, IsPlain, IsShown, is_hidden, escaped_byte, is_plain_byte, digit_of}
+use Rattle.wt_inspection_views.specs.Escaped.{EndsLines, IsClean, IsLine, IsPlain, IsShown, is_hidden, escaped_byte, is_plain_byte, digit_of}
 
 pub none_from_any : (p : ℕ → Bool) (cs : List ℕ) → list_any p cs ≡ false → NonePass p cs
 none_from_any p [] e = tt
@@ -84,3 +84,8 @@ IsClean-line words line fits l =
 pub IsClean-pushed : (old new line : List ℕ) (ok : Bool) → IsClean old → IsClean line → new ≡ cond ok (old ++ line) old → IsClean new
 IsClean-pushed old new line true o l e = subst IsClean (sym e) (NoCharPasses-append is_hidden old line o l)
 IsClean-pushed old new line false o l e = subst IsClean (sym e) o
+
+pub EndsLines-pushed : (old new words line : List ℕ) (ok : Bool) → EndsLines old → IsLine words line → new ≡ cond ok (old ++ line) old → EndsLines new
+EndsLines-pushed old new words line true o l e =
+    inr (old ++ l.0, e ∙ (ap (λ (x : List ℕ). old ++ x) l.2 ∙ sym (append_assoc old l.0 (codes "\n"))))
+EndsLines-pushed old new words line false o l e = subst EndsLines (sym e) o

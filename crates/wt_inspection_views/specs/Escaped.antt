@@ -70,6 +70,10 @@ IsPlain words plain =
 abbrev pub IsLine : List ℕ → List ℕ → Type 0
 IsLine words line = (plain : List ℕ) × IsPlain words plain × (line ≡ plain ++ codes "\n")
 
+-- the text is lines, the last of which ends with a line feed too
+abbrev pub EndsLines : List ℕ → Type 0
+EndsLines text = (text ≡ []) ⊎ ((front : List ℕ) × (text ≡ front ++ codes "\n"))
+
 -- a line with these words was appended to a text
 abbrev pub AddsLine : List ℕ → List ℕ → List ℕ → Type 0
 AddsLine words old new = (line : List ℕ) × IsLine words line × (new ≡ old ++ line)

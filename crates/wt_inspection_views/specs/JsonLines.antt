@@ -2,6 +2,7 @@
 use Rattle.std.specs.Prelude.{◌≡◌, ℕ, ◌+◌, Bool, true, false, List, [], ◌∷◌, ◌++◌, ◌&&◌, nat_le, fold}
 use Rattle.std.specs.Prelude.{length}
 use Rattle.std.specs.List.{flat_map}
+use Rattle.std.specs.Str.{IsUtf8}
 use Rattle.json.specs.Token.{Token}
 use Rattle.json.specs.Lex.{tokens}
 use Rattle.json.specs.Print.{print}
@@ -73,9 +74,9 @@ IsObject ts = place_of ts ≡ done
 abbrev pub json_line : List Token → List ℕ
 json_line ts = print ts ++ 10 ∷ []
 
--- the printed tokens parse to the same tokens
+-- the printed tokens are UTF-8 and parse to the same tokens
 abbrev pub ReadsBack : List Token → Type 0
-ReadsBack ts = tokens (print ts) ≡ ts
+ReadsBack ts = (tokens (print ts) ≡ ts) × IsUtf8 (print ts)
 
 -- the bytes are one line of JSON, which contains an object and reads back as the same tokens
 abbrev pub IsJsonLine : List ℕ → Type 0

@@ -1,6 +1,6 @@
 //! Text for a terminal.
 ghost use Rattle.std.specs.Prelude.{◌≡◌, ◌+◌, ℕ, List, [], IfOk, OnErr, string_bytes};
-ghost use Rattle.wt_inspection_views.specs.Escaped.{AddsLine, IsClean, IsLine, line_count};
+ghost use Rattle.wt_inspection_views.specs.Escaped.{AddsLine, EndsLines, IsClean, IsLine, line_count};
 
 use crate::escaped::{add_escaped, has_no_control};
 use std::alloc::{AllocError, Global};
@@ -19,7 +19,8 @@ impl Model for PlainText {
 
     ghost view = { λ plain. string_bytes plain.text };
 
-    ghost invariant = { λ plain. IsClean (string_bytes plain.text) };
+    ghost invariant = { λ plain. IsClean (string_bytes plain.text)
+        × EndsLines (string_bytes plain.text) };
 }
 
 impl PlainText {
@@ -50,6 +51,7 @@ impl PlainText {
     pub fn into_text(self) -> String
         ensures text { string_bytes result ≡ self }
         ensures clean { IsClean (string_bytes result) }
+        ensures ended { EndsLines (string_bytes result) }
     {
         self.text
     }

@@ -1,6 +1,6 @@
 //! Displays inspections as text.
 ghost use Rattle.std.specs.Prelude.{◌≡◌, ◌+◌, IfOk, IsTrue, length, string_bytes, sum_by};
-ghost use Rattle.wt_inspection_views.specs.Escaped.{IsClean, line_count};
+ghost use Rattle.wt_inspection_views.specs.Escaped.{EndsLines, IsClean, line_count};
 ghost use Rattle.wt_inspection_views.specs.Lines.{Gains};
 ghost use Rattle.wt_inspection_views.specs.TextLines.{capsule_lines, content_lines, hex_lines};
 ghost use Rattle.wt_inspection_views.specs.TextLines.{inspection_lines, parts_lines};
@@ -22,9 +22,9 @@ use wtp_wire::frame::FrameKind;
 
 /// Formats an inspection of `bytes` as text.
 ///
-/// Each item has a line with its offset, its kind and its size. Its contents follow on further,
-/// indented lines. The last line says how the input ends. If `payload` is set, payload bytes are
-/// shown in hexadecimal.
+/// Each item has a line with its offset, its kind and, but for stream heads and sessions, its size.
+/// Its contents follow on further, indented lines. The last line says how the input ends. If
+/// `payload` is set, payload bytes are shown in hexadecimal.
 ///
 /// Bytes from a peer are shown unchanged if they are UTF-8 without control characters and
 /// backslashes. Otherwise each byte other than printable ASCII, and each backslash, is shown as
@@ -40,6 +40,7 @@ pub fn write_text(
     payload: bool,
 ) -> Result<String, AllocError>
     ensures clean { IfOk result (λ t. IsClean (string_bytes t)) }
+    ensures ended { IfOk result (λ t. EndsLines (string_bytes t)) }
     ensures lines { IfOk result
         (λ t. line_count (string_bytes t) ≡ inspection_lines payload bytes.now inspection.now) }
 {

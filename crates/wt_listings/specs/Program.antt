@@ -128,7 +128,7 @@ WritesStart arguments input left output written =
 abbrev pub Takes : (ℕ → Type 0) → Known → Known → Type 0
 Takes Number input left = (taken : List ℕ) × Consumes input left taken × Number (length taken)
 
--- bytes of the input were taken, at most 4096 at a time, and nothing more once they were too many
+-- bytes of the input were taken, no more than 1048576 and one piece of 4096
 abbrev pub TakesSome : Known → Known → Type 0
 TakesSome input left = Takes (λ n. (0 < n) × (n ≤ 1048576 + 4096)) input left
 

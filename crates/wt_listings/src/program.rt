@@ -85,7 +85,7 @@ impl Fault {
 ///
 /// The status is that of the listing; 1 for other arguments, before anything is read or written; 3
 /// for more than 1048576 bytes of input, a failed read and a failed write; 4 if allocation fails.
-/// Input is read 4096 bytes at a time, up to its end or until it is too long.
+/// Input is read up to its end, or until it is too long: then at most 4096 bytes more are read.
 ///
 /// With 1, 3 and 4 the line of the fault is written to `errors`, or only its start if a write
 /// fails; with every other status `errors` is unchanged. Nothing is written to `output` before the
@@ -106,6 +106,8 @@ pub fn run_program<R: Read, W: Write, E: Write>(
     ensures lists { (result ≡ 0) ⊎ (result ≡ 2)
         → ListsArguments (texts_of arguments.now) (R.remaining input.old)
         (W.contents output.old) (W.contents output.new) result }
+    // They also come with the input at its end.
+    ensures ended { (result ≡ 0) ⊎ (result ≡ 2) → IsAtEnd (R.remaining input.new) }
     // Status 1 and 4 come with nothing written.
     ensures quiet { (result ≡ 1) ⊎ (result ≡ 4) → output.new ≡ output.old }
     // With status 3 nothing was written, unless the whole input was read and its listing was being
@@ -192,6 +194,7 @@ fn try_run<R: Read, W: Write>(
     ensures lists { IfOk result (ListsArguments (texts_of arguments.now) (R.remaining input.old)
         (W.contents output.old) (W.contents output.new)) }
     ensures status { IfOk result (λ s. (s ≡ 0) ⊎ (s ≡ 2)) }
+    ensures ended { IfOk result (λ _. IsAtEnd (R.remaining input.new)) }
     ensures quiet { IfErr result (λ e. e ≢ Fault.WriteFault → output.new ≡ output.old) }
     ensures unwritten { result ≡ Err Fault.WriteFault
         → ReadsWhole (texts_of arguments.now) (R.remaining input.old) (R.remaining input.new) }

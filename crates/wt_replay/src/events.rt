@@ -66,6 +66,27 @@ fn add_content(out: &mut String, alloc: Global, event: &Event<'_>) -> Result<(),
             write!(out, "frame {name}")?;
             add_bytes(out, alloc, payload)
         }
+        Event::Data(piece) => {
+            write!(out, "data")?;
+            add_bytes(out, alloc, piece)
+        }
+        Event::Datagram(payload) => {
+            write!(out, "datagram")?;
+            add_bytes(out, alloc, payload.as_slice())
+        }
+        Event::StreamData(piece) => {
+            write!(out, "bytes")?;
+            add_bytes(out, alloc, piece)
+        }
+        Event::TooLarge(Some(size)) => write!(out, "large {size}"),
+        Event::TooLarge(None) => write!(out, "large -"),
+        _ => add_section(out, alloc, event),
+    }
+}
+
+/// Appends the words of an event that has a field section.
+fn add_section(out: &mut String, alloc: Global, event: &Event<'_>) -> Result<(), AllocError> {
+    match event {
         Event::Headers(kind, fields) => {
             add_kind(out, *kind)?;
             add_fields(out, alloc, fields)
@@ -82,20 +103,6 @@ fn add_content(out: &mut String, alloc: Global, event: &Event<'_>) -> Result<(),
             write!(out, "rejected {status}")?;
             add_fields(out, alloc, fields)
         }
-        Event::Data(piece) => {
-            write!(out, "data")?;
-            add_bytes(out, alloc, piece)
-        }
-        Event::Datagram(payload) => {
-            write!(out, "datagram")?;
-            add_bytes(out, alloc, payload.as_slice())
-        }
-        Event::StreamData(piece) => {
-            write!(out, "bytes")?;
-            add_bytes(out, alloc, piece)
-        }
-        Event::TooLarge(Some(size)) => write!(out, "large {size}"),
-        Event::TooLarge(None) => write!(out, "large -"),
         _ => Ok(()),
     }
 }

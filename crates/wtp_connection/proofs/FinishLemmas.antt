@@ -1,17 +1,20 @@
 -- What a call finds where the stream ends.
-use Rattle.std.proofs.Common.{◌≡◌, ℕ, ◌≤◌, Bool, true, false, cond, List, [], ◌∷◌, ◌++◌, length, drop, Some, None, Result, Ok, Err, refl, sym, ap, subst, ◌∙◌, append_assoc, inl, inr}
+use Rattle.std.proofs.Common.{◌≡◌, ℕ, ◌≤◌, ◌||◌, Bool, true, false, cond, List, [], ◌∷◌, ◌++◌, length, drop, Some, None, Result, Ok, Err, refl, sym, ap, subst, ◌∙◌, append_assoc, inl, inr}
 use Rattle.std.proofs.lemmas.Bool.{cases_Bool}
 use Rattle.std.proofs.lemmas.List.{append-nil}
+use Rattle.wtp_core.specs.Varint.{number_at}
+use Rattle.wtp_frames.specs.Run.{Run}
+use Rattle.wtp_frames.proofs.RunLemmas.{run_none}
 use Rattle.wtp_frames.specs.declared.fault.Fault.{Fault as StreamFault}
 use Rattle.wtp_frames.specs.declared.fault.Fault.TheVariants as stream
-use Rattle.wtp_connection.specs.Opening.{over_by}
+use Rattle.wtp_connection.specs.Opening.{uni_at, bi_at, over_by}
 use Rattle.wtp_connection.specs.declared.fault.Fault.TheVariants as fault
 use Rattle.wtp_connection.specs.declared.stream.Stream.{Stream}
 use Rattle.wtp_connection.specs.declared.stream.Stream.TheVariants.{Uni, Bi, Frames, Joining, Waiting, Session, Encoder, Decoder, Ignored, Incomplete, Over}
 use Rattle.wtp_connection.specs.declared.connection.Connection.{Connection}
 use Rattle.wtp_connection.specs.declared.connection.Found.{Found}
 use Rattle.wtp_connection.specs.declared.connection.Found.TheVariants as found
-use Rattle.wtp_connection.specs.Streams.{closed_by, Seen, Broke, Ended, StreamRun, rests, followed, all_given, run_stream, end_of, by_fault, ending, ended}
+use Rattle.wtp_connection.specs.Streams.{closed_by, Seen, Broke, Ended, StreamRun, rests, followed, all_given, has_frames, of_items, run_intact, run_stream, end_of, by_fault, ending, ended}
 use Rattle.wtp_connection.specs.Receiving.{seen_of, rest_after, Idle, StepIsFound, Settled, FoundIs, more_in, finish_by, finish_open, finish_of}
 use Rattle.wtp_connection.proofs.StreamLemmas.{over_given, incomplete_given}
 
@@ -49,6 +52,7 @@ found_open x c s bytes fin d t e h = record {
   finds = λ more. rw e (h.finds more);
   goes = λ l. h.finds;
   settled = λ is. absurd (cc (sym e ∙ is));
+  alone = h.alone;
 }
 
 -- the stream ends, after what is found
@@ -58,7 +62,24 @@ found_before x c s bytes fin d t e none h = record {
   finds = λ more. rw e (ended_finds x c s bytes d t h);
   goes = λ l. h.finds;
   settled = λ is. settled_none x bytes d t none;
+  alone = h.alone;
 }
+
+-- ---- no bytes
+
+-- a stream without bytes rests
+none_open : (c : Connection) (s : Stream) → run_intact c s [] ≡ rests c s []
+unfolding uni_at bi_at number_at
+none_open c Uni = refl
+none_open c Bi = refl
+none_open c (Frames r given) = ap (λ (y : Run). of_items c (λ d. rests d (Frames y.reader (has_frames y.items || given)) y.left) y.items) (run_none r)
+none_open c other = refl
+
+pub run_no_bytes : (c : Connection) (s : Stream) → run_stream c s [] ≡ rests c s []
+run_no_bytes c s = elim c.over as (λ b. cond b (all_given c s []) (run_intact c s []) ≡ rests c s []) [
+  | true ↦ refl
+  | false ↦ none_open c s
+]
 
 -- ---- the end of an idle stream
 
@@ -94,6 +115,7 @@ stays_found n c s bytes fin d t e h is = record {
   finds = λ more. rw e (ended_finds (found.More n) c s bytes d t h);
   goes = λ l. h.finds;
   settled = λ x. is;
+  alone = h.alone;
 }
 
 -- the end is found
@@ -106,6 +128,7 @@ end_found n c s bytes fin d t (Ok u) e h is = record {
       ∙ ap (λ (y : StreamRun). followed (Ended ∷ []) y) (sym (ended_over d)));
   goes = λ l. absurd l;
   settled = λ x. tt;
+  alone = tt;
 }
 end_found n c s bytes fin d t (Err f) e h is = record {
   fits = tt;
@@ -115,6 +138,7 @@ end_found n c s bytes fin d t (Err f) e h is = record {
       ∙ ap (λ (y : StreamRun). followed (Broke (fault.Stream f) ∷ []) y) (sym (ended_by f (closed_by d (fault.Stream f)))));
   goes = λ l. absurd l;
   settled = λ x. tt;
+  alone = tt;
 }
 
 -- by the stream that ends

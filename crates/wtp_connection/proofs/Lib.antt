@@ -1,5 +1,8 @@
+pub mod BudgetLemmas
 pub mod EndLemmas
 pub mod FinishLemmas
+pub mod FirstLemmas
+pub mod FirstCutLemmas
 pub mod InstructionLemmas
 pub mod OpeningLemmas
 pub mod SettingFrameLemmas
@@ -13,3 +16,4 @@ pub mod KnownLemmas
 pub mod ProgressLemmas
 pub mod PurposeLemmas
 pub mod KeptLemmas
+pub mod WordLemmas

@@ -1,5 +1,5 @@
 -- What a call finds.
-use Rattle.std.proofs.Common.{◌≡◌, ℕ, ◌-◌, ◌<◌, ◌≤◌, ◌&&◌, ◌||◌, Bool, true, false, List, [], ◌∷◌, ◌++◌, map, length, drop, Option, Some, None, Result, Ok, Err, refl, sym, ap, subst, ◌∙◌, arith, inl, inr}
+use Rattle.std.proofs.Common.{◌≡◌, ℕ, ◌-◌, ◌<◌, ◌≤◌, ◌&&◌, ◌||◌, Bool, true, false, List, [], ◌∷◌, ◌++◌, map, length, take, drop, Option, Some, None, Result, Ok, Err, refl, sym, ap, subst, ◌∙◌, arith, inl, inr}
 use Rattle.std.proofs.lemmas.Bool.{cases_Bool}
 use Rattle.std.proofs.lemmas.List.{map-append}
 use Rattle.std.proofs.Math.Seq.{take-length, drop-length}
@@ -14,7 +14,7 @@ use Rattle.wtp_frames.specs.declared.reader.Step.{Step}
 use Rattle.wtp_frames.specs.declared.reader.Step.TheVariants as step
 use Rattle.wtp_frames.specs.Item.{Item, Whole, Byte, TooLarge, Broken}
 use Rattle.wtp_frames.specs.Run.{Run, is_failed, run}
-use Rattle.wtp_frames.specs.Reading.{StepIs, IsPast, items_of, left_after, slice}
+use Rattle.wtp_frames.specs.Reading.{Gives, StepIs, IsPast, slice}
 use Rattle.wtp_frames.specs.Start.{between}
 use Rattle.wtp_frames.specs.declared.endpoint.Endpoint.{Endpoint}
 use Rattle.wtp_connection.specs.declared.fault.Fault.{Fault}
@@ -32,7 +32,7 @@ use Rattle.wtp_connection.specs.declared.connection.Connection.{Connection}
 use Rattle.wtp_connection.specs.declared.connection.Found.{Found}
 use Rattle.wtp_connection.specs.declared.connection.Found.TheVariants as found
 use Rattle.wtp_connection.specs.Streams.{opens, opens_once, configured, received_settings, closed_by, Seen, Opened, Configured, Gave, Broke, StreamRun, rests, followed, all_given, by_settings, by_item, of_items, has_frames, of_frames, bytes_seen, by_capacity, by_place, breaks, run_open, by_purpose, by_opening, run_intact, run_stream}
-use Rattle.wtp_connection.specs.Receiving.{IsFirst, opening_of, AreFew, IsBetween, StepIsFound, Outcome, has_frame, IsInside, fails, settings_found, frame_found, step_found, with_capacity, encoder_found, decoder_found}
+use Rattle.wtp_connection.specs.Receiving.{IsFirst, opening_of, AreFew, IsBetween, Finds, StepIsFound, Outcome, has_frame, IsInside, fails, settings_found, frame_found, step_found, with_capacity, encoder_found, decoder_found}
 use Rattle.wtp_connection.proofs.OpeningLemmas.{opening_more, opening_few}
 
 -- ---- a connection that an error did not end, and one that is over
@@ -74,6 +74,7 @@ discards c s bytes h = record {
     },
   );
   finds = λ more. h (bytes ++ more) ∙ sym (h (drop (length bytes) bytes ++ more));
+  alone = λ more. h (take (length bytes) bytes ++ more) ∙ sym (h more);
 }
 
 pub over_found : (c : Connection) (s : Stream) (bytes : List ℕ) → c.over ≡ true → StepIsFound (found.More (length bytes)) c s bytes c s
@@ -90,35 +91,39 @@ incomplete_found c bytes e = discards c Incomplete bytes (λ more. intact_run c 
 
 -- a stream whose bytes wait
 pub joining_found : (c : Connection) (n : ℕ) (bytes : List ℕ) → c.over ≡ false → StepIsFound (found.More 0) c (Joining n) bytes c (Joining n)
-joining_found c n bytes e = record { fits = (omega arith, record { idle = intact_run c (Joining n) bytes e; few = tt }); finds = λ more. refl }
+joining_found c n bytes e = record { fits = (omega arith, record { idle = intact_run c (Joining n) bytes e; few = tt }); finds = λ more. refl; alone = λ more. refl }
 
 pub waiting_found : (c : Connection) (n : ℕ) (bytes : List ℕ) → c.over ≡ false → StepIsFound (found.More 0) c (Waiting n) bytes c (Waiting n)
-waiting_found c n bytes e = record { fits = (omega arith, record { idle = intact_run c (Waiting n) bytes e; few = tt }); finds = λ more. refl }
+waiting_found c n bytes e = record { fits = (omega arith, record { idle = intact_run c (Waiting n) bytes e; few = tt }); finds = λ more. refl; alone = λ more. refl }
 
 -- ---- the application's bytes
 
-seen_append : (xs ys : List ℕ) → bytes_seen (xs ++ ys) ≡ bytes_seen xs ++ bytes_seen ys
+pub seen_append : (xs ys : List ℕ) → bytes_seen (xs ++ ys) ≡ bytes_seen xs ++ bytes_seen ys
 seen_append xs ys = ap (λ (l : List Item). map Gave l) (map-append Byte xs ys) ∙ map-append Gave (map Byte xs) (map Byte ys)
 
 session_run : (c : Connection) (n : ℕ) (bytes : List ℕ) → c.over ≡ false → run_stream c (Session n) bytes ≡ all_given c (Session n) (bytes_seen bytes)
 session_run c n bytes e = intact_run c (Session n) bytes e
+
+session_finds : (c : Connection) (n : ℕ) (bytes : List ℕ) → c.over ≡ false → Finds c (Session n) bytes (bytes_seen bytes) c (Session n) []
+session_finds c n bytes e more =
+    session_run c n (bytes ++ more) e
+    ∙ ap (λ (l : List Seen). all_given c (Session n) l) (seen_append bytes more)
+    ∙ ap (λ (x : StreamRun). followed (bytes_seen bytes) x) (sym (session_run c n more e))
 
 pub data_found : (c : Connection) (n : ℕ) (bytes : List ℕ) → c.over ≡ false → 0 < length bytes → StepIsFound (found.Data 0 (length bytes)) c (Session n) bytes c (Session n)
 data_found c n bytes e some =
     let size : length bytes - 0 ≡ length bytes = omega arith in
     record {
       fits = (some, omega arith);
-      finds = λ more.
-          session_run c n (bytes ++ more) e
-          ∙ ap (λ (l : List Seen). all_given c (Session n) l) (seen_append bytes more)
-          ∙ ap (λ (x : StreamRun). followed (bytes_seen bytes) x) (sym (session_run c n more e))
-          ∙ rw (size, take-length bytes, drop-length bytes) refl;
+      finds = λ more. session_finds c n bytes e more ∙ rw (size, take-length bytes, drop-length bytes) refl;
+      alone = rw (size, take-length bytes) (session_finds c n bytes e);
     }
 
 pub data_none : (c : Connection) (n : ℕ) (bytes : List ℕ) → c.over ≡ false → length bytes ≡ 0 → StepIsFound (found.More 0) c (Session n) bytes c (Session n)
 data_none c n bytes e l = rw (no_bytes bytes l) (record {
   fits = (omega arith, record { idle = session_run c n [] e; few = omega arith });
   finds = λ more. refl;
+  alone = λ more. refl;
 })
 
 -- ---- frames
@@ -135,11 +140,11 @@ item_same (Whole kind.Settings payload) c f g h = settings_same (received_settin
 item_same (Broken x) c f g h = ap (λ (y : StreamRun). followed (Broke (fault.Stream x) ∷ []) y) (h (closed_by c (fault.Stream x)))
 item_same other c f g h = ap (λ (y : StreamRun). followed (Gave other ∷ []) y) (h c)
 
-items_append : (xs ys : List Item) (c : Connection) (f : Connection → StreamRun) → of_items c f (xs ++ ys) ≡ of_items c (λ d. of_items d f ys) xs
+pub items_append : (xs ys : List Item) (c : Connection) (f : Connection → StreamRun) → of_items c f (xs ++ ys) ≡ of_items c (λ d. of_items d f ys) xs
 items_append [] ys c f = refl
 items_append (i ∷ xs) ys c f = item_same i c (λ d. of_items d f (xs ++ ys)) (λ d. of_items d (λ e. of_items e f ys) xs) (λ d. items_append xs ys d f)
 
-items_bytes : (bytes : List ℕ) (c : Connection) (f : Connection → StreamRun) → of_items c f (map Byte bytes) ≡ followed (bytes_seen bytes) (f c)
+pub items_bytes : (bytes : List ℕ) (c : Connection) (f : Connection → StreamRun) → of_items c f (map Byte bytes) ≡ followed (bytes_seen bytes) (f c)
 items_bytes [] c f = refl
 items_bytes (b ∷ bytes) c f = ap (λ (y : StreamRun). followed (Gave (Byte b) ∷ []) y) (items_bytes bytes c f)
 
@@ -147,32 +152,56 @@ pub or_true : (b : Bool) → true ≡ (b || true)
 or_true true = refl
 or_true false = refl
 
-frames_append : (xs ys : List Item) (g : Bool) → (has_frames (xs ++ ys) || g) ≡ (has_frames ys || (has_frames xs || g))
+pub frames_append : (xs ys : List Item) (g : Bool) → (has_frames (xs ++ ys) || g) ≡ (has_frames ys || (has_frames xs || g))
 frames_append [] ys g = refl
 frames_append (Whole k payload ∷ xs) ys g = or_true (has_frames ys)
 frames_append (TooLarge n ∷ xs) ys g = or_true (has_frames ys)
 frames_append (Byte b ∷ xs) ys g = frames_append xs ys g
 frames_append (Broken f ∷ xs) ys g = frames_append xs ys g
 
-no_frames : (bytes : List ℕ) → has_frames (map Byte bytes) ≡ false
+pub no_frames : (bytes : List ℕ) → has_frames (map Byte bytes) ≡ false
 no_frames [] = refl
 no_frames (b ∷ bytes) = no_frames bytes
 
-frames_in : (x : Step) (bytes : List ℕ) → has_frames (items_of x bytes) ≡ has_frame x
-frames_in (step.Frame k start end) bytes = refl
-frames_in (step.Data start end) bytes = no_frames (slice start end bytes)
-frames_in (step.TooLarge size n) bytes = refl
-frames_in (step.More n) bytes = refl
-frames_in (step.Fault f) bytes = refl
-
--- what follows a step
-frames_step : (x : Step) (c : Connection) (old new : Reader) (g : Bool) (bytes more : List ℕ) → c.over ≡ false → StepIs x old bytes new → run_stream c (Frames old g) (bytes ++ more) ≡ of_items c (λ d. of_frames d (has_frame x || g) (run new (left_after x bytes ++ more))) (items_of x bytes)
-frames_step x c old new g bytes more e h =
-    let y : Run = run new (left_after x bytes ++ more) in
+-- what follows items that a reader gives
+frames_give : (items : List Item) (c : Connection) (old new : Reader) (g : Bool) (bytes rest : List ℕ) → c.over ≡ false → Gives old bytes items new rest → (more : List ℕ) → run_stream c (Frames old g) (bytes ++ more) ≡ of_items c (λ d. of_frames d (has_frames items || g) (run new (rest ++ more))) items
+frames_give items c old new g bytes rest e h more =
+    let y : Run = run new (rest ++ more) in
     frames_run c old g (bytes ++ more) e
-    ∙ ap (λ (z : Run). of_frames c g z) (h.gives more)
-    ∙ ap (λ (k : Bool). of_items c (λ d. rests d (Frames y.reader k) y.left) (items_of x bytes ++ y.items)) (frames_append (items_of x bytes) y.items g ∙ ap (λ (k : Bool). has_frames y.items || (k || g)) (frames_in x bytes))
-    ∙ items_append (items_of x bytes) y.items c (λ d. rests d (Frames y.reader (has_frames y.items || (has_frame x || g))) y.left)
+    ∙ ap (λ (z : Run). of_frames c g z) (h more)
+    ∙ ap (λ (k : Bool). of_items c (λ d. rests d (Frames y.reader k) y.left) (items ++ y.items)) (frames_append items y.items g)
+    ∙ items_append items y.items c (λ d. rests d (Frames y.reader (has_frames y.items || (has_frames items || g))) y.left)
+
+-- SETTINGS
+settings_give : (c : Connection) (old new : Reader) (g : Bool) (payload bytes rest : List ℕ) (o : Result PeerSettings Fault) → c.over ≡ false → received_settings c payload ≡ o → Gives old bytes (Whole kind.Settings payload ∷ []) new rest → (more : List ℕ) → run_stream c (Frames old g) (bytes ++ more) ≡ by_settings c payload (λ d. of_frames d true (run new (rest ++ more))) o
+settings_give c old new g payload bytes rest o e is h more =
+    frames_give (Whole kind.Settings payload ∷ []) c old new g bytes rest e h more
+    ∙ ap (λ (o : Result PeerSettings Fault). by_settings c payload (λ d. of_frames d true (run new (rest ++ more))) o) is
+
+settings_find : (v : PeerSettings) (c : Connection) (old new : Reader) (g : Bool) (payload bytes rest : List ℕ) → c.over ≡ false → received_settings c payload ≡ Ok v → Gives old bytes (Whole kind.Settings payload ∷ []) new rest → Finds c (Frames old g) bytes (Configured v payload ∷ []) (configured c v) (Frames new true) rest
+settings_find v c old new g payload bytes rest e is h more =
+    settings_give c old new g payload bytes rest (Ok v) e is h more
+    ∙ ap (λ (y : StreamRun). followed (Configured v payload ∷ []) y) (sym (frames_run (configured c v) new true (rest ++ more) e))
+
+-- another frame
+frame_finds : (i : Item) (c : Connection) (old new : Reader) (g : Bool) (bytes rest : List ℕ) → has_frames (i ∷ []) ≡ true → ((f : Connection → StreamRun) → by_item c f i ≡ followed (Gave i ∷ []) (f c)) → c.over ≡ false → Gives old bytes (i ∷ []) new rest → Finds c (Frames old g) bytes (Gave i ∷ []) c (Frames new true) rest
+frame_finds i c old new g bytes rest has is e h more =
+    frames_give (i ∷ []) c old new g bytes rest e h more
+    ∙ is (λ d. of_frames d (has_frames (i ∷ []) || g) (run new (rest ++ more)))
+    ∙ ap (λ (k : Bool). followed (Gave i ∷ []) (of_frames c (k || g) (run new (rest ++ more)))) has
+    ∙ ap (λ (y : StreamRun). followed (Gave i ∷ []) y) (sym (frames_run c new true (rest ++ more) e))
+
+-- bytes of DATA
+bytes_find : (payload : List ℕ) (c : Connection) (old new : Reader) (g : Bool) (bytes rest : List ℕ) → c.over ≡ false → Gives old bytes (map Byte payload) new rest → Finds c (Frames old g) bytes (bytes_seen payload) c (Frames new g) rest
+bytes_find payload c old new g bytes rest e h more =
+    frames_give (map Byte payload) c old new g bytes rest e h more
+    ∙ items_bytes payload c (λ d. of_frames d (has_frames (map Byte payload) || g) (run new (rest ++ more)))
+    ∙ ap (λ (k : Bool). followed (bytes_seen payload) (of_frames c (k || g) (run new (rest ++ more)))) (no_frames payload)
+    ∙ ap (λ (y : StreamRun). followed (bytes_seen payload) y) (sym (frames_run c new g (rest ++ more) e))
+
+-- nothing
+nothing_finds : (c : Connection) (old new : Reader) (g : Bool) (bytes rest : List ℕ) → c.over ≡ false → Gives old bytes [] new rest → Finds c (Frames old g) bytes [] c (Frames new g) rest
+nothing_finds c old new g bytes rest e h more = frames_give [] c old new g bytes rest e h more ∙ sym (frames_run c new g (rest ++ more) e)
 
 -- after a fault of it a stream gives nothing, whether the connection is over or not
 failed_frames : (d : Connection) (r : Reader) (g : Bool) (f : StreamFault) (more : List ℕ) → r.place ≡ Failed f → of_frames d g (run r more) ≡ run_stream d (Frames r g) more
@@ -200,17 +229,15 @@ IsOutcome o c s bytes = StepIsFound o.0 c s bytes o.1 o.2
 settings_case : (o : Result PeerSettings Fault) (start end : ℕ) (c : Connection) (old new : Reader) (g : Bool) (bytes : List ℕ) → received_settings c (slice start end bytes) ≡ o → c.over ≡ false → StepIs (step.Frame kind.Settings start end) old bytes new → IsOutcome (settings_found c (Frames new true) start end o) c (Frames old g) bytes
 settings_case (Ok v) start end c old new g bytes is e h = record {
   fits = (h.within.0, h.within.1, h.within.2, refl);
-  finds = λ more.
-      frames_step (step.Frame kind.Settings start end) c old new g bytes more e h
-      ∙ ap (λ (o : Result PeerSettings Fault). by_settings c (slice start end bytes) (λ d. of_frames d true (run new (drop end bytes ++ more))) o) is
-      ∙ ap (λ (y : StreamRun). followed (Configured v (slice start end bytes) ∷ []) y) (sym (frames_run (configured c v) new true (drop end bytes ++ more) e));
+  finds = settings_find v c old new g (slice start end bytes) bytes (drop end bytes) e is h.gives;
+  alone = settings_find v c old new g (slice start end bytes) (take end bytes) [] e is h.alone;
 }
 settings_case (Err x) start end c old new g bytes is e h = record {
   fits = tt;
   finds = λ more.
-      frames_step (step.Frame kind.Settings start end) c old new g bytes more e h
-      ∙ ap (λ (o : Result PeerSettings Fault). by_settings c (slice start end bytes) (λ d. of_frames d true (run new (drop end bytes ++ more))) o) is
+      settings_give c old new g (slice start end bytes) bytes (drop end bytes) (Err x) e is h.gives more
       ∙ ap (λ (y : StreamRun). followed (Broke x ∷ []) y) (sym (over_given (closed_by c x) more));
+  alone = tt;
 }
 
 -- the reader is before the next frame
@@ -226,10 +253,8 @@ stands_between old new k payload h =
 other_case : (k : FrameType) (start end : ℕ) (c : Connection) (old new : Reader) (g : Bool) (bytes : List ℕ) → ((f : Connection → StreamRun) → by_item c f (Whole k (slice start end bytes)) ≡ followed (Gave (Whole k (slice start end bytes)) ∷ []) (f c)) → c.over ≡ false → StepIs (step.Frame k start end) old bytes new → StepIsFound (found.Frame k start end) c (Frames old g) bytes c (Frames new true)
 other_case k start end c old new g bytes is e h = record {
   fits = (h.within.0, h.within.1, h.within.2, stands_between old new k (slice start end bytes) h.next);
-  finds = λ more.
-      frames_step (step.Frame k start end) c old new g bytes more e h
-      ∙ is (λ d. of_frames d true (run new (drop end bytes ++ more)))
-      ∙ ap (λ (y : StreamRun). followed (Gave (Whole k (slice start end bytes)) ∷ []) y) (sym (frames_run c new true (drop end bytes ++ more) e));
+  finds = frame_finds (Whole k (slice start end bytes)) c old new g bytes (drop end bytes) refl is e h.gives;
+  alone = frame_finds (Whole k (slice start end bytes)) c old new g (take end bytes) [] refl is e h.alone;
 }
 
 frame_case : (k : FrameType) (start end : ℕ) (c : Connection) (old new : Reader) (g : Bool) (bytes : List ℕ) → c.over ≡ false → StepIs (step.Frame k start end) old bytes new → IsOutcome (frame_found c (Frames new true) k start end (slice start end bytes)) c (Frames old g) bytes
@@ -240,16 +265,13 @@ pub frames_found : (x : Step) (c : Connection) (old new : Reader) (g : Bool) (by
 frames_found (step.Frame k start end) c old new g bytes e h = frame_case k start end c old new g bytes e h
 frames_found (step.Data start end) c old new g bytes e h = record {
   fits = h.within;
-  finds = λ more.
-      frames_step (step.Data start end) c old new g bytes more e h
-      ∙ items_bytes (slice start end bytes) c (λ d. of_frames d g (run new (drop end bytes ++ more)))
-      ∙ ap (λ (y : StreamRun). followed (bytes_seen (slice start end bytes)) y) (sym (frames_run c new g (drop end bytes ++ more) e));
+  finds = bytes_find (slice start end bytes) c old new g bytes (drop end bytes) e h.gives;
+  alone = bytes_find (slice start end bytes) c old new g (take end bytes) [] e h.alone;
 }
 frames_found (step.TooLarge size n) c old new g bytes e h = record {
   fits = h.within;
-  finds = λ more.
-      frames_step (step.TooLarge size n) c old new g bytes more e h
-      ∙ ap (λ (y : StreamRun). followed (Gave (TooLarge size) ∷ []) y) (sym (frames_run c new true (drop n bytes ++ more) e));
+  finds = frame_finds (TooLarge size) c old new g bytes (drop n bytes) refl (λ f. refl) e h.gives;
+  alone = frame_finds (TooLarge size) c old new g (take n bytes) [] refl (λ f. refl) e h.alone;
 }
 frames_found (step.More n) c old new g bytes e h = record {
   fits = (
@@ -259,13 +281,15 @@ frames_found (step.More n) c old new g bytes e h = record {
       few = h.within.1.few;
     },
   );
-  finds = λ more. frames_step (step.More n) c old new g bytes more e h ∙ sym (frames_run c new g (drop n bytes ++ more) e);
+  finds = nothing_finds c old new g bytes (drop n bytes) e h.gives;
+  alone = nothing_finds c old new g (take n bytes) [] e h.alone;
 }
 frames_found (step.Fault f) c old new g bytes e h = record {
   fits = tt;
   finds = λ more.
-      frames_step (step.Fault f) c old new g bytes more e h
+      frames_give (Broken f ∷ []) c old new g bytes [] e h.gives more
       ∙ ap (λ (y : StreamRun). followed (Broke (fault.Stream f) ∷ []) y) (failed_frames (closed_by c (fault.Stream f)) new g f more h.next.place);
+  alone = tt;
 }
 
 pub step_inside : (x : Step) (old new : Reader) (bytes : List ℕ) → StepIs x old bytes new → IsInside x bytes
@@ -292,6 +316,7 @@ consumes c s t bytes none h = record {
     },
   );
   finds = λ more. h more ∙ ap (λ (l : List ℕ). run_stream c t (l ++ more)) (sym (nothing_left bytes));
+  alone = λ more. ap (λ (l : List ℕ). run_stream c s (l ++ more)) (take-length bytes) ∙ h more;
 }
 
 -- an error ends the stream
@@ -299,6 +324,7 @@ failing : (c : Connection) (s : Stream) (bytes : List ℕ) (x : Fault) → ((mor
 failing c s bytes x h = record {
   fits = tt;
   finds = λ more. h more ∙ ap (λ (y : StreamRun). followed (Broke x ∷ []) y) (sym (over_given (closed_by c x) more));
+  alone = tt;
 }
 
 encoder_case : (b : Bool) (c : Connection) (bytes : List ℕ) → list_all sets_zero bytes ≡ b → c.over ≡ false → IsOutcome (with_capacity c Encoder (length bytes) b) c Encoder bytes
@@ -401,6 +427,7 @@ open_found c s bytes p n d t i f e l is =
       finds = λ more.
           opening_run c s bytes more p n (Ok (d, t)) i f e is
           ∙ ap (λ (y : StreamRun). followed (Opened p ∷ []) y) (sym (opened_run d t (drop n bytes ++ more) (h.intact i) h.opened));
+      alone = is;
     }
 
 open_fault : (c : Connection) (s : Stream) (bytes : List ℕ) (p : Purpose) (n : ℕ) (x : Fault) → c.over ≡ false → IsFirst s → opening_of c.endpoint s bytes ≡ Some (p, drop n bytes) → opens c p ≡ Err x → StepIsFound (found.Fault x) c s bytes (closed_by c x) Over
@@ -409,6 +436,7 @@ open_fault c s bytes p n x i f e is = record {
   finds = λ more.
       opening_run c s bytes more p n (Err x) i f e is
       ∙ ap (λ (y : StreamRun). followed (Broke x ∷ []) y) (sym (over_given (closed_by c x) more));
+  alone = tt;
 }
 
 pub open_failed : (c d e : Connection) (s t : Stream) (bytes : List ℕ) (p : Purpose) (n : ℕ) (x : Fault) (y : Found) → c.over ≡ false → IsFirst s → opening_of c.endpoint s bytes ≡ Some (p, drop n bytes) → opens c p ≡ Err x → d ≡ c → (y, e, t) ≡ fails d x → StepIsFound y c s bytes e t
@@ -424,4 +452,5 @@ open_more c s bytes i f e = record {
     },
   );
   finds = λ more. refl;
+  alone = λ more. refl;
 }

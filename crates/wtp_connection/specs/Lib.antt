@@ -1,3 +1,4 @@
+pub mod Budget
 pub mod Fault
 pub mod Settings
 pub mod Resumption
@@ -5,5 +6,7 @@ pub mod Instructions
 pub mod Opening
 pub mod Streams
 pub mod Receiving
+pub mod First
 pub mod Requests
 pub mod Datagrams
+pub mod Words

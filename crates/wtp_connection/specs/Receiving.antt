@@ -1,5 +1,5 @@
 -- What one call of a connection does.
-use Rattle.std.specs.Prelude.{◌≡◌, ℕ, ◌+◌, ◌<◌, ◌≤◌, if◌then◌else◌, Bool, true, false, List, [], ◌∷◌, ◌++◌, length, drop, Option, Some, None, Result, Ok, Err}
+use Rattle.std.specs.Prelude.{◌≡◌, ℕ, ◌+◌, ◌<◌, ◌≤◌, if◌then◌else◌, Bool, true, false, List, [], ◌∷◌, ◌++◌, length, take, drop, Option, Some, None, Result, Ok, Err}
 use Rattle.std.specs.List.{list_all}
 use Rattle.wtp_frames.specs.declared.endpoint.Endpoint.{Endpoint}
 use Rattle.wtp_frames.specs.declared.fault.Fault.{Fault as StreamFault}
@@ -22,7 +22,7 @@ use Rattle.wtp_connection.specs.declared.connection.Found.{Found}
 use Rattle.wtp_connection.specs.declared.connection.Found.TheVariants as found
 use Rattle.wtp_connection.specs.Instructions.{sets_zero}
 use Rattle.wtp_connection.specs.Opening.{uni_at, bi_at, over_by}
-use Rattle.wtp_connection.specs.Streams.{Seen, Opened, Configured, Gave, Broke, Ended, StreamRun, rests, followed, bytes_seen, run_stream, ended, configured, received_settings, closed_by, end_of}
+use Rattle.wtp_connection.specs.Streams.{Seen, Opened, Configured, Gave, Broke, Ended, StreamRun, rests, followed, bytes_seen, run_stream, ended, opens, configured, received_settings, closed_by, end_of}
 
 -- ---- a stream whose purpose is not known yet
 
@@ -59,6 +59,17 @@ rest_after (found.TooLarge size n) bytes = drop n bytes
 rest_after (found.More n) bytes = drop n bytes
 rest_after (found.Fault f) bytes = []
 rest_after found.End bytes = []
+
+-- the bytes that it consumes
+abbrev pub consumed_in : Found → List ℕ → List ℕ
+consumed_in (found.Opened p n) bytes = take n bytes
+consumed_in (found.Settings v start end) bytes = take end bytes
+consumed_in (found.Frame kind start end) bytes = take end bytes
+consumed_in (found.Data start end) bytes = take end bytes
+consumed_in (found.TooLarge size n) bytes = take n bytes
+consumed_in (found.More n) bytes = take n bytes
+consumed_in (found.Fault f) bytes = bytes
+consumed_in found.End bytes = bytes
 
 -- how many bytes may be left after `More`: any of a stream that waits for its session, and of each
 -- other one few
@@ -98,10 +109,19 @@ abbrev pub Finds : Connection → Stream → List ℕ → List Seen → Connecti
 Finds c s bytes seen d t rest =
     (more : List ℕ) → run_stream c s (bytes ++ more) ≡ followed seen (run_stream d t (rest ++ more))
 
+-- The bytes that are consumed are exactly what is found, whatever follows them: the connection and the
+-- stream are those after them. What a stream is for may be found without a byte of it.
+abbrev pub IsAlone : Found → Connection → Stream → List ℕ → List Seen → Connection → Stream → Type 0
+IsAlone (found.Opened p n) c s bytes seen d t = opens c p ≡ Ok (d, t)
+IsAlone (found.Fault f) c s bytes seen d t = Unit {0}
+IsAlone found.End c s bytes seen d t = Unit {0}
+IsAlone other c s bytes seen d t = Finds c s bytes seen d t []
+
 pub record StepIsFound (x : Found) (c : Connection) (s : Stream) (bytes : List ℕ) (d : Connection)
     (t : Stream) : Type 0 where
   pub fits : Fits x bytes d t
   pub finds : Finds c s bytes (seen_of x bytes) d t (rest_after x bytes)
+  pub alone : IsAlone x c s (consumed_in x bytes) (seen_of x bytes) d t
 
 -- ---- where the stream may end
 
@@ -131,6 +151,7 @@ pub record FoundIs (x : Found) (c : Connection) (s : Stream) (bytes : List ℕ) 
       ≡ followed (seen_of x bytes) (all_found fin d t (rest_after x bytes) more)
   pub goes : LeavesOpen x → Finds c s bytes (seen_of x bytes) d t (rest_after x bytes)
   pub settled : fin ≡ true → Settled x bytes d t
+  pub alone : IsAlone x c s (consumed_in x bytes) (seen_of x bytes) d t
 
 -- ---- what the connection and the stream keep
 

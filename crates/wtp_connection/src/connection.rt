@@ -1,11 +1,13 @@
 //! What the streams of a connection have in common. It holds no bytes and no table of streams.
 ghost use Rattle.std.specs.Prelude.{◌≡◌, ◌≤◌, ◌||◌, length, drop, true, false, None, Some, MatchOption, IfSome, IfErr};
 ghost use Rattle.wtp_connection.specs.Streams.{connection_of, opens, opening_result, closed_by, accepts};
+ghost use Rattle.wtp_connection.specs.First.{first_found, first_seen, found_by};
 ghost use Rattle.wtp_connection.specs.Receiving.{FoundIs, StepIsFound, IsNearer, IsFirst, IsInside, opening_of, has_frame, settings_of, settings_after, HasGiven, step_found, encoder_found, decoder_found, fails, more_in, finish_of};
 
 pub mod datagrams;
 mod resumption;
 mod sessions;
+pub mod words;
 
 use crate::fault::Fault;
 use crate::fields::Fields;
@@ -134,6 +136,8 @@ impl Connection {
         _fields: &mut Fields,
     ) -> Found
         ensures found { FoundIs result self.old stream.old bytes.now fin self.new stream.new }
+        ensures first { found_by result bytes.now self.new stream.new
+            ≡ first_found fin self.old stream.old bytes.now }
         ensures progress { IsNearer result stream.old bytes.now stream.new }
         ensures settings { settings_of self.new ≡ settings_after result self.old }
         ensures given { HasGiven result stream.old stream.new }
@@ -154,6 +158,8 @@ impl Connection {
     // Returns what is next, where the stream goes on.
     fn step(&mut self, stream: &mut Stream, bytes: &[u8]) -> Found
         ensures found { StepIsFound result self.old stream.old bytes.now self.new stream.new }
+        ensures first { found_by result bytes.now self.new stream.new
+            ≡ first_seen self.old stream.old bytes.now }
         ensures progress { IsNearer result stream.old bytes.now stream.new }
         ensures settings { settings_of self.new ≡ settings_after result self.old }
         ensures given { HasGiven result stream.old stream.new }
@@ -271,6 +277,8 @@ impl Connection {
             (λ o. opening_of self.old.endpoint stream.old bytes.now ≡ Some (o.0, drop o.1 bytes.now)) }
         requires within { IfSome opening (λ o. o.1 ≤ length bytes.now) }
         ensures found { StepIsFound result self.old stream.old bytes.now self.new stream.new }
+        ensures first { found_by result bytes.now self.new stream.new
+            ≡ first_seen self.old stream.old bytes.now }
         ensures progress { IsNearer result stream.old bytes.now stream.new }
         ensures settings { settings_of self.new ≡ settings_after result self.old }
         ensures given { HasGiven result stream.old stream.new }

@@ -1,6 +1,6 @@
 //! Laws of the definitions that the contracts cite. Each function does nothing: its contract is the
 //! law.
-ghost use Rattle.std.specs.Prelude.{◌≡◌, ℕ, ◌+◌, ◌/◌, ◌%◌, ◌^◌, ◌<◌, ◌≤◌, Bool, true, false, List, [], ◌∷◌, ◌++◌, length, Some, None, Ok, Err};
+ghost use Rattle.std.specs.Prelude.{◌≡◌, ℕ, ◌+◌, ◌/◌, ◌%◌, ◌^◌, ◌<◌, ◌≤◌, Bool, true, false, List, [], ◌∷◌, ◌++◌, length, take, Some, None, Ok, Err};
 ghost use Rattle.wtp_core.specs.Varint.{Encodes};
 ghost use Rattle.wtp_frames.specs.declared.endpoint.Endpoint.{Endpoint};
 ghost use Rattle.wtp_frames.specs.declared.fault.Fault.TheVariants as stream;
@@ -9,6 +9,8 @@ ghost use Rattle.wtp_frames.specs.declared.endpoint.Side.TheVariants.{Client, Se
 ghost use Rattle.wtp_frames.specs.Grammar.{Frame, written, IsFrame, Interim, ValidInterim};
 ghost use Rattle.wtp_frames.specs.Start.{between, awaiting, message_reader};
 ghost use Rattle.wtp_core.specs.declared.error.scope.ErrorScope.TheVariants as scope;
+ghost use Rattle.wtp_connection.specs.Budget.{Fate, budget_of, is_exceeded, after_all, answers_in, resets_in};
+ghost use Rattle.wtp_connection.specs.declared.budget.RequestBudget.{RequestBudget};
 ghost use Rattle.wtp_connection.specs.declared.connection.Connection.{Connection};
 ghost use Rattle.wtp_connection.specs.declared.connection.Known.TheVariants as known;
 ghost use Rattle.wtp_connection.specs.Fault.{code_of, scope_of};
@@ -26,6 +28,7 @@ ghost use Rattle.wtp_connection.specs.Streams.{with_control, configured, receive
 ghost use Rattle.wtp_connection.specs.declared.connection.Found.{Found};
 ghost use Rattle.wtp_connection.specs.declared.stream.Stream.{Stream};
 ghost use Rattle.wtp_connection.specs.Receiving.{AreReturned};
+ghost use Rattle.wtp_connection.specs.First.{first_seen, with_more};
 ghost use Rattle.wtp_connection.specs.declared.instructions.DecoderPlace.TheVariants.{Between};
 ghost use Rattle.wtp_connection.specs.Instructions.{BeginsCancellation, AreCancellations, after_bytes};
 ghost use Rattle.wtp_connection.specs.Requests.{has_begun, IsNotFarBehind, beginning_of, beginning_at, begun_by};
@@ -169,6 +172,19 @@ pub fn interim_responses_are_found()
     ensures scope { scope_of (fault.Stream stream.TooManyInterim) ≡ scope.Stream }
 {}
 
+/// Requests that are reset before their answer are too many as soon as more of them were than were
+/// answered and the excess together, and not before. From then on nothing changes.
+pub fn excessive_resets_are_reported()
+    ensures found { (excess n : ℕ) (fates : List Fate) → length fates < 2 ^ 64
+        → answers_in (take n fates) + excess < resets_in (take n fates)
+        → is_exceeded (after_all (budget_of excess) fates) ≡ true }
+    ensures alone { (excess : ℕ) (fates : List Fate) → length fates < 2 ^ 64
+        → is_exceeded (after_all (budget_of excess) fates) ≡ true
+        → (n : ℕ) × (answers_in (take n fates) + excess < resets_in (take n fates)) }
+    ensures kept { (b : RequestBudget) (fates : List Fate) → is_exceeded b ≡ true
+        → after_all b fates ≡ b }
+{}
+
 /// It is known of each request whether it has begun, unless one that has is 512 places or more ahead of
 /// it. No request that has not begun is ever taken for one that has.
 pub fn begun_requests_are_known()
@@ -187,6 +203,13 @@ pub fn sessions_without_a_stream_are_known()
     ensures known { (e : Endpoint) (ids : List ℕ) (s : ℕ) → e.side ≡ Server → s % 4 ≡ 0
         → ((id : ℕ) → has_begun ids id ≡ true → id % 4 ≡ 0 → id < s + 2048)
         → known_alone (accepted_all e ids) s ≡ over_if (has_begun ids s) }
+{}
+
+/// What a call finds first does not depend on the bytes that follow, but for the length of a piece of
+/// DATA: what is found, the states after it and the bytes consumed are the same.
+pub fn first_finds_may_be_cut()
+    ensures { (c : Connection) (s : Stream) (a b : List ℕ)
+        → first_seen c s (a ++ b) ≡ with_more (first_seen c s a) b }
 {}
 
 /// A loop of calls ends: of `n` bytes at most `n + 2` calls return something before one returns `More`

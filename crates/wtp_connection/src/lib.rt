@@ -2,6 +2,7 @@
 //! next on it. The caller keeps the streams and their bytes.
 #![tactic(auto)]
 
+pub mod budget;
 pub mod connection;
 pub mod fault;
 pub mod fields;

@@ -3,6 +3,8 @@ ghost use Rattle.std.specs.Prelude.{◌≡◌, ◌==◌, ◌+◌, ◌^◌, ◌<�
 ghost use Rattle.std.specs.Int.{bit_at};
 ghost use Rattle.wtp_connection.specs.Requests.{is_set, beginning_at, none_begun, slid, moved_to as moved_to_is, with_room, with_request};
 
+pub mod words;
+
 /// How many requests a word has.
 const WORD: u64 = 64;
 

@@ -3,6 +3,8 @@
 ghost use Rattle.std.specs.Prelude.{◌≡◌, [], None};
 ghost use Rattle.wtp_connection.specs.Settings.{values_of, stored as stored_is, held as held_is, taken, with_item, is_flag as is_flag_is, is_on as is_on_is, with_defaults, settings_in};
 
+pub mod words;
+
 use crate::fault::Fault;
 use wtp_core::error::ErrorCode;
 use wtp_frames::fault::Fault as StreamFault;

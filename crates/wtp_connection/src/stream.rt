@@ -6,6 +6,8 @@ ghost use Rattle.wtp_connection.specs.Opening.{with_session, type_purpose, frame
 ghost use Rattle.wtp_connection.specs.Streams.{known_by_stream};
 ghost use Rattle.wtp_frames.specs.Start.{message_reader};
 
+pub mod words;
+
 use crate::connection::Known;
 use crate::instructions::DecoderPlace;
 use wtp_core::varint::first_varint;

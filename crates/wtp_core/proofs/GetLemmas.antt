@@ -1,5 +1,5 @@
 -- The result of one poll for a number or into a buffer.
-use Rattle.std.proofs.Common.{◌≡◌, ℕ, ◌<◌, List, [], ◌++◌, length, take, drop, Option, Some, Result, Ok, refl, sym, ap, ◌∙◌, append-nil}
+use Rattle.std.proofs.Common.{◌≡◌, ℕ, ◌<◌, ◌≤◌, List, [], ◌++◌, length, take, drop, Option, Some, Result, Ok, refl, sym, ap, ◌∙◌, arith, append-nil, length-append}
 use Rattle.wtp_core.specs.declared.bytes.poll.Polled.TheVariants.{Ready}
 use Rattle.wtp_core.specs.declared.polling.fill.Interrupted.{Interrupted}
 use Rattle.wtp_core.specs.declared.polling.fill.Interrupted.TheVariants as interrupt
@@ -9,6 +9,7 @@ use Rattle.wtp_core.specs.Source.{Source, HasModel}
 use Rattle.wtp_core.specs.declared.bytes.poll.Polled.{Polled}
 use Rattle.wtp_core.specs.declared.bytes.error.IoReadError.{IoReadError}
 use Rattle.wtp_core.specs.Fill.{Gains, InterruptIsTrue, interrupt_fault, InterruptsAs, interrupted_poll}
+use Rattle.wtp_core.specs.Polled.{IsPaced}
 use Rattle.wtp_core.specs.Get.{VarintPolled, VarintGiven, BufferGiven}
 use Rattle.wtp_core.proofs.TellingLemmas.{telling_map}
 use Rattle.wtp_core.proofs.FillLemmas.{begins, interrupted_as}
@@ -21,6 +22,16 @@ interrupted_at x n = interrupted_poll (λ f. f) (interrupt_fault x n)
 
 pub interrupted_plain : {T : Type 0} (x : Interrupted) (n : ℕ) (r : Polled (Result T IoReadError)) → InterruptsAs (λ f e. e ≡ f) (interrupt_fault x n) r → r ≡ interrupted_at x n
 interrupted_plain x n r h = interrupted_as (λ f. f) (interrupt_fault x n) r h
+
+-- each call but the last took a byte
+paced : (old new : List ℕ) (a b : Source) (e : ℕ) → Gains old new a b e → e ≤ 1 → IsPaced a b
+paced old new a b e g l = let one = g.asked in omega (arith, one, l, ap length g.kept, length-append old a.ahead, length-append new b.ahead)
+
+pub paced_whole : (x y : Option Source) (old new : List ℕ) → HasModel x y (λ a b. Gains old new a b 0) → HasModel x y IsPaced
+paced_whole x y old new h = telling_map x y _ _ (λ a b g. paced old new a b 0 g (omega arith)) h
+
+pub paced_interrupted : (x y : Option Source) (i : Interrupted) (old new : List ℕ) → HasModel x y (λ a b. Gains old new a b 1 × InterruptIsTrue i a b) → HasModel x y IsPaced
+paced_interrupted x y i old new h = telling_map x y _ _ (λ a b g. paced old new a b 1 g.0 (omega arith)) h
 
 -- no byte is ahead any more
 pub dry : (old new : List ℕ) (a b : Source) (e : ℕ) → Gains old new a b e → b.ahead ≡ [] → new ≡ old ++ a.ahead

@@ -1,5 +1,5 @@
 -- The results of polls, and the errors with which reading and writing stop.
-use Rattle.std.specs.Prelude.{◌≡◌, ℕ, ◌+◌, ◌≤◌, ◌==◌, if◌then◌else◌}
+use Rattle.std.specs.Prelude.{◌≡◌, ℕ, ◌+◌, ◌≤◌, ◌==◌, if◌then◌else◌, length}
 use Rattle.std.specs.declared.io.ErrorKind.{ErrorKind}
 use Rattle.std.specs.declared.io.ErrorKind.TheVariants.{ConnectionReset}
 use Rattle.wtp_core.specs.declared.bytes.poll.Polled.{Polled}
@@ -32,6 +32,10 @@ pub record PollsAtMost (calls : ℕ) (a b : Source) : Type 0 where
   pub no_less : a.asked ≤ b.asked
   pub ending : b.ending ≡ a.ending
   pub waits : a.waits ≤ b.waits
+
+-- the source was called at most once more than it gave bytes
+abbrev pub IsPaced : Source → Source → Type 0
+IsPaced a b = b.asked + length b.ahead ≤ a.asked + length a.ahead + 1
 
 -- how often the source was not ready in one poll: once if the result is Pending, and otherwise
 -- never

@@ -24,7 +24,7 @@ LacksRoom (Some place) n = length place < n
 -- a writer may return this error for n bytes; `grows` says whether it allocates
 abbrev pub Refuses : Bool → Option (List ℕ) → ℕ → PutError → Type 0
 Refuses grows room n EndOfBuffer = LacksRoom room n
-Refuses grows room n Memory = HasRoom room n × IsTrue grows
+Refuses grows room n Memory = HasRoom room n × IsTrue grows × (0 < n)
 
 -- the writer wrote all of the bytes, or returned an error and changed nothing
 abbrev pub WritesPrefix :

@@ -164,6 +164,8 @@ impl fmt::Display for ErrorCode {
 
     ghost output = { λ code. Some (name_of code) };
 
+    ghost styled_output = { λ code _. Some (name_of code) };
+
     fn fmt<W: fmt::Write>(&self, f: &mut fmt::Formatter<W>) -> fmt::Result {
         f.write_str(self.name())
     }

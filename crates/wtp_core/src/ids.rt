@@ -373,13 +373,14 @@ impl FromStr for StatusCode {
 
 impl fmt::Display for StreamId {
     ghost use Rattle.std.specs.Prelude.{Some};
-    ghost use Rattle.std.specs.Fmt.{decimal};
+    ghost use Rattle.std.specs.Fmt.{decimal, styled_decimal};
 
     ghost output = { λ id. Some (decimal id) };
 
+    ghost styled_output = { λ id style. Some (styled_decimal style id) };
+
     fn fmt<W: fmt::Write>(&self, f: &mut fmt::Formatter<W>) -> fmt::Result {
-        let number = self.into_u64();
-        write!(f, "{number}")
+        fmt::Display::fmt(&self.into_u64(), f)
     }
 }
 
@@ -396,13 +397,14 @@ impl fmt::Debug for StreamId {
 
 impl fmt::Display for SessionId {
     ghost use Rattle.std.specs.Prelude.{Some};
-    ghost use Rattle.std.specs.Fmt.{decimal};
+    ghost use Rattle.std.specs.Fmt.{decimal, styled_decimal};
 
     ghost output = { λ id. Some (decimal id) };
 
+    ghost styled_output = { λ id style. Some (styled_decimal style id) };
+
     fn fmt<W: fmt::Write>(&self, f: &mut fmt::Formatter<W>) -> fmt::Result {
-        let number = self.into_u64();
-        write!(f, "{number}")
+        fmt::Display::fmt(&self.into_u64(), f)
     }
 }
 
@@ -419,13 +421,14 @@ impl fmt::Debug for SessionId {
 
 impl fmt::Display for QStreamId {
     ghost use Rattle.std.specs.Prelude.{Some};
-    ghost use Rattle.std.specs.Fmt.{decimal};
+    ghost use Rattle.std.specs.Fmt.{decimal, styled_decimal};
 
     ghost output = { λ id. Some (decimal id) };
 
+    ghost styled_output = { λ id style. Some (styled_decimal style id) };
+
     fn fmt<W: fmt::Write>(&self, f: &mut fmt::Formatter<W>) -> fmt::Result {
-        let number = self.into_u64();
-        write!(f, "{number}")
+        fmt::Display::fmt(&self.into_u64(), f)
     }
 }
 
@@ -442,13 +445,14 @@ impl fmt::Debug for QStreamId {
 
 impl fmt::Display for StatusCode {
     ghost use Rattle.std.specs.Prelude.{Some};
-    ghost use Rattle.std.specs.Fmt.{decimal};
+    ghost use Rattle.std.specs.Fmt.{decimal, styled_decimal};
 
     ghost output = { λ id. Some (decimal id) };
 
+    ghost styled_output = { λ id style. Some (styled_decimal style id) };
+
     fn fmt<W: fmt::Write>(&self, f: &mut fmt::Formatter<W>) -> fmt::Result {
-        let number = self.into_inner();
-        write!(f, "{number}")
+        fmt::Display::fmt(&self.into_inner(), f)
     }
 }
 

@@ -202,13 +202,14 @@ impl From<VarInt> for u64 {
 
 impl fmt::Display for VarInt {
     ghost use Rattle.std.specs.Prelude.{Some};
-    ghost use Rattle.std.specs.Fmt.{decimal};
+    ghost use Rattle.std.specs.Fmt.{decimal, styled_decimal};
 
     ghost output = { λ v. Some (decimal v) };
 
+    ghost styled_output = { λ v style. Some (styled_decimal style v) };
+
     fn fmt<W: fmt::Write>(&self, f: &mut fmt::Formatter<W>) -> fmt::Result {
-        let value = self.value;
-        write!(f, "{value}")
+        fmt::Display::fmt(&self.value, f)
     }
 }
 

@@ -14,7 +14,7 @@ word_more state word rest front behind some first second is =
     ∙ ap (λ (w : ℕ). hash_words (length behind / 8) (mixed state w) (drop 8 rest)) (is ∙ ap (from_le_bytes w64) first)
     ∙ ap (λ (n : ℕ). hash_words n state rest) (sym count)
 
-pub words_end : (state : ℕ) (rest : List ℕ) → length rest < 8 → mixed state (word_of 0 rest) ≡ hash_words (length rest / 8) state rest
+pub words_end : (state : ℕ) (rest : List ℕ) → length rest < 8 → state ≡ hash_words (length rest / 8) state rest
 words_end state rest few =
     let none : length rest / 8 ≡ 0 = omega arith in
     ap (λ (n : ℕ). hash_words n state rest) (sym none)

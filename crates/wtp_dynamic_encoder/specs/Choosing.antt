@@ -2,7 +2,7 @@
 -- refer (RFC 9204, sections 2.1.1.1, 4.3 and 4.5).
 use Rattle.std.specs.Prelude.{◌≡◌, ◌⊎◌, ℕ, ◌-◌, ◌/◌, ◌<◌, ◌≤◌, nat_le, min, Bool, true, false, List, [], ◌∷◌, Option, Some, None}
 use Rattle.wtp_qpack.specs.Field.{Field}
-use Rattle.wtp_qpack.specs.StaticTable.{first_entry}
+use Rattle.wtp_qpack.specs.StaticTable.{first_entry, FindsStatic}
 use Rattle.wtp_dynamic.specs.Table.{Table, insert_count, entry_size, evicted, HasNone, IsLatest, FindsLatest}
 use Rattle.wtp_dynamic.specs.Writing.{Order, Sets, InsertsNamed, InsertsLiteral, Duplicates}
 use Rattle.wtp_dynamic.specs.Plans.{Plan, StaticField, TableField, StaticName, TableName, NewName}
@@ -10,7 +10,6 @@ use Rattle.wtp_dynamic_encoder.specs.declared.proposal.Indexing.{Indexing}
 use Rattle.wtp_dynamic_encoder.specs.declared.proposal.Indexing.TheVariants.{ByPolicy, Insert, Without, Never}
 use Rattle.wtp_dynamic_encoder.specs.declared.proposal.Policy.{Policy}
 use Rattle.wtp_dynamic_encoder.specs.declared.proposal.Proposal.{Proposal}
-use Rattle.wtp_dynamic_encoder.specs.Lookup.{FindsStatic}
 
 -- ---- proposals
 
@@ -58,9 +57,13 @@ draining_index policy table =
 
 -- ---- the order that inserts an entry
 
+-- the absolute index of the latest such entry, or that there is none
+abbrev pub IsCopy : Field → Table → Option ℕ → Type 0
+IsCopy entry table latest = FindsLatest (is_field entry) table (insert_count table) latest
+
 -- the table has no such entry
 abbrev pub IsNew : Field → Table → Type 0
-IsNew entry table = FindsLatest (is_field entry) table (insert_count table) None
+IsNew entry table = IsCopy entry table None
 
 -- The latest such entry is inserted again (section 4.3.4). If there is none, the entry has the name
 -- of the first static entry with that name, or else of the latest dynamic entry (4.3.2), or else its

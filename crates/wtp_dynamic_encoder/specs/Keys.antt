@@ -1,12 +1,11 @@
 -- What is known of a field before it is looked up in the dynamic table.
 use Rattle.std.specs.Prelude.{◌≡◌, ℕ, List, Some, slice_get}
 use Rattle.wtp_qpack.specs.Field.{Field}
-use Rattle.wtp_qpack.specs.StaticTable.{first_entry}
+use Rattle.wtp_qpack.specs.StaticTable.{first_entry, FindsStatic}
 use Rattle.wtp_dynamic_encoder.specs.declared.key.Key.{Key}
 use Rattle.wtp_dynamic_encoder.specs.declared.proposal.Proposal.{Proposal}
 use Rattle.wtp_dynamic_encoder.specs.Choosing.{field_of}
 use Rattle.wtp_dynamic_encoder.specs.Hashing.{AreHashes}
-use Rattle.wtp_dynamic_encoder.specs.Lookup.{FindsStatic}
 
 -- its hashes, the first static entry with its name, and the first that is the field
 pub record IsKey (key : Key) (field : Field) : Type 0 where

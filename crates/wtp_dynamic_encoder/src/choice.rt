@@ -1,10 +1,10 @@
 //! Which fields an encoder inserts, and to which entries it refers (RFC 9204, sections 2.1.1.1, 4.3
 //! and 4.5).
 
-ghost use Rattle.std.specs.Prelude.{◌≡◌, Decides, Some};
+ghost use Rattle.std.specs.Prelude.{◌≡◌, Some, MatchOption};
 ghost use Rattle.wtp_qpack.specs.Field.{IsOctets};
 ghost use Rattle.wtp_dynamic.specs.Plans.{planned_field, CanPlan};
-ghost use Rattle.wtp_dynamic_encoder.specs.Choosing.{field_of, is_field, has_name, FindsIn, draining_index, IsOrderFor, IsWanted, IsLiteral, Chooses};
+ghost use Rattle.wtp_dynamic_encoder.specs.Choosing.{field_of, is_field, has_name, FindsIn, draining_index, IsCopy, IsOrderFor, IsWanted, IsLiteral, Chooses};
 ghost use Rattle.wtp_dynamic_encoder.specs.Keys.{IsKey};
 ghost use Rattle.wtp_dynamic_encoder.specs.PlanView.{plan_of, order_of};
 
@@ -64,19 +64,21 @@ fn find_name(
     }
 }
 
-/// Returns the order that inserts an entry, whose key this is: that of its latest copy, or else with
-/// the name of an entry, or else with its own.
+/// Returns the order that inserts an entry, whose key and latest copy these are: that of the copy, or
+/// else with the name of an entry, or else with its own.
 pub(crate) fn order_for<'a>(
     table: &IndexedTable,
     key: Key,
+    latest: Option<u64>,
     name: &'a [u8],
     value: &'a [u8],
 ) -> Order<'a>
-    requires { IsKey key (name.now, value.now) }
+    requires key { IsKey key (name.now, value.now) }
+    requires latest { IsCopy (name.now, value.now) table.now latest }
     ensures { IsOrderFor (name.now, value.now) table.now (order_of result) }
 {
     let count = table.insert_count();
-    if let Some(place) = table.find(name, value, key.hashes, count) {
+    if let Some(place) = latest {
         return Order::Duplicates(count - 1 - place);
     }
     if let Some(index) = key.named {
@@ -88,24 +90,41 @@ pub(crate) fn order_for<'a>(
     }
 }
 
-/// Returns whether a field, whose key this is, is inserted: it is to be an entry, and neither table
-/// has it as one that is not draining.
-pub(crate) fn is_wanted(
+/// Returns the absolute index of the latest entry that is a field, whose key this is, or `None` if
+/// there is none.
+pub(crate) fn copy_of(table: &IndexedTable, key: Key, name: &[u8], value: &[u8]) -> Option<u64>
+    requires { IsKey key (name.now, value.now) }
+    ensures { IsCopy (name.now, value.now) table.now result }
+{
+    table.find(name, value, key.hashes, table.insert_count())
+}
+
+/// Returns the latest entry that is a field, or that there is none, if the field, whose key this is,
+/// is inserted: it is to be an entry, and neither table has it as one that is not draining.
+pub(crate) fn wanted(
     policy: Policy,
     table: &IndexedTable,
     key: Key,
     proposal: Proposal<'_>,
-) -> bool
+) -> Option<Option<u64>>
     requires { IsKey key (field_of proposal) }
-    ensures { Decides result (IsWanted policy proposal.entry table.now) }
+    ensures { MatchOption result
+        (¬ (IsWanted policy proposal.entry table.now))
+        (λ latest. IsWanted policy proposal.entry table.now
+        × IsCopy (field_of proposal.entry) table.now latest) }
 {
     if !policy.proposes(proposal) || key.whole.is_some() {
-        return false;
+        return None;
     }
-    let count = table.insert_count();
-    match table.find(proposal.name, proposal.value, key.hashes, count) {
-        Some(place) => place < draining_index(policy, table),
-        None => true,
+    match copy_of(table, key, proposal.name, proposal.value) {
+        Some(place) => {
+            if place < draining_index(policy, table) {
+                Some(Some(place))
+            } else {
+                None
+            }
+        }
+        None => Some(None),
     }
 }
 

@@ -8,15 +8,16 @@ ghost use Rattle.wtp_dynamic_encoder.specs.Acknowledging.{most_bytes};
 ghost use Rattle.wtp_dynamic_encoder.specs.Choosing.{default_policy};
 ghost use Rattle.wtp_dynamic_encoder.specs.Encoding.{Runs, State, held_count, encoder_of, InsertsIf, ResizesIf, Ordered, prefix_for, sent_at, opened, bound_for, Encodes, PieceRead};
 
-use crate::choice::draining_index;
+use crate::choice::{copy_of, draining_index};
 use crate::decoder_stream::DecoderStream;
 use crate::indexed::IndexedTable;
 use crate::insertion;
-use crate::key::{Key, keys_of};
+use crate::key::{Key, fill_keys};
 use crate::proposal::{Policy, Proposal};
 use crate::section::{Lines, write_lines};
 use std::alloc::{AllocError, Global};
 use std::marker::Model;
+use std::mem::replace;
 use wtp_dynamic::error::DecoderStreamError;
 use wtp_dynamic::ledger::{Ledger, Sent};
 use wtp_dynamic::table::DynamicTable;
@@ -80,6 +81,20 @@ fn send(
 /// It evicts no entry of which it does not know that the decoder received it, and none to which a
 /// section refers that is not acknowledged (section 2.1.1). It sends no section that may block more
 /// streams than the decoder allows (section 2.1.2).
+///
+/// Between calls it keeps the memory that the largest section so far needed: for its lines, and at most
+/// 96 bytes for each of its fields.
+///
+/// # Cost
+///
+/// A field is looked up in the dynamic table at most four times: by its texts and by its name, for its
+/// insertion and for its line. A look-up goes over the entries whose hashes belong to one bucket, of
+/// which there are at least as many as entries. Hashes have no key: whoever chooses the fields, as
+/// clients of a proxy do, can give them the same hash. Then a look-up compares a field with every
+/// entry, of which there are at most `limit / 32`: 128 in a table of 4 KiB. So a hostile list of `n`
+/// fields costs at most `n * limit / 8` comparisons of texts, and the policy
+/// [`Indexing::Without`](crate::proposal::Indexing::Without) keeps fields out of the table. A look-up
+/// in the static table compares one name and one value at most, whatever they are.
 #[derive(Drop)]
 pub struct QpackEncoder {
     alloc: Global,
@@ -89,6 +104,9 @@ pub struct QpackEncoder {
     fault: Option<DecoderStreamError>,
     most: u64,
     policy: Policy,
+    /// Memory for the keys of a section, and for its lines, which is kept from one to the next.
+    keys: Vec<Key>,
+    room: Vec<u8>,
 }
 
 // Contracts treat the encoder as its table, its ledger, the decoder stream, how many streams may be
@@ -134,6 +152,8 @@ impl QpackEncoder {
             fault: None,
             most,
             policy: Policy::new(),
+            keys: Vec::new(alloc),
+            room: Vec::new(alloc),
         }
     }
 
@@ -223,11 +243,14 @@ impl QpackEncoder {
             encoder_stream.new.items }
         ensures same { self.new ≡ record self.old { table = self.new.table } }
     {
+        let key = Key::of(name, value);
+        let latest = copy_of(&self.table, key, name, value);
         insertion::insert_entry(
             self.alloc,
             &mut self.table,
             &self.ledger,
-            Key::of(name, value),
+            key,
+            latest,
             name,
             value,
             encoder_stream,
@@ -260,30 +283,32 @@ impl QpackEncoder {
         ensures { Encodes stream proposals.now self.old self.new encoder_stream.old.items
             encoder_stream.new.items section.old.items section.new.items result }
     {
-        let keys = keys_of(self.alloc, proposals);
+        fill_keys(&mut self.keys, proposals);
         insertion::insert_all(
             self.alloc,
             self.policy,
             &mut self.table,
             &self.ledger,
             proposals,
-            keys.as_slice(),
+            self.keys.as_slice(),
             encoder_stream,
         )?;
         let low = draining_index(self.policy, &self.table);
         let bound = bound_of(self.policy, &self.table, &self.ledger, stream, self.most);
         let lines = match write_lines(
-            self.alloc,
+            replace(&mut self.room, Vec::new(self.alloc)),
             &self.table,
             low,
             bound,
             proposals,
-            keys.as_slice(),
+            self.keys.as_slice(),
         ) {
             Ok(lines) => lines,
             Err(fault) => return Err(fault),
         };
-        send(stream, &self.table, &mut self.ledger, &lines, section)
+        let sent = send(stream, &self.table, &mut self.ledger, &lines, section);
+        self.room = lines.into_room();
+        sent
     }
 
     /// Reads the next piece of the decoder stream: does the instructions that are now complete

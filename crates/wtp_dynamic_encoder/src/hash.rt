@@ -1,7 +1,8 @@
 //! Hashes of names and fields.
 
-ghost use Rattle.std.specs.Prelude.{◌≡◌};
-ghost use Rattle.wtp_dynamic_encoder.specs.Hashing.{mixed, pushed, folded, hash_text, AreHashes};
+ghost use Rattle.std.specs.Prelude.{◌≡◌, ◌+◌, ◌*◌, ◌^◌};
+ghost use Rattle.std.specs.Int.{w32, from_le_bytes};
+ghost use Rattle.wtp_dynamic_encoder.specs.Hashing.{mixed, pushed, word_of, last_word, folded, hash_text, AreHashes};
 
 /// The hashes of a name, and of a name and its value.
 #[derive(Clone, Copy)]
@@ -37,6 +38,40 @@ fn fold(state: u64) -> u64
     state ^ (state >> 32)
 }
 
+/// Returns the word of a text of fewer than four bytes.
+#[tactic(auto, using(crate::proofs::Hashed::hash_steps))]
+fn short_word(text: &[u8]) -> u64
+    ensures { result ≡ word_of 0 text.now }
+{
+    let mut word = 0;
+    for byte in text {
+        word = push_byte(word, *byte);
+    }
+    word
+}
+
+/// Returns the word of a text of four to seven bytes, from its first four and its last four.
+#[inline(always)]
+fn joined_word(first: &[u8; 4], last: &[u8; 4]) -> u64
+    ensures { result ≡ from_le_bytes w32 first.now * 2 ^ 32 + from_le_bytes w32 last.now }
+{
+    u32::from_le_bytes(*first) as u64 * 0x1_0000_0000 + u32::from_le_bytes(*last) as u64
+}
+
+/// Returns the last eight bytes of a text as a word, or those of a shorter one.
+#[inline(always)]
+fn last_word(text: &[u8]) -> u64
+    ensures { result ≡ last_word text.now }
+{
+    match text.split_last_chunk::<8>() {
+        Some((_, word)) => u64::from_le_bytes(*word),
+        None => match (text.split_first_chunk::<4>(), text.split_last_chunk::<4>()) {
+            (Some((first, _)), Some((_, last))) => joined_word(first, last),
+            _ => short_word(text),
+        },
+    }
+}
+
 /// Returns the hash of a text, from a seed.
 #[tactic(auto, using(crate::proofs::Hashed::hash_steps), unfolding(crate::specs::Hashing::hash_text))]
 fn hash_text(seed: u64, text: &[u8]) -> u64
@@ -48,11 +83,7 @@ fn hash_text(seed: u64, text: &[u8]) -> u64
         state = mix(state, u64::from_le_bytes(*word));
         rest = behind;
     }
-    let mut last = 0;
-    for byte in rest {
-        last = push_byte(last, *byte);
-    }
-    fold(mix(state, last))
+    fold(mix(state, last_word(text)))
 }
 
 impl Hashes {

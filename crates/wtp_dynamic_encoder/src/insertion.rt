@@ -4,11 +4,11 @@
 ghost use Rattle.std.specs.Prelude.{◌≡◌, ◌-◌, ◌<◌, ◌≤◌, MatchOption, MatchResult};
 ghost use Rattle.wtp_dynamic.specs.Table.{entry_size};
 ghost use Rattle.wtp_dynamic.specs.EncoderState.{Owes, may_resize};
-ghost use Rattle.wtp_dynamic_encoder.specs.Choosing.{field_of};
+ghost use Rattle.wtp_dynamic_encoder.specs.Choosing.{field_of, IsCopy};
 ghost use Rattle.wtp_dynamic_encoder.specs.Keys.{IsKey, AreKeys};
 ghost use Rattle.wtp_dynamic_encoder.specs.Encoding.{encoder_of, can_insert, InsertsIf, ResizesIf, Offered, AreOffered, IsInserted, StoppedAt, Ordered};
 
-use crate::choice::{are_octets, is_wanted, order_for};
+use crate::choice::{are_octets, order_for, wanted};
 use crate::indexed::IndexedTable;
 use crate::key::{Key, key_at};
 use crate::plan::{Order, write_order};
@@ -49,8 +49,8 @@ fn may_resize(table: &IndexedTable, ledger: &Ledger, capacity: u64) -> bool
     table.limit() > 0 && capacity <= table.limit() && ledger.may_evict(table.dropped_for(capacity))
 }
 
-/// Inserts an entry, whose key this is, if it may be, and appends the order. Returns whether it was
-/// inserted.
+/// Inserts an entry, whose key and latest copy these are, if it may be, and appends the order. Returns
+/// whether it was inserted.
 ///
 /// Returns [`AllocError`] if it may be and allocation failed; nothing has changed then.
 fn insert_if_may(
@@ -58,11 +58,13 @@ fn insert_if_may(
     table: &mut IndexedTable,
     ledger: &Ledger,
     key: Key,
+    latest: Option<u64>,
     name: &[u8],
     value: &[u8],
     out: &mut Vec<u8>,
 ) -> Result<bool, AllocError>
-    requires { IsKey key (name.now, value.now) }
+    requires key { IsKey key (name.now, value.now) }
+    requires latest { IsCopy (name.now, value.now) table.old latest }
     ensures { InsertsIf (name.now, value.now) ledger.now table.old table.new out.old.items
         out.new.items result }
 {
@@ -71,7 +73,7 @@ fn insert_if_may(
     }
     let entry = Entry::new(alloc, name, value)?;
     let len = out.len();
-    match write_order(out, order_for(table, key, name, value)) {
+    match write_order(out, order_for(table, key, latest, name, value)) {
         Ok(()) => match table.insert(alloc, entry, key.hashes) {
             Ok(()) => return Ok(true),
             Err(_) => out.truncate(len),
@@ -88,11 +90,13 @@ pub(crate) fn insert_entry(
     table: &mut IndexedTable,
     ledger: &Ledger,
     key: Key,
+    latest: Option<u64>,
     name: &[u8],
     value: &[u8],
     out: &mut Vec<u8>,
 ) -> Result<bool, AllocError>
-    requires { IsKey key (name.now, value.now) }
+    requires key { IsKey key (name.now, value.now) }
+    requires latest { IsCopy (name.now, value.now) table.old latest }
     ensures entry { InsertsIf (name.now, value.now) ledger.now table.old table.new out.old.items
         out.new.items result }
     ensures orders { Ordered table.old table.new out.old.items out.new.items }
@@ -102,7 +106,7 @@ pub(crate) fn insert_entry(
     are_octets(value);
     // An instruction for an entry that fits the limit is not too long.
     let _fits = table.capacity() <= table.limit();
-    insert_if_may(alloc, table, ledger, key, name, value, out)
+    insert_if_may(alloc, table, ledger, key, latest, name, value, out)
 }
 
 /// Sets the capacity if it may be, and appends the order. Returns whether it was set.
@@ -153,14 +157,15 @@ fn insert_proposed(
     ensures orders { Ordered table.old table.new out.old.items out.new.items }
     ensures owes { Owes (encoder_of table.old ledger.now) → Owes (encoder_of table.new ledger.now) }
 {
-    if !is_wanted(policy, table, key, proposal) {
+    let Some(latest) = wanted(policy, table, key, proposal) else {
         return Ok(());
-    }
+    };
     match insert_entry(
         alloc,
         table,
         ledger,
         key,
+        latest,
         proposal.name,
         proposal.value,
         out,

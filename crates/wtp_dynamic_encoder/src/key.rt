@@ -8,7 +8,6 @@ ghost use Rattle.wtp_dynamic_encoder.specs.Keys.{IsKey, AreKeys};
 use crate::hash::Hashes;
 use crate::lookup::find_named;
 use crate::proposal::Proposal;
-use std::alloc::Global;
 use wtp_qpack::parts::first_static_entry;
 
 /// The hashes of a field, and where it is in the static table.
@@ -35,22 +34,18 @@ impl Key {
     }
 }
 
-/// Returns the keys of proposals, in their order: of all, or of the first so many if allocation
+/// Replaces keys by those of proposals, in their order: of all, or of the first so many if allocation
 /// failed.
-pub(crate) fn keys_of(alloc: Global, proposals: &[Proposal<'_>]) -> Vec<Key>
-    ensures { AreKeys result.items proposals.now }
+pub(crate) fn fill_keys(keys: &mut Vec<Key>, proposals: &[Proposal<'_>])
+    ensures { AreKeys keys.new.items proposals.now }
 {
-    let mut keys = match Vec::with_capacity(alloc, proposals.len()) {
-        Ok(keys) => keys,
-        Err(_) => return Vec::new(alloc),
-    };
+    keys.clear();
     for proposal in proposals {
         match keys.push(Key::of(proposal.name, proposal.value)) {
             Ok(_) => {}
-            Err(_) => return keys,
+            Err(_) => return,
         }
     }
-    keys
 }
 
 /// Returns the key of the proposal of a place: the one that is kept, or else made anew.

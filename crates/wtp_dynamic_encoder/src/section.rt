@@ -15,7 +15,7 @@ use crate::indexed::IndexedTable;
 use crate::key::{Key, key_at};
 use crate::plan::{Plan, write_line, write_prefix};
 use crate::proposal::Proposal;
-use std::alloc::{AllocError, Global};
+use std::alloc::AllocError;
 
 /// The lines of a section, the insertions that they need, and an absolute index below which they
 /// refer to no entry.
@@ -27,6 +27,13 @@ pub(crate) struct Lines {
 }
 
 impl Lines {
+    /// Returns the memory of the lines.
+    pub(crate) fn into_room(self) -> Vec<u8>
+        ensures { result ≡ self.bytes }
+    {
+        self.bytes
+    }
+
     /// Appends the section of these lines. Its Base is the count of insertions, or 0 if no line
     /// refers to the table.
     ///
@@ -106,11 +113,11 @@ fn add_line(
     Ok(())
 }
 
-/// Writes the lines of proposals, whose keys these are, with the insertions so far as Base, by entries with an absolute
-/// index from one on and below a bound.
+/// Writes the lines of proposals, whose keys these are, with the insertions so far as Base, by entries
+/// with an absolute index from one on and below a bound. They replace what the room contains.
 #[tactic(auto, using(crate::proofs::Sections::line_steps))]
 pub(crate) fn write_lines(
-    alloc: Global,
+    room: Vec<u8>,
     table: &IndexedTable,
     low: u64,
     bound: u64,
@@ -126,8 +133,10 @@ pub(crate) fn write_lines(
 {
     // Entries fit the limit, so a table with an entry has a limit of 32 at least.
     let _fits = table.size() <= table.capacity();
+    let mut bytes = room;
+    bytes.clear();
     let mut lines = Lines {
-        bytes: Vec::new(alloc),
+        bytes,
         required: 0,
         lowest: table.insert_count(),
     };

@@ -1,9 +1,9 @@
 //! Header maps, and the HEADERS frames that contain them (RFC 9114, section 7.2.2).
 ghost use Rattle.std.specs.Prelude.{◌≡◌, ℕ, ◌≤◌, ◌^◌, ◌++◌, List, [], length, OnOk, OnErr, IfOk};
-ghost use Rattle.std.specs.Prelude.{Err, map};
+ghost use Rattle.std.specs.Prelude.{Err, Some, map};
 ghost use Rattle.std.specs.Borrow.{Bor};
 ghost use Rattle.std.specs.Option.{option_copied};
-ghost use Rattle.std.specs.Iterator.{IsFinite, Drains};
+ghost use Rattle.std.specs.Iterator.{IsFinite, Drains, YieldsThen};
 ghost use Rattle.wtp_wire.specs.Content.{payload_in, kind_in, HeadersOf};
 ghost use Rattle.wtp_qpack.specs.Field.{IsMap, AreTexts, put, field_map, field_value, fields_of};
 ghost use Rattle.wtp_qpack.specs.Field.{fields_of_texts};
@@ -123,8 +123,12 @@ impl Headers {
     ) -> Result<Self, AllocError>
         requires can { I.can_next pairs }
         requires finite { IsFinite (I.remaining pairs) }
-        ensures { IfOk result (λ headers. (ps : List (Bor (List ℕ) × Bor (List ℕ)))
+        ensures map { IfOk result (λ headers. (ps : List (Bor (List ℕ) × Bor (List ℕ)))
             × Drains I.next_gives pairs ps × (headers ≡ field_map (fields_of_texts ps))) }
+        // Allocation fails only at a pair.
+        ensures memory { OnErr result ((ps : List (Bor (List ℕ) × Bor (List ℕ)))
+            × (pair : Bor (List ℕ) × Bor (List ℕ)) × (left : I)
+            × YieldsThen I.next_gives pairs ps (Some pair) left) }
     {
         let mut headers = Headers::new(alloc);
         for (name, value) in pairs {

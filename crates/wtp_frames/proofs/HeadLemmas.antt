@@ -1,11 +1,12 @@
 -- The head of a frame, whatever follows.
-use Rattle.std.proofs.Common.{◌≡◌, ℕ, ◌+◌, ◌<◌, ◌≤◌, Bool, true, false, cond, List, [], ◌++◌, length, get_or, take, drop, Option, Some, None, refl, sym, ap, ◌∙◌, append_assoc, arith, length-append}
+use Rattle.std.proofs.Common.{◌≡◌, ℕ, ◌+◌, ◌<◌, ◌≤◌, Bool, true, false, cond, List, [], ◌++◌, length, get_or, take, drop, Option, Some, None, refl, sym, ap, ◌∙◌, append_assoc, arith, length-append, length-drop}
 use Rattle.std.proofs.lemmas.Bool.{ltb-true, le-ltb, lt-ltb}
-use Rattle.std.proofs.lemmas.List.{drop-drop}
+use Rattle.std.proofs.lemmas.List.{drop-drop, append-nil}
+use Rattle.std.proofs.Math.Seq.{take-append_seam}
 use Rattle.std.specs.Int.{byte_len}
 use Rattle.wtp_core.specs.Varint.{number_at, bytes_at, width_of}
 use Rattle.wtp_core.specs.VarintLenNeeded.{byte_len_range}
-use Rattle.wtp_core.proofs.EncodingLemmas.{number_at-encodes, number_at-more, bytes_at-parts, bytes_at-append, encoding_not_empty}
+use Rattle.wtp_core.proofs.EncodingLemmas.{number_at-encodes, number_at-encoding, number_at-more, bytes_at-parts, bytes_at-append, encoding_not_empty}
 use Rattle.wtp_frames.specs.Run.{with_length, with_type, head_at}
 
 some_is : {A : Type 0} (x y : A) → Some x ≡ Some y → x ≡ y
@@ -82,6 +83,25 @@ type_none bytes (Some id) f e = omega (arith, number_size id.0 bytes id.1 f, num
 pub head_none : (bytes : List ℕ) → head_at bytes ≡ None → length bytes < 16
 unfolding head_at
 head_none bytes e = type_none bytes (number_at bytes) refl e
+
+-- the bytes of a head are enough for it
+parts_alone : (bytes rest s u : List ℕ) (start : ℕ) → start ≤ length bytes → rest ≡ drop start bytes → bytes ≡ (s ++ u) ++ rest → take start bytes ≡ s ++ u
+parts_alone bytes rest s u start w e parts =
+    let size : start ≡ length (s ++ u) = omega (arith, w, ap length e, ap length parts, length-drop start bytes, length-append (s ++ u) rest) in
+    ap (λ (k : ℕ). take k bytes) size
+    ∙ ap (λ (l : List ℕ). take (length (s ++ u)) l) parts
+    ∙ take-append_seam (s ++ u) rest
+
+pub head_alone : (bytes : List ℕ) (id n start : ℕ) → head_at bytes ≡ Some (id, n, drop start bytes) → start ≤ length bytes → head_at (take start bytes) ≡ Some (id, n, [])
+head_alone bytes id n start e w =
+    let (mid, first, second) = head_parts bytes (drop start bytes) id n e in
+    let (s, typed, before) = number_at-encodes id bytes mid first in
+    let (u, sized, after) = number_at-encodes n mid (drop start bytes) second in
+    let parts : bytes ≡ (s ++ u) ++ drop start bytes = before ∙ ap (λ (l : List ℕ). s ++ l) after ∙ sym (append_assoc s u (drop start bytes)) in
+    ap head_at (
+    parts_alone bytes (drop start bytes) s u start w refl parts
+    ∙ ap (λ (l : List ℕ). s ++ l) (sym (append-nil u)))
+    ∙ head_of (s ++ (u ++ [])) (u ++ []) [] id n (number_at-encoding id s (u ++ []) typed) (number_at-encoding n u [] sized)
 
 pub head_empty : head_at [] ≡ None
 unfolding head_at number_at

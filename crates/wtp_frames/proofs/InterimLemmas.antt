@@ -1,5 +1,5 @@
 -- Interim responses are read.
-use Rattle.std.proofs.Common.{◌≡◌, ◌&&◌, not, ℕ, ◌+◌, ◌<◌, ◌≤◌, Bool, true, false, List, [], ◌∷◌, ◌++◌, length, Option, Some, None, Result, Ok, Err, refl, sym, ap, ◌∙◌, arith, append_assoc}
+use Rattle.std.proofs.Common.{◌≡◌, ◌&&◌, not, ℕ, ◌+◌, ◌<◌, ◌≤◌, Bool, true, false, List, [], ◌∷◌, ◌++◌, length, Some, None, Result, Ok, refl, sym, ap, ◌∙◌, arith, append_assoc}
 use Rattle.std.proofs.lemmas.Bool.{le-ltb, lt-ltb, ne_eqb}
 use Rattle.wtp_frames.specs.declared.endpoint.Endpoint.{Endpoint}
 use Rattle.wtp_frames.specs.declared.endpoint.Side.{Side}
@@ -7,17 +7,15 @@ use Rattle.wtp_frames.specs.declared.endpoint.Side.TheVariants.{Client, Server}
 use Rattle.wtp_frames.specs.declared.fault.Fault.{Fault}
 use Rattle.wtp_frames.specs.declared.fault.Fault.TheVariants as fault
 use Rattle.wtp_frames.specs.declared.frame_type.FrameType.{FrameType}
-use Rattle.wtp_frames.specs.declared.frame_type.FrameType.TheVariants as kind
 use Rattle.wtp_frames.specs.declared.reader.Step.TheVariants as step
 use Rattle.wtp_frames.specs.Reading.{slice, StepIs}
 use Rattle.wtp_frames.specs.Rules.{accepted}
 use Rattle.wtp_frames.specs.declared.reader.Place.{Place}
 use Rattle.wtp_frames.specs.declared.reader.Place.TheVariants.{BeforeHeaders, Body}
 use Rattle.wtp_frames.specs.declared.reader.Reader.{Reader}
-use Rattle.wtp_frames.specs.Grammar.{written, Interim, InterimHeaders, InterimUnknown, interim_bytes, interim_section, section_item, ValidInterim, ValidInterims}
+use Rattle.wtp_frames.specs.Grammar.{written, Interim, InterimHeaders, InterimUnknown, interim_bytes, ValidInterim, ValidInterims}
 use Rattle.wtp_frames.specs.Interim.{after_interim, GivesSection, ReadsInterims, is_client, is_body, IsAwaiting}
-use Rattle.wtp_frames.specs.Item.{Item, Whole}
-use Rattle.wtp_frames.specs.Run.{Run, preceded, failed, run}
+use Rattle.wtp_frames.specs.Run.{failed, run}
 use Rattle.wtp_frames.specs.Start.{awaiting, between}
 use Rattle.wtp_frames.proofs.GrammarLemmas.{Section, section_run, unknown_skipped}
 

@@ -2,6 +2,8 @@ pub mod HeadLemmas
 pub mod NumberLemmas
 pub mod RunLemmas
 pub mod MoveLemmas
+pub mod FirstLemmas
+pub mod FirstCutLemmas
 pub mod StepLemmas
 pub mod OrderLemmas
 pub mod CutLemmas
@@ -12,3 +14,4 @@ pub mod GrammarLemmas
 pub mod RowLemmas
 pub mod InterimLemmas
 pub mod TunnelLemmas
+pub mod WordLemmas

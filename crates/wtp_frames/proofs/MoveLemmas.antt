@@ -1,9 +1,10 @@
 -- What one move gives, whatever follows the bytes.
-use Rattle.std.proofs.Common.{◌≡◌, ℕ, ◌+◌, ◌-◌, ◌==◌, ◌<◌, ◌≤◌, Bool, true, false, cond, ltb, List, [], ◌∷◌, ◌++◌, length, take, drop, Option, Some, None, Result, Ok, Err, refl, sym, ap, ◌∙◌, arith, append_assoc, length-append, length-drop, eq-eqb, inl, inr}
+use Rattle.std.proofs.Common.{◌≡◌, ℕ, ◌+◌, ◌-◌, ◌==◌, ◌<◌, ◌≤◌, Bool, true, false, cond, ltb, List, [], ◌∷◌, ◌++◌, length, take, drop, Option, Some, None, Result, Ok, Err, refl, sym, ap, subst, ◌∙◌, arith, append_assoc, length-append, length-drop, eq-eqb, inl, inr}
 use Rattle.std.proofs.lemmas.Bool.{cases_lt, lt-ltb, ne_eqb}
-use Rattle.std.proofs.lemmas.List.{map-append, take-append-le, drop-append-le, drop-drop}
-use Rattle.std.proofs.Math.Seq.{take-append-add, drop-append-add, take-length, drop-length}
+use Rattle.std.proofs.lemmas.List.{map-append, take-append-le, drop-append-le, drop-drop, append-nil, length-take}
+use Rattle.std.proofs.Math.Seq.{take-add, take-append-add, drop-append-add, take-length, drop-length}
 use Rattle.wtp_core.specs.Varint.{bytes_at}
+use Rattle.wtp_core.proofs.EncodingLemmas.{bytes_at-append}
 use Rattle.wtp_frames.specs.declared.endpoint.Endpoint.{Endpoint}
 use Rattle.wtp_frames.specs.declared.endpoint.Side.{Side}
 use Rattle.wtp_frames.specs.declared.endpoint.Side.TheVariants.{Client, Server}
@@ -23,7 +24,7 @@ use Rattle.wtp_frames.specs.Item.{Item, Whole, Byte, TooLarge, Broken}
 use Rattle.wtp_frames.specs.Start.{between}
 use Rattle.wtp_frames.specs.Run.{Run, preceded, pieces, failed, streams, skips, skips_section, moved, breaks, head_at, by_place, by_payload, action_at, is_failed, run}
 use Rattle.wtp_frames.specs.Reading.{IsAt, Gives, Waits, longest, slice, payload_move, all_passed, MoveIs}
-use Rattle.wtp_frames.proofs.HeadLemmas.{head_more, head_none, head_shorter, head_size, bytes_more, bytes_there, bytes_missing}
+use Rattle.wtp_frames.proofs.HeadLemmas.{head_more, head_alone, head_none, head_shorter, head_size, bytes_more, bytes_there, bytes_missing}
 use Rattle.wtp_frames.proofs.RunLemmas.{AtHead, InPayload, run_failed, run_none, run_head, run_frame, run_all, run_past}
 
 -- ---- a frame
@@ -108,25 +109,34 @@ gives_nothing r bytes more = refl
 
 -- ---- one move
 
-payload_moves : (b : Bool) (n : ℕ) (old new : Reader) (bytes : List ℕ) → 0 < n → n ≤ length bytes → new.endpoint ≡ old.endpoint → IsAt old.place old new → Gives old bytes (pieces b (take n bytes)) new (drop n bytes) → MoveIs (payload_move b n) old bytes new
-payload_moves true n old new bytes l m e i g = record { within = (l, m); endpoint = e; next = i; gives = g }
-payload_moves false n old new bytes l m e i g = record { within = (l, m); endpoint = e; next = i; gives = g }
+payload_moves : (b : Bool) (n : ℕ) (old new : Reader) (bytes : List ℕ) → 0 < n → n ≤ length bytes → new.endpoint ≡ old.endpoint → IsAt old.place old new → Gives old bytes (pieces b (take n bytes)) new (drop n bytes) → Gives old (take n bytes) (pieces b (take n bytes)) new [] → MoveIs (payload_move b n) old bytes new
+payload_moves true n old new bytes l m e i g a = record { within = (l, m); endpoint = e; next = i; gives = g; alone = a }
+payload_moves false n old new bytes l m e i g a = record { within = (l, m); endpoint = e; next = i; gives = g; alone = a }
 
 pub moves_all : (r : Reader) (bytes : List ℕ) → InPayload r → 0 < length bytes → length bytes < r.remaining → MoveIs (payload_move r.streamed (length bytes)) r bytes (record r { remaining = r.remaining - length bytes })
-moves_all r bytes z some few = payload_moves r.streamed (length bytes) r (record r { remaining = r.remaining - length bytes }) bytes some (omega arith) refl (record { place = refl; interims = refl }) (rw (take-length bytes, drop-length bytes) (gives_all r bytes z few))
+moves_all r bytes z some few = payload_moves r.streamed (length bytes) r (record r { remaining = r.remaining - length bytes }) bytes some (omega arith) refl (record { place = refl; interims = refl }) (rw (take-length bytes, drop-length bytes) (gives_all r bytes z few)) (rw (take-length bytes) (gives_all r bytes z few))
+
+-- so many bytes are all of the payload
+pub gives_part : (r : Reader) (part : List ℕ) → InPayload r → r.remaining ≡ length part → Gives r part (pieces r.streamed part) (record r { remaining = 0 }) []
+gives_part r part z size =
+    let taken : take r.remaining part ≡ part = ap (λ (k : ℕ). take k part) size ∙ take-length part in
+    let dropped : drop r.remaining part ≡ [] = ap (λ (k : ℕ). drop k part) size ∙ drop-length part in
+    subst (λ (l : List ℕ). Gives r part (pieces r.streamed part) (record r { remaining = 0 }) l) dropped (
+    subst (λ (l : List ℕ). Gives r part (pieces r.streamed l) (record r { remaining = 0 }) (drop r.remaining part)) taken (
+    gives_rest r part z (omega (arith, size))))
 
 pub moves_rest : (r : Reader) (bytes : List ℕ) → InPayload r → r.remaining ≤ length bytes → MoveIs (payload_move r.streamed r.remaining) r bytes (record r { remaining = 0 })
-moves_rest r bytes z all = payload_moves r.streamed r.remaining r (record r { remaining = 0 }) bytes z.some all refl (record { place = refl; interims = refl }) (gives_rest r bytes z all)
+moves_rest r bytes z all = payload_moves r.streamed r.remaining r (record r { remaining = 0 }) bytes z.some all refl (record { place = refl; interims = refl }) (gives_rest r bytes z all) (gives_part r (take r.remaining bytes) z (omega (arith, all, length-take r.remaining bytes)))
 
 no_bytes : (bytes : List ℕ) → length bytes ≡ 0 → bytes ≡ []
 no_bytes [] e = refl
 no_bytes (b ∷ bytes) e = absurd (omega (arith, e))
 
 pub stuck_empty : (r : Reader) (bytes : List ℕ) → length bytes ≡ 0 → MoveIs move.Stuck r bytes r
-stuck_empty r bytes e = rw (no_bytes bytes e) (record { within = waits_empty r; endpoint = refl; next = record { place = refl; interims = refl }; gives = gives_nothing r [] })
+stuck_empty r bytes e = rw (no_bytes bytes e) (record { within = waits_empty r; endpoint = refl; next = record { place = refl; interims = refl }; gives = gives_nothing r []; alone = gives_nothing r [] })
 
 pub stuck_head : (r : Reader) (bytes : List ℕ) → AtHead r → head_at bytes ≡ None → MoveIs move.Stuck r bytes r
-stuck_head r bytes z e = record { within = waits_head r bytes z e; endpoint = refl; next = record { place = refl; interims = refl }; gives = gives_nothing r bytes }
+stuck_head r bytes z e = record { within = waits_head r bytes z e; endpoint = refl; next = record { place = refl; interims = refl }; gives = gives_nothing r bytes; alone = gives_nothing r [] }
 
 -- after a fault
 pub passed_failed : (r : Reader) (bytes : List ℕ) → is_failed r.place ≡ true → 0 < length bytes → MoveIs (move.Passed (length bytes)) r bytes r
@@ -135,6 +145,7 @@ passed_failed r bytes e some = record {
   endpoint = refl;
   next = record { place = refl; interims = refl };
   gives = λ more. run_failed r (bytes ++ more) e ∙ sym (run_failed r (drop (length bytes) bytes ++ more) e);
+  alone = λ more. run_failed r (take (length bytes) bytes ++ more) e ∙ sym (run_failed r more e);
 }
 
 pub all_moves : (r : Reader) (bytes : List ℕ) → is_failed r.place ≡ true → MoveIs (all_passed (length bytes)) r bytes r
@@ -240,9 +251,10 @@ stuck_payload r bytes k id n start z same e w is less =
       endpoint = refl;
       next = record { place = refl; interims = refl };
       gives = gives_nothing r bytes;
+      alone = gives_nothing r [];
     }
 
-place_end : (n start : ℕ) (bytes : List ℕ) → start ≤ length bytes → n ≤ length bytes - start → bytes_at n (drop start bytes) ≡ Some (slice start (start + n) bytes, drop (start + n) bytes)
+pub place_end : (n start : ℕ) (bytes : List ℕ) → start ≤ length bytes → n ≤ length bytes - start → bytes_at n (drop start bytes) ≡ Some (slice start (start + n) bytes, drop (start + n) bytes)
 place_end n start bytes w l =
     let size : (start + n) - start ≡ n = omega arith in
     bytes_there n (drop start bytes) (omega (arith, length-drop start bytes, w, l)) ∙ rw (size, drop-drop n start bytes) refl
@@ -256,12 +268,32 @@ some_bytes bytes rest id n e = omega (arith, head_shorter bytes rest id n e)
 whole_next : (r : Reader) (place : Place) → r.remaining ≡ 0 → moved r place ≡ between r.endpoint r.interims place false 0
 whole_next r place e = ap (λ (n : ℕ). record { endpoint = r.endpoint; place = place; remaining = n; streamed = false; idle = 0; interims = r.interims }) e
 
+-- a frame that is given whole, by itself
+frame_alone : (n start : ℕ) (bytes : List ℕ) → take (start + n) bytes ≡ take start bytes ++ slice start (start + n) bytes
+frame_alone n start bytes =
+    let size : (start + n) - start ≡ n = omega arith in
+    take-add start n bytes ∙ rw size refl
+
+payload_alone : (n start : ℕ) (bytes : List ℕ) → start ≤ length bytes → n ≤ length bytes - start → bytes_at n (slice start (start + n) bytes) ≡ Some (slice start (start + n) bytes, [])
+payload_alone n start bytes w l =
+    let payload : List ℕ = slice start (start + n) bytes in
+    let size : n ≡ length payload = omega (arith, w, l, length-drop start bytes, length-take ((start + n) - start) (drop start bytes)) in
+    ap (λ (k : ℕ). bytes_at k payload) size
+    ∙ ap (λ (x : List ℕ). bytes_at (length payload) x) (sym (append-nil payload))
+    ∙ bytes_at-append payload []
+
+head_before : (bytes : List ℕ) (id n start : ℕ) → head_at bytes ≡ Some (id, n, drop start bytes) → start ≤ length bytes → head_at (take (start + n) bytes) ≡ Some (id, n, slice start (start + n) bytes)
+head_before bytes id n start e w =
+    ap head_at (frame_alone n start bytes)
+    ∙ head_more (take start bytes) [] (slice start (start + n) bytes) id n (head_alone bytes id n start e w)
+
 pub whole_move : (r : Reader) (bytes : List ℕ) (k : FrameType) (id n start : ℕ) (place : Place) → AtHead r → k ≡ type_of id → head_at bytes ≡ Some (id, n, drop start bytes) → start ≤ length bytes → action_at r k n ≡ Give → n ≤ length bytes - start → accepted r.endpoint.side r.place k (slice start (start + n) bytes) ≡ Ok place → MoveIs (move.Whole k start (start + n)) r bytes (moved r place)
 whole_move r bytes k id n start place z same e w is l a = record {
   within = (passed r bytes id n start e, omega arith, omega (arith, w, l));
   endpoint = refl;
   next = record { place = a; reader = whole_next r place z.none };
   gives = rw same (gives_whole r bytes (drop start bytes) (slice start (start + n) bytes) (drop (start + n) bytes) id n place z e (rw same at is) (place_end n start bytes w l) (rw same at a));
+  alone = rw same (gives_whole r (take (start + n) bytes) (slice start (start + n) bytes) (slice start (start + n) bytes) [] id n place z (head_before bytes id n start e w) (rw same at is) (payload_alone n start bytes w l) (rw same at a));
 }
 
 pub unaccepted_move : (r : Reader) (bytes : List ℕ) (k : FrameType) (id n start : ℕ) (f : Fault) → AtHead r → k ≡ type_of id → head_at bytes ≡ Some (id, n, drop start bytes) → start ≤ length bytes → action_at r k n ≡ Give → n ≤ length bytes - start → accepted r.endpoint.side r.place k (slice start (start + n) bytes) ≡ Err f → MoveIs (move.Failed f) r bytes (failed r f)
@@ -270,6 +302,7 @@ unaccepted_move r bytes k id n start f z same e w is l a = record {
   endpoint = refl;
   next = record { place = refl; interims = refl };
   gives = gives_unaccepted r bytes (drop start bytes) (slice start (start + n) bytes) (drop (start + n) bytes) id n f z e (rw same at is) (place_end n start bytes w l) (rw same at a);
+  alone = rw (take-length bytes) (gives_unaccepted r bytes (drop start bytes) (slice start (start + n) bytes) (drop (start + n) bytes) id n f z e (rw same at is) (place_end n start bytes w l) (rw same at a));
 }
 
 pub streamed_move : (r : Reader) (bytes : List ℕ) (k : FrameType) (id n start : ℕ) → AtHead r → k ≡ type_of id → head_at bytes ≡ Some (id, n, drop start bytes) → start ≤ length bytes → action_at r k n ≡ Stream → MoveIs (move.Passed start) r bytes (streams r n)
@@ -278,6 +311,7 @@ streamed_move r bytes k id n start z same e w is = record {
   endpoint = refl;
   next = record { place = refl; interims = refl };
   gives = gives_streamed r bytes (drop start bytes) id n z e (rw same at is);
+  alone = gives_streamed r (take start bytes) [] id n z (head_alone bytes id n start e w) (rw same at is);
 }
 
 pub skipped_move : (r : Reader) (bytes : List ℕ) (k : FrameType) (id n start : ℕ) → AtHead r → k ≡ type_of id → head_at bytes ≡ Some (id, n, drop start bytes) → start ≤ length bytes → action_at r k n ≡ Skip → MoveIs (move.Passed start) r bytes (skips r n)
@@ -286,6 +320,7 @@ skipped_move r bytes k id n start z same e w is = record {
   endpoint = refl;
   next = record { place = refl; interims = refl };
   gives = gives_skipped r bytes (drop start bytes) id n z e (rw same at is);
+  alone = gives_skipped r (take start bytes) [] id n z (head_alone bytes id n start e w) (rw same at is);
 }
 
 pub too_large_move : (r : Reader) (bytes : List ℕ) (k : FrameType) (id n start : ℕ) → AtHead r → k ≡ type_of id → head_at bytes ≡ Some (id, n, drop start bytes) → start ≤ length bytes → action_at r k n ≡ SkipSection → MoveIs (move.TooLarge n start) r bytes (skips_section r n)
@@ -294,6 +329,7 @@ too_large_move r bytes k id n start z same e w is = record {
   endpoint = refl;
   next = record { place = refl; interims = refl };
   gives = gives_too_large r bytes (drop start bytes) id n z e (rw same at is);
+  alone = gives_too_large r (take start bytes) [] id n z (head_alone bytes id n start e w) (rw same at is);
 }
 
 pub refused_move : (r : Reader) (bytes : List ℕ) (k : FrameType) (id n start : ℕ) (f : Fault) → AtHead r → k ≡ type_of id → head_at bytes ≡ Some (id, n, drop start bytes) → action_at r k n ≡ Refuse f → MoveIs (move.Failed f) r bytes (failed r f)
@@ -302,4 +338,5 @@ refused_move r bytes k id n start f z same e is = record {
   endpoint = refl;
   next = record { place = refl; interims = refl };
   gives = gives_refused r bytes (drop start bytes) id n f z e (rw same at is);
+  alone = rw (take-length bytes) (gives_refused r bytes (drop start bytes) id n f z e (rw same at is));
 }

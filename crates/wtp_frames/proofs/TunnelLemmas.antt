@@ -1,6 +1,5 @@
 -- A CONNECT request that was answered with a 2xx status has DATA alone.
-use Rattle.std.proofs.Common.{◌≡◌, ℕ, ◌<◌, Bool, true, List, ◌++◌, map, length, Result, Ok, Err, refl, ap, ◌∙◌, arith}
-use Rattle.std.proofs.lemmas.Bool.{ne_eqb}
+use Rattle.std.proofs.Common.{◌≡◌, ℕ, ◌<◌, Bool, true, List, ◌++◌, map, Ok, refl, ap, ◌∙◌}
 use Rattle.wtp_frames.specs.declared.endpoint.Endpoint.{Endpoint}
 use Rattle.wtp_frames.specs.declared.endpoint.Side.{Side}
 use Rattle.wtp_frames.specs.declared.fault.Fault.{Fault}

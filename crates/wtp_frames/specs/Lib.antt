@@ -5,9 +5,11 @@ pub mod Item
 pub mod Run
 pub mod Interim
 pub mod Reading
+pub mod First
 pub mod Grammar
 pub mod Start
 pub mod Pieces
 pub mod Order
 pub mod Codes
 pub mod Tunnel
+pub mod Words

@@ -60,6 +60,14 @@ left_after (step.TooLarge size n) bytes = drop n bytes
 left_after (step.More n) bytes = drop n bytes
 left_after (step.Fault f) bytes = []
 
+-- how many bytes are consumed
+abbrev pub consumed : Step → List ℕ → ℕ
+consumed (step.Frame kind start end) bytes = end
+consumed (step.Data start end) bytes = end
+consumed (step.TooLarge size n) bytes = n
+consumed (step.More n) bytes = n
+consumed (step.Fault f) bytes = length bytes
+
 -- the places are within the bytes, of which at least one is consumed; after More the rest waits
 abbrev pub IsWithin : Step → List ℕ → Reader → Type 0
 IsWithin (step.Frame kind start end) bytes new =
@@ -87,11 +95,14 @@ IsNext (step.TooLarge size n) bytes old new = IsAt (after_section old.place) old
 IsNext (step.More n) bytes old new = IsAt old.place old new
 IsNext (step.Fault f) bytes old new = IsAt (Failed f) old new
 
+-- The bytes that are consumed are exactly these items, whatever follows them: the reader is the one
+-- after them.
 pub record StepIs (s : Step) (old : Reader) (bytes : List ℕ) (new : Reader) : Type 0 where
   pub within : IsWithin s bytes new
   pub endpoint : new.endpoint ≡ old.endpoint
   pub next : IsNext s bytes old new
   pub gives : Gives old bytes (items_of s bytes) new (left_after s bytes)
+  pub alone : Gives old (take (consumed s bytes) bytes) (items_of s bytes) new []
 
 -- ---- one move, of which a call makes some
 
@@ -110,6 +121,14 @@ moved_left (move.Streamed n) bytes = drop n bytes
 moved_left (move.TooLarge size n) bytes = drop n bytes
 moved_left move.Stuck bytes = bytes
 moved_left (move.Failed f) bytes = []
+
+abbrev pub passed_by : Move → List ℕ → ℕ
+passed_by (move.Passed n) bytes = n
+passed_by (move.Whole kind start end) bytes = end
+passed_by (move.Streamed n) bytes = n
+passed_by (move.TooLarge size n) bytes = n
+passed_by move.Stuck bytes = 0
+passed_by (move.Failed f) bytes = length bytes
 
 abbrev pub IsMove : Move → List ℕ → Reader → Type 0
 IsMove (move.Passed n) bytes new = (0 < n) × (n ≤ length bytes)
@@ -140,6 +159,7 @@ pub record MoveIs (m : Move) (old : Reader) (bytes : List ℕ) (new : Reader) : 
   pub endpoint : new.endpoint ≡ old.endpoint
   pub next : IsAfter m bytes old new
   pub gives : Gives old bytes (moved_items m bytes) new (moved_left m bytes)
+  pub alone : Gives old (take (passed_by m bytes) bytes) (moved_items m bytes) new []
 
 -- ---- the end of the stream
 

@@ -13,6 +13,7 @@ ghost use Rattle.wtp_frames.specs.Item.{Whole, Byte};
 ghost use Rattle.wtp_frames.specs.Grammar.{Frame, written, IsFrame, IsUnknown, Message, message_bytes, message_items, ValidMessage, Stage, NoHeaders, InContent, HasTrailers, stage, count, HasRoom, count_data, Ids, ids_bytes, ids_items, last_goaway, last_push, Interim, ValidInterim, ValidInterims};
 ghost use Rattle.wtp_frames.specs.Codes.{Reports, InMessage, IsSettled, AfterIds, OnControl, TooLong, NoNumber, Fails};
 ghost use Rattle.wtp_frames.specs.Run.{run, preceded, next_run, failed, stays};
+ghost use Rattle.wtp_frames.specs.First.{first, with_more};
 ghost use Rattle.wtp_frames.specs.Tunnel.{after_connect, InTunnel};
 ghost use Rattle.wtp_frames.specs.Interim.{after_interim, GivesSection, ReadsInterims, IsAwaiting, IsNoInterim};
 ghost use Rattle.wtp_frames.specs.Fault.{code_of, scope_of};
@@ -34,6 +35,12 @@ pub fn run_goes_by_head()
 pub fn cuts_make_no_difference()
     ensures { (r : Reader) (a b : List ℕ) → run r (a ++ b)
         ≡ preceded (run r a).items (run (run r a).reader ((run r a).left ++ b)) }
+{}
+
+/// What a call returns first does not depend on the bytes that follow, but for the length of a piece of
+/// DATA: the frame, the reader after it and the bytes consumed are the same.
+pub fn first_items_may_be_cut()
+    ensures { (r : Reader) (a b : List ℕ) → first r (a ++ b) ≡ with_more (first r a) b }
 {}
 
 /// Whatever pieces came and whatever calls were made, the items that the calls gave are the first

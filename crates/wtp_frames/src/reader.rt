@@ -3,9 +3,12 @@ ghost use Rattle.std.specs.Prelude.{◌≡◌, ◌+◌, ◌<◌, ◌≤◌, leng
 ghost use Rattle.wtp_frames.specs.FrameType.{type_of};
 ghost use Rattle.wtp_frames.specs.Run.{head_at, action_at, is_failed, counted as counted_is, after_data as after_data_is};
 ghost use Rattle.wtp_frames.specs.Reading.{MoveIs, StepIs, payload_move as payload_move_is, all_passed, by_end};
+ghost use Rattle.wtp_frames.specs.First.{first, given, moves, moved_by};
 ghost use Rattle.wtp_frames.specs.Start.{message_reader, control_reader};
 ghost use Rattle.wtp_frames.specs.Interim.{ends_in_section as ends_in_section_is, after_interim};
 ghost use Rattle.wtp_frames.specs.Tunnel.{after_connect};
+
+pub mod words;
 
 use crate::endpoint::{Endpoint, Side};
 use crate::fault::Fault;
@@ -124,7 +127,8 @@ impl Reader {
     /// However the bytes of a stream are cut, its frames, its bytes of DATA and its error are the
     /// same.
     pub fn next(&mut self, bytes: &[u8]) -> Step
-        ensures { StepIs result self.old bytes.now self.new }
+        ensures step { StepIs result self.old bytes.now self.new }
+        ensures first { given result bytes.now self.new ≡ first self.old bytes.now }
     {
         let mut at: usize = 0;
         'moves: loop {
@@ -198,7 +202,8 @@ impl Reader {
 
     // Makes one move.
     fn advance(&mut self, bytes: &[u8]) -> Move
-        ensures { MoveIs result self.old bytes.now self.new }
+        ensures moves { MoveIs result self.old bytes.now self.new }
+        ensures exact { moved_by result bytes.now self.new ≡ moves self.old bytes.now }
     {
         if self.has_failed() {
             return pass_all(bytes.len());
@@ -254,7 +259,8 @@ impl Reader {
     fn advance_payload(&mut self, bytes: &[u8]) -> Move
         requires intact { is_failed self.old.place ≡ false }
         requires some { 0 < self.old.remaining }
-        ensures { MoveIs result self.old bytes.now self.new }
+        ensures moves { MoveIs result self.old bytes.now self.new }
+        ensures exact { moved_by result bytes.now self.new ≡ moves self.old bytes.now }
     {
         let len = bytes.len();
         if len == 0 {
@@ -284,7 +290,8 @@ impl Reader {
         requires head { head_at bytes.now ≡ Some (number, size, drop start bytes.now) }
         requires within { start ≤ length bytes.now }
         requires given { action_at self.old kind size ≡ Action.Give }
-        ensures { MoveIs result self.old bytes.now self.new }
+        ensures moves { MoveIs result self.old bytes.now self.new }
+        ensures exact { moved_by result bytes.now self.new ≡ moves self.old bytes.now }
     {
         if size > (bytes.len() - start) as u64 {
             return Move::Stuck;

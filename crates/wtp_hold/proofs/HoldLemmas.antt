@@ -12,13 +12,14 @@ use Rattle.wtp_connection.specs.Streams.{Seen, StreamRun, followed, run_stream, 
 use Rattle.wtp_connection.specs.Receiving.{IsFirst, seen_of, rest_after, Idle, Fits, Finds, LeavesOpen, FoundIs, more_in}
 use Rattle.wtp_connection.proofs.FinishLemmas.{ended_followed}
 use Rattle.wtp_hold.proofs.RunLemmas.{end_last, first_before, stays_later, first_few}
+use Rattle.wtp_hold.proofs.ConsumedLemmas.{passes_finds, consumes_after, consumes_before, call_consumes}
 use Rattle.wtp_hold.specs.declared.hold.Hold.{Hold}
 use Rattle.wtp_hold.specs.declared.hold.Source.{Source}
 use Rattle.wtp_hold.specs.declared.hold.Source.TheVariants.{Held, Chunk}
 use Rattle.wtp_hold.specs.declared.hold.Received.{Received}
 use Rattle.wtp_hold.specs.declared.hold.NotHeld.{NotHeld}
 use Rattle.wtp_hold.specs.declared.hold.NotHeld.TheVariants.{Memory, Limit}
-use Rattle.wtp_hold.specs.Holding.{is_early, pending, joined, source_of, Reads, IsQuiet, TakesAll, Leaves, ReceivedIs, searched, least_held, IsReason, NotHeldIs, AreLast, ReceptionIs, taken_before, consumed_by, IsStill, IsRead, IsFoundInChunk}
+use Rattle.wtp_hold.specs.Holding.{is_early, pending, joined, source_of, Reads, Consumes, Passes, IsQuiet, TakesAll, Leaves, ReceivedIs, searched, least_held, IsReason, NotHeldIs, AreLast, ReceptionIs, taken_before, consumed_by, IsStill, IsRead, IsFoundInChunk}
 
 -- ---- more bytes follow
 
@@ -93,8 +94,9 @@ fresh_pending k e = rw e refl
 
 -- ---- a call over the bytes held
 
-pub held_received : (x : Found) (fin last : Bool) (b c : Connection) (r s : Stream) (all : List ℕ) (h : Hold) (d : Connection) (t : Stream) (k : Hold) (taken limit : ℕ) (chunk : List ℕ) → IsRead x (fin && last) c s h d t k → k.fin ≡ fin → (last ≡ true → drop taken chunk ≡ []) → taken ≤ length chunk → Finds b r all [] c s (h.bytes.items ++ drop taken chunk) → ReceivedIs (record { found = x; source = Held; taken = taken }) b r all chunk limit k d t
-held_received x fin last b c r s all h d t k taken limit chunk is e none within before =
+pub held_received : (x : Found) (fin last : Bool) (b c : Connection) (r s : Stream) (all : List ℕ) (h : Hold) (d : Connection) (t : Stream) (k : Hold) (taken limit : ℕ) (chunk : List ℕ) → IsRead x (fin && last) c s h d t k → k.fin ≡ fin → (last ≡ true → drop taken chunk ≡ []) → taken ≤ length chunk → Passes b r all c s (h.bytes.items ++ drop taken chunk) → ReceivedIs (record { found = x; source = Held; taken = taken }) b r all chunk limit k d t
+held_received x fin last b c r s all h d t k taken limit chunk is e none within passed =
+    let before : Finds b r all [] c s (h.bytes.items ++ drop taken chunk) = passes_finds b r all c s (h.bytes.items ++ drop taken chunk) passed in
     let left : pending k ≡ rest_after x h.bytes.items = ap (λ (n : ℕ). drop n k.bytes.items) is.used ∙ ap (λ (l : List ℕ). drop (consumed_by x (length h.bytes.items)) l) is.bytes ∙ sym (rest_is x h.bytes.items) in
     record {
       taken = within;
@@ -112,6 +114,12 @@ held_received x fin last b c r s all h d t k taken limit chunk is e none within 
           finds_then b c r s all (h.bytes.items ++ drop taken chunk) (seen_of x h.bytes.items) d t (rest_after x h.bytes.items ++ drop taken chunk) before (
           extended c s h.bytes.items (seen_of x h.bytes.items) d t (rest_after x h.bytes.items) (drop taken chunk) (is.found.goes l))));
       after = leaves x Held taken limit chunk h.bytes.items k d t is.other (λ e. left ∙ e) (λ f e. tt) at_end;
+      alone =
+          subst (λ (l : List ℕ). Consumes x b r all (seen_of x l) d t (joined k (drop taken chunk))) (sym is.bytes) (
+          subst (λ (l : List ℕ). Consumes x b r all (seen_of x h.bytes.items) d t (l ++ drop taken chunk)) (sym left) (
+          consumes_after x b c r s all (h.bytes.items ++ drop taken chunk) (seen_of x h.bytes.items) d t (rest_after x h.bytes.items ++ drop taken chunk) passed (
+          consumes_before x c s h.bytes.items (seen_of x h.bytes.items) d t (rest_after x h.bytes.items) (drop taken chunk) (
+          call_consumes x c s h.bytes.items (fin && last) d t is.found))));
     }
   where
     at_end : x ≡ found.End → taken ≡ length chunk
@@ -121,8 +129,8 @@ held_received x fin last b c r s all h d t k taken limit chunk is e none within 
         omega arith
 
 -- nothing is found so far
-pub still : (fin : Bool) (b c : Connection) (r s : Stream) (all bytes : List ℕ) (d : Connection) (t : Stream) (k : Hold) (rest : List ℕ) → IsStill fin c s bytes d t k → Finds b r all [] c s (bytes ++ rest) → Finds b r all [] d t (k.bytes.items ++ rest)
-still fin b c r s all bytes d t k rest is before = finds_then b c r s all (bytes ++ rest) [] d t (k.bytes.items ++ rest) before (extended c s bytes [] d t k.bytes.items rest is.finds)
+pub still : (fin : Bool) (b c : Connection) (r s : Stream) (all bytes : List ℕ) (d : Connection) (t : Stream) (k : Hold) (rest : List ℕ) → IsStill fin c s bytes d t k → Passes b r all c s (bytes ++ rest) → Passes b r all d t (k.bytes.items ++ rest)
+still fin b c r s all bytes d t k rest is before = consumes_after (found.More 0) b c r s all (bytes ++ rest) [] d t (k.bytes.items ++ rest) before (consumes_before (found.More 0) c s bytes [] d t k.bytes.items rest is.alone)
 
 last_quiet : (fin last : Bool) (d : Connection) (t : Stream) (bytes : List ℕ) → last ≡ true → IsQuiet (fin && last) d t bytes → IsQuiet fin d t bytes
 last_quiet true true d t bytes e h = h
@@ -184,8 +192,8 @@ not_more (found.Fault f) h = refl
 not_more found.End h = refl
 
 -- as many bytes of the chunk are held
-pub moved : (b c : Connection) (r s : Stream) (all bytes chunk items : List ℕ) (taken n : ℕ) → items ≡ bytes ++ take n (drop taken chunk) → Finds b r all [] c s (bytes ++ drop taken chunk) → Finds b r all [] c s (items ++ drop (taken + n) chunk)
-moved b c r s all bytes chunk items taken n e before = subst (λ (l : List ℕ). Finds b r all [] c s l) (sym (
+pub moved : (b c : Connection) (r s : Stream) (all bytes chunk items : List ℕ) (taken n : ℕ) → items ≡ bytes ++ take n (drop taken chunk) → Passes b r all c s (bytes ++ drop taken chunk) → Passes b r all c s (items ++ drop (taken + n) chunk)
+moved b c r s all bytes chunk items taken n e before = subst (λ (l : List ℕ). Passes b r all c s l) (sym (
     ap (λ (l : List ℕ). l ++ drop (taken + n) chunk) e
     ∙ append_assoc bytes (take n (drop taken chunk)) (drop (taken + n) chunk)
     ∙ ap (λ (l : List ℕ). bytes ++ (take n (drop taken chunk) ++ l)) (sym (drop-drop n taken chunk))
@@ -248,11 +256,12 @@ last_of_all held old bytes (n, e) = (length old + n, e ∙ sym (past_front old))
         ap (λ (k : ℕ). drop k (x ∷ (xs ++ bytes))) size ∙ past_front xs
 
 -- all of the chunk was taken, and nothing more is found
-pub nothing_more_held : (b : Connection) (r : Stream) (all : List ℕ) (d : Connection) (t : Stream) (k : Hold) (taken limit : ℕ) (chunk : List ℕ) → k.used ≡ 0 → drop taken chunk ≡ [] → taken ≤ length chunk → length k.bytes.items ≤ limit → IsQuiet k.fin d t k.bytes.items → Finds b r all [] d t (k.bytes.items ++ drop taken chunk) → ReceivedIs (record { found = found.More 0; source = Held; taken = taken }) b r all chunk limit k d t
-nothing_more_held b r all d t k taken limit chunk fresh none within few quiet finds =
+pub nothing_more_held : (b : Connection) (r : Stream) (all : List ℕ) (d : Connection) (t : Stream) (k : Hold) (taken limit : ℕ) (chunk : List ℕ) → k.used ≡ 0 → drop taken chunk ≡ [] → taken ≤ length chunk → length k.bytes.items ≤ limit → IsQuiet k.fin d t k.bytes.items → Passes b r all d t (k.bytes.items ++ drop taken chunk) → ReceivedIs (record { found = found.More 0; source = Held; taken = taken }) b r all chunk limit k d t
+nothing_more_held b r all d t k taken limit chunk fresh none within few quiet passes =
     let is : pending k ≡ k.bytes.items = fresh_pending k fresh in
     let size : length chunk - taken ≡ 0 = sym (length-drop taken chunk) ∙ ap (λ (l : List ℕ). length l) none in
-    let same : Finds b r all [] d t (joined k (drop taken chunk)) = subst (λ (l : List ℕ). Finds b r all [] d t (l ++ drop taken chunk)) (sym is) finds in
+    let alone : Passes b r all d t (joined k (drop taken chunk)) = subst (λ (l : List ℕ). Passes b r all d t (l ++ drop taken chunk)) (sym is) passes in
+    let same : Finds b r all [] d t (joined k (drop taken chunk)) = passes_finds b r all d t (joined k (drop taken chunk)) alone in
     record {
       taken = within;
       within = tt;
@@ -268,32 +277,35 @@ nothing_more_held b r all d t k taken limit chunk fresh none within few quiet fi
           quiet = subst (λ (l : List ℕ). IsQuiet k.fin d t l) (sym is) quiet;
         },
       );
+      alone = alone;
     }
 
 -- some bytes are held, and others cannot be
-not_held : (x : NotHeld) (b : Connection) (r : Stream) (all : List ℕ) (d : Connection) (t : Stream) (k : Hold) (limit : ℕ) (chunk : List ℕ) → k.used ≡ 0 → taken_before x ≤ length chunk → 0 < length k.bytes.items → Idle d t k.bytes.items → Finds b r all [] d t (k.bytes.items ++ drop (taken_before x) chunk) → IsReason x limit (length k.bytes.items) (length (drop (taken_before x) chunk)) → NotHeldIs x b r all chunk limit k d t
-not_held x b r all d t k limit chunk fresh within some idle finds reason =
+not_held : (x : NotHeld) (b : Connection) (r : Stream) (all : List ℕ) (d : Connection) (t : Stream) (k : Hold) (limit : ℕ) (chunk : List ℕ) → k.used ≡ 0 → taken_before x ≤ length chunk → 0 < length k.bytes.items → Idle d t k.bytes.items → Passes b r all d t (k.bytes.items ++ drop (taken_before x) chunk) → IsReason x limit (length k.bytes.items) (length (drop (taken_before x) chunk)) → NotHeldIs x b r all chunk limit k d t
+not_held x b r all d t k limit chunk fresh within some idle passes reason =
     let is : pending k ≡ k.bytes.items = fresh_pending k fresh in
+    let alone : Passes b r all d t (joined k (drop (taken_before x) chunk)) = subst (λ (l : List ℕ). Passes b r all d t (l ++ drop (taken_before x) chunk)) (sym is) passes in
     record {
       taken = within;
       held = is;
-      finds = subst (λ (l : List ℕ). Finds b r all [] d t (l ++ drop (taken_before x) chunk)) (sym is) finds;
+      finds = passes_finds b r all d t (joined k (drop (taken_before x) chunk)) alone;
       idle = subst (λ (l : List ℕ). Idle d t l) (sym (searched_held k (drop (taken_before x) chunk) some)) idle;
       reason = reason;
+      alone = alone;
     }
 
-pub limit_reached : (b : Connection) (r : Stream) (all : List ℕ) (d : Connection) (t : Stream) (k : Hold) (taken limit : ℕ) (chunk : List ℕ) → k.used ≡ 0 → taken ≤ length chunk → 0 < length k.bytes.items → limit < least_held (length k.bytes.items) (length (drop taken chunk)) → Idle d t k.bytes.items → Finds b r all [] d t (k.bytes.items ++ drop taken chunk) → NotHeldIs (Limit taken) b r all chunk limit k d t
+pub limit_reached : (b : Connection) (r : Stream) (all : List ℕ) (d : Connection) (t : Stream) (k : Hold) (taken limit : ℕ) (chunk : List ℕ) → k.used ≡ 0 → taken ≤ length chunk → 0 < length k.bytes.items → limit < least_held (length k.bytes.items) (length (drop taken chunk)) → Idle d t k.bytes.items → Passes b r all d t (k.bytes.items ++ drop taken chunk) → NotHeldIs (Limit taken) b r all chunk limit k d t
 limit_reached b r all d t k taken limit chunk fresh within some more idle finds = not_held (Limit taken) b r all d t k limit chunk fresh within some idle finds more
 
 -- memory for one more is refused
-pub memory_refused : (b : Connection) (r : Stream) (all : List ℕ) (d : Connection) (t : Stream) (j k : Hold) (taken limit : ℕ) (chunk rest : List ℕ) (last : Bool) → k.used ≡ 0 → taken ≤ length chunk → k.bytes.items ≡ j.bytes.items → 0 < length j.bytes.items → length j.bytes.items < limit → rest ≡ drop taken chunk → last ≡ (length rest == 0) → last ≡ false → Idle d t j.bytes.items → Finds b r all [] d t (j.bytes.items ++ drop taken chunk) → NotHeldIs (Memory taken) b r all chunk limit k d t
+pub memory_refused : (b : Connection) (r : Stream) (all : List ℕ) (d : Connection) (t : Stream) (j k : Hold) (taken limit : ℕ) (chunk rest : List ℕ) (last : Bool) → k.used ≡ 0 → taken ≤ length chunk → k.bytes.items ≡ j.bytes.items → 0 < length j.bytes.items → length j.bytes.items < limit → rest ≡ drop taken chunk → last ≡ (length rest == 0) → last ≡ false → Idle d t j.bytes.items → Passes b r all d t (j.bytes.items ++ drop taken chunk) → NotHeldIs (Memory taken) b r all chunk limit k d t
 memory_refused b r all d t j k taken limit chunk rest last fresh within same some few at e none idle finds =
     let more : 0 < length (drop taken chunk) = some_follow rest (drop taken chunk) last at e none in
     let held : 0 < length k.bytes.items = subst (λ (l : List ℕ). 0 < length l) (sym same) some in
     let least : least_held (length k.bytes.items) (length (drop taken chunk)) ≤ limit = one_more limit (length k.bytes.items) (length (drop taken chunk)) held more (subst (λ (l : List ℕ). length l < limit) (sym same) few) in
     not_held (Memory taken) b r all d t k limit chunk fresh within held
     (subst (λ (l : List ℕ). Idle d t l) (sym same) idle)
-    (subst (λ (l : List ℕ). Finds b r all [] d t (l ++ drop taken chunk)) (sym same) finds)
+    (subst (λ (l : List ℕ). Passes b r all d t (l ++ drop taken chunk)) (sym same) finds)
     (more, least)
 
 -- ---- a call over the chunk
@@ -317,6 +329,12 @@ chunk_reads x n fin c s rest chunk taken d t at is e =
     subst (λ (l : List ℕ). Reads fin c s l (seen_of x l) d t (drop (taken + n) chunk)) at (
     subst (λ (l : List ℕ). Reads fin c s rest (seen_of x rest) d t l) left is.finds)
 
+chunk_consumes : (x : Found) (n : ℕ) (fin : Bool) (c : Connection) (s : Stream) (rest chunk : List ℕ) (taken : ℕ) (d : Connection) (t : Stream) → rest ≡ drop taken chunk → FoundIs x c s rest fin d t → n ≡ consumed_by x (length rest) → Consumes x c s (drop taken chunk) (seen_of x (drop taken chunk)) d t (drop (taken + n) chunk)
+chunk_consumes x n fin c s rest chunk taken d t at is e =
+    let left : rest_after x rest ≡ drop (taken + n) chunk = rest_is x rest ∙ ap (λ (m : ℕ). drop m rest) (sym e) ∙ ap (λ (l : List ℕ). drop n l) at ∙ drop-drop n taken chunk in
+    subst (λ (l : List ℕ). Consumes x c s l (seen_of x l) d t (drop (taken + n) chunk)) at (
+    subst (λ (l : List ℕ). Consumes x c s rest (seen_of x rest) d t l) left (call_consumes x c s rest fin d t is))
+
 -- something is found in the chunk
 pub chunk_found : (x : Found) (n : ℕ) (c : Connection) (s : Stream) (rest chunk : List ℕ) (taken limit : ℕ) (k : Hold) (d : Connection) (t : Stream) → rest ≡ drop taken chunk → taken ≤ length chunk → FoundIs x c s rest k.fin d t → more_in x ≡ None → n ≡ consumed_by x (length rest) → k.bytes.items ≡ [] → ReceivedIs (record { found = x; source = Chunk taken; taken = taken + n }) c s (drop taken chunk) chunk limit k d t
 chunk_found x n c s rest chunk taken limit k d t at before is other e none =
@@ -329,6 +347,7 @@ chunk_found x n c s rest chunk taken limit k d t at before is other e none =
       reads = subst (λ (l : List ℕ). Reads k.fin c s (drop taken chunk) (seen_of x (drop taken chunk)) d t l) (sym (nothing_held k (drop (taken + n) chunk) none)) (chunk_reads x n k.fin c s rest chunk taken d t at is e);
       goes = λ l. subst (λ (l : List ℕ). Finds c s (drop taken chunk) (seen_of x (drop taken chunk)) d t l) (sym (nothing_held k (drop (taken + n) chunk) none)) (chunk_finds x n k.fin c s rest chunk taken d t at is e l);
       after = leaves x (Chunk taken) (taken + n) limit chunk rest k d t other (λ l. nothing) (λ f l. all (consumes_all (found.Fault f) l refl)) (λ l. all (consumes_all found.End l refl));
+      alone = subst (λ (l : List ℕ). Consumes x c s (drop taken chunk) (seen_of x (drop taken chunk)) d t l) (sym (nothing_held k (drop (taken + n) chunk) none)) (chunk_consumes x n k.fin c s rest chunk taken d t at is e);
     }
   where
     nothing : pending k ≡ []
@@ -358,10 +377,10 @@ chunk_quiet x m n fin c s rest chunk taken d t at is more e =
     let left : drop m rest ≡ drop (taken + n) chunk = ap (λ (i : ℕ). drop i rest) (sym size) ∙ ap (λ (l : List ℕ). drop n l) at ∙ drop-drop n taken chunk in
     subst (λ (l : List ℕ). IsQuiet fin d t l) left (record { idle = same.fits.1; settled = same.settled })
 
-pub chunk_silent : (x : Found) (m n : ℕ) (fin : Bool) (c : Connection) (s : Stream) (rest chunk : List ℕ) (taken : ℕ) (d : Connection) (t : Stream) → rest ≡ drop taken chunk → FoundIs x c s rest fin d t → x ≡ found.More m → n ≡ consumed_by x (length rest) → Finds c s (drop taken chunk) [] d t (drop (taken + n) chunk)
+pub chunk_silent : (x : Found) (m n : ℕ) (fin : Bool) (c : Connection) (s : Stream) (rest chunk : List ℕ) (taken : ℕ) (d : Connection) (t : Stream) → rest ≡ drop taken chunk → FoundIs x c s rest fin d t → x ≡ found.More m → n ≡ consumed_by x (length rest) → Passes c s (drop taken chunk) d t (drop (taken + n) chunk)
 chunk_silent x m n fin c s rest chunk taken d t at is more e =
-    subst (λ (l : List Seen). Finds c s (drop taken chunk) l d t (drop (taken + n) chunk)) (ap (λ (y : Found). seen_of y (drop taken chunk)) more) (
-    chunk_finds x n fin c s rest chunk taken d t at is e (subst (λ (y : Found). LeavesOpen y) (sym more) tt))
+    let h : Consumes (found.More m) c s (drop taken chunk) [] d t (drop (taken + n) chunk) = subst (λ (y : Found). Consumes y c s (drop taken chunk) (seen_of y (drop taken chunk)) d t (drop (taken + n) chunk)) more (chunk_consumes x n fin c s rest chunk taken d t at is e) in
+    record { front = h.front; parts = h.parts; alone = h.alone }
 
 pub chunk_within : (x : Found) (n : ℕ) (fin : Bool) (c : Connection) (s : Stream) (rest chunk : List ℕ) (taken : ℕ) (d : Connection) (t : Stream) → rest ≡ drop taken chunk → taken ≤ length chunk → FoundIs x c s rest fin d t → n ≡ consumed_by x (length rest) → taken + n ≤ length chunk
 chunk_within x n fin c s rest chunk taken d t at before is e =
@@ -370,63 +389,67 @@ chunk_within x n fin c s rest chunk taken d t at before is e =
     omega arith
 
 -- none is held, and not all can be
-none_held : (x : NotHeld) (c : Connection) (s : Stream) (bytes chunk : List ℕ) (limit : ℕ) (k : Hold) (d : Connection) (t : Stream) → k.bytes.items ≡ [] → taken_before x ≤ length chunk → Idle d t (drop (taken_before x) chunk) → Finds c s bytes [] d t (drop (taken_before x) chunk) → IsReason x limit 0 (length (drop (taken_before x) chunk)) → NotHeldIs x c s bytes chunk limit k d t
-none_held x c s bytes chunk limit k d t none within idle finds reason =
+none_held : (x : NotHeld) (c : Connection) (s : Stream) (bytes chunk : List ℕ) (limit : ℕ) (k : Hold) (d : Connection) (t : Stream) → k.bytes.items ≡ [] → taken_before x ≤ length chunk → Idle d t (drop (taken_before x) chunk) → Passes c s bytes d t (drop (taken_before x) chunk) → IsReason x limit 0 (length (drop (taken_before x) chunk)) → NotHeldIs x c s bytes chunk limit k d t
+none_held x c s bytes chunk limit k d t none within idle passes reason =
     let is : joined k (drop (taken_before x) chunk) ≡ drop (taken_before x) chunk = nothing_held k (drop (taken_before x) chunk) none in
+    let alone : Passes c s bytes d t (joined k (drop (taken_before x) chunk)) = subst (λ (l : List ℕ). Passes c s bytes d t l) (sym is) passes in
     record {
       taken = within;
       held = ap (λ (l : List ℕ). drop k.used l) none ∙ drop_nil k.used ∙ sym none;
-      finds = subst (λ (l : List ℕ). Finds c s bytes [] d t l) (sym is) finds;
+      finds = passes_finds c s bytes d t (joined k (drop (taken_before x) chunk)) alone;
       idle = subst (λ (l : List ℕ). Idle d t l) (sym (searched_none k (drop (taken_before x) chunk) none)) idle;
       reason = subst (λ (l : List ℕ). IsReason x limit (length l) (length (drop (taken_before x) chunk))) (sym none) reason;
+      alone = alone;
     }
 
 -- the chunk's rest is longer than the limit
-pub chunk_limit : (c : Connection) (s : Stream) (bytes chunk : List ℕ) (n limit : ℕ) (k : Hold) (d : Connection) (t : Stream) → k.bytes.items ≡ [] → n ≤ length chunk → limit < length (drop n chunk) → IsQuiet k.fin d t (drop n chunk) → Finds c s bytes [] d t (drop n chunk) → NotHeldIs (Limit n) c s bytes chunk limit k d t
+pub chunk_limit : (c : Connection) (s : Stream) (bytes chunk : List ℕ) (n limit : ℕ) (k : Hold) (d : Connection) (t : Stream) → k.bytes.items ≡ [] → n ≤ length chunk → limit < length (drop n chunk) → IsQuiet k.fin d t (drop n chunk) → Passes c s bytes d t (drop n chunk) → NotHeldIs (Limit n) c s bytes chunk limit k d t
 chunk_limit c s bytes chunk n limit k d t none within more quiet finds = none_held (Limit n) c s bytes chunk limit k d t none within quiet.idle finds more
 
 -- the chunk's rest is held
-pub chunk_held : (c : Connection) (s : Stream) (bytes chunk : List ℕ) (n limit : ℕ) (k : Hold) (d : Connection) (t : Stream) → k.used ≡ 0 → k.bytes.items ≡ drop n chunk → length (drop n chunk) ≤ limit → IsQuiet k.fin d t (drop n chunk) → Finds c s bytes [] d t (drop n chunk) → ReceivedIs (record { found = found.More 0; source = Held; taken = length chunk }) c s bytes chunk limit k d t
+pub chunk_held : (c : Connection) (s : Stream) (bytes chunk : List ℕ) (n limit : ℕ) (k : Hold) (d : Connection) (t : Stream) → k.used ≡ 0 → k.bytes.items ≡ drop n chunk → length (drop n chunk) ≤ limit → IsQuiet k.fin d t (drop n chunk) → Passes c s bytes d t (drop n chunk) → ReceivedIs (record { found = found.More 0; source = Held; taken = length chunk }) c s bytes chunk limit k d t
 chunk_held c s bytes chunk n limit k d t fresh is few quiet finds =
     let nothing : drop (length chunk) chunk ≡ [] = drop-length chunk in
     nothing_more_held c s bytes d t k (length chunk) limit chunk fresh nothing (omega arith)
     (subst (λ (l : List ℕ). length l ≤ limit) (sym is) few)
     (subst (λ (l : List ℕ). IsQuiet k.fin d t l) (sym is) quiet)
-    (subst (λ (l : List ℕ). Finds c s bytes [] d t (k.bytes.items ++ l)) (sym nothing) (
-    subst (λ (l : List ℕ). Finds c s bytes [] d t l) (sym (append-nil k.bytes.items)) (
-    subst (λ (l : List ℕ). Finds c s bytes [] d t l) (sym is) finds)))
+    (subst (λ (l : List ℕ). Passes c s bytes d t (k.bytes.items ++ l)) (sym nothing) (
+    subst (λ (l : List ℕ). Passes c s bytes d t l) (sym (append-nil k.bytes.items)) (
+    subst (λ (l : List ℕ). Passes c s bytes d t l) (sym is) finds)))
 
 -- they are the last of the chunk
 pub chunk_last : (items chunk : List ℕ) (n : ℕ) → items ≡ drop n chunk → AreLast items (take (length chunk) chunk)
 chunk_last items chunk n e = (n, e ∙ ap (λ (l : List ℕ). drop n l) (sym (take-length chunk)))
 
 -- memory for it is refused
-pub chunk_refused : (c : Connection) (s : Stream) (bytes chunk left : List ℕ) (n limit : ℕ) (k : Hold) (d : Connection) (t : Stream) → k.bytes.items ≡ [] → left ≡ drop n chunk → (length left == 0) ≡ false → n ≤ length chunk → length left ≤ limit → IsQuiet k.fin d t (drop n chunk) → Finds c s bytes [] d t (drop n chunk) → NotHeldIs (Memory n) c s bytes chunk limit k d t
+pub chunk_refused : (c : Connection) (s : Stream) (bytes chunk left : List ℕ) (n limit : ℕ) (k : Hold) (d : Connection) (t : Stream) → k.bytes.items ≡ [] → left ≡ drop n chunk → (length left == 0) ≡ false → n ≤ length chunk → length left ≤ limit → IsQuiet k.fin d t (drop n chunk) → Passes c s bytes d t (drop n chunk) → NotHeldIs (Memory n) c s bytes chunk limit k d t
 chunk_refused c s bytes chunk left n limit k d t none at some within few quiet finds =
     let size : length left ≡ length (drop n chunk) = ap (λ (l : List ℕ). length l) at in
     none_held (Memory n) c s bytes chunk limit k d t none within quiet.idle finds (some_follow left (drop n chunk) false at (sym some) refl, omega (arith, few, size))
 
 -- ---- nothing was found before, and nothing is held
 
-pub chunk_then : (x : Result Received NotHeld) (b c : Connection) (r s : Stream) (all items bytes chunk : List ℕ) (limit : ℕ) (k : Hold) (d : Connection) (t : Stream) → items ≡ [] → Finds b r all [] c s (items ++ bytes) → ReceptionIs x c s bytes chunk limit k d t → ReceptionIs x b r all chunk limit k d t
+pub chunk_then : (x : Result Received NotHeld) (b c : Connection) (r s : Stream) (all items bytes chunk : List ℕ) (limit : ℕ) (k : Hold) (d : Connection) (t : Stream) → items ≡ [] → Passes b r all c s (items ++ bytes) → ReceptionIs x c s bytes chunk limit k d t → ReceptionIs x b r all chunk limit k d t
 chunk_then x b c r s all items bytes chunk limit k d t none before h =
-    by_result x (subst (λ (l : List ℕ). Finds b r all [] c s (l ++ bytes)) none before) h
+    by_result x (subst (λ (l : List ℕ). Passes b r all c s (l ++ bytes)) none before) h
   where
-    by_result : (x : Result Received NotHeld) → Finds b r all [] c s bytes → ReceptionIs x c s bytes chunk limit k d t → ReceptionIs x b r all chunk limit k d t
+    by_result : (x : Result Received NotHeld) → Passes b r all c s bytes → ReceptionIs x c s bytes chunk limit k d t → ReceptionIs x b r all chunk limit k d t
     by_result (Ok x) g h = record {
       taken = h.taken;
       within = h.within;
       fits = h.fits;
-      reads = reads_then k.fin b c r s all bytes (seen_of x.found (source_of x.source k chunk)) d t (joined k (drop x.taken chunk)) g h.reads;
-      goes = λ l. finds_then b c r s all bytes (seen_of x.found (source_of x.source k chunk)) d t (joined k (drop x.taken chunk)) g (h.goes l);
+      reads = reads_then k.fin b c r s all bytes (seen_of x.found (source_of x.source k chunk)) d t (joined k (drop x.taken chunk)) (passes_finds b r all c s bytes g) h.reads;
+      goes = λ l. finds_then b c r s all bytes (seen_of x.found (source_of x.source k chunk)) d t (joined k (drop x.taken chunk)) (passes_finds b r all c s bytes g) (h.goes l);
       after = h.after;
+      alone = consumes_after x.found b c r s all bytes (seen_of x.found (source_of x.source k chunk)) d t (joined k (drop x.taken chunk)) g h.alone;
     }
     by_result (Err x) g h = record {
       taken = h.taken;
       held = h.held;
-      finds = finds_then b c r s all bytes [] d t (joined k (drop (taken_before x) chunk)) g h.finds;
+      finds = finds_then b c r s all bytes [] d t (joined k (drop (taken_before x) chunk)) (passes_finds b r all c s bytes g) h.finds;
       idle = h.idle;
       reason = h.reason;
+      alone = consumes_after (found.More 0) b c r s all bytes [] d t (joined k (drop (taken_before x) chunk)) g h.alone;
     }
 
 -- ---- what a stream brings that becomes one that is to be joined

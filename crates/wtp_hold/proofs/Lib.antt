@@ -1,3 +1,4 @@
+pub mod ConsumedLemmas
 pub mod HoldingLemmas
 pub mod HoldLemmas
 pub mod PieceLemmas

@@ -22,6 +22,7 @@ use Rattle.wtp_connection.specs.declared.stream.Stream.{Stream}
 use Rattle.wtp_connection.specs.declared.stream.Stream.TheVariants.{Uni, Bi, Frames, Joining, Waiting, Session, Encoder, Decoder, Incomplete, Over}
 use Rattle.wtp_connection.specs.Streams.{closed_by, configured, all_given, followed, by_fault, end_of, ending, ended, Seen, Ended, StreamRun, rests, has_frames, of_items, by_settings, received_settings, by_item, bytes_seen, by_capacity, by_place, run_open, by_purpose, by_opening, opens, run_intact, run_stream}
 use Rattle.wtp_connection.specs.Receiving.{IsFirst, rest_after, AreFew, Idle, Finds, all_found, FoundIs}
+use Rattle.wtp_connection.proofs.FinishLemmas.{run_no_bytes}
 use Rattle.wtp_hold.specs.Holding.{is_early}
 
 -- ---- the end of a stream is not found in its bytes
@@ -211,6 +212,59 @@ pub stays_later : (c : Connection) (s : Stream) (bytes : List ℕ) (d : Connecti
 stays_later c s bytes d t left finds idle h =
     let same : run_stream c s (bytes ++ []) ≡ rests d t left = finds [] ∙ ap (λ (l : List ℕ). followed [] (run_stream d t l)) (append-nil left) ∙ ap (λ (y : StreamRun). followed [] y) idle.idle in
     sym (ap (λ (y : StreamRun). is_early y.stream) same) ∙ run_silent c s (bytes ++ []) h (ap (λ (y : StreamRun). y.seen) same)
+
+-- ---- where nothing is found the connection stays the same
+
+items_same : (c : Connection) (more : Connection → StreamRun) (items : List Item) → (more c).connection ≡ c → (of_items c more items).seen ≡ [] → (of_items c more items).connection ≡ c
+items_same c more [] h e = h
+items_same c more (i ∷ items) h e = item_same c (λ d. of_items d more items) i e
+  where
+    settings_same : (c : Connection) (payload : List ℕ) (more : Connection → StreamRun) (v : Result PeerSettings Fault) → (by_settings c payload more v).seen ≡ [] → (by_settings c payload more v).connection ≡ c
+    settings_same c payload more (Ok v) e = absurd (cc)
+    settings_same c payload more (Err f) e = absurd (cc)
+
+    item_same : (c : Connection) (more : Connection → StreamRun) (i : Item) → (by_item c more i).seen ≡ [] → (by_item c more i).connection ≡ c
+    item_same c more (Whole kind.Settings payload) e = settings_same c payload more (received_settings c payload) e
+    item_same c more (Broken f) e = absurd (cc)
+    item_same c more other e = absurd (cc)
+
+capacity_same : (c : Connection) (b : Bool) → (by_capacity c b).seen ≡ [] → (by_capacity c b).connection ≡ c
+capacity_same c true e = refl
+capacity_same c false e = absurd (cc)
+
+place_same : (c : Connection) (place : Option DecoderPlace) → (by_place c place).seen ≡ [] → (by_place c place).connection ≡ c
+place_same c None e = absurd (cc)
+place_same c (Some place) e = refl
+
+open_same : (c : Connection) (s : Stream) (bytes : List ℕ) → (run_open c s bytes).seen ≡ [] → (run_open c s bytes).connection ≡ c
+open_same c (Frames r given) bytes e = items_same c (λ d. rests d (Frames (run r bytes).reader (has_frames (run r bytes).items || given)) (run r bytes).left) (run r bytes).items refl e
+open_same c Encoder bytes e = capacity_same c (list_all sets_zero bytes) e
+open_same c (Decoder place) bytes e = place_same c (after_bytes place bytes) e
+open_same c other bytes e = refl
+
+opening_same : (c : Connection) (s : Stream) (bytes : List ℕ) (o : Option (Purpose × List ℕ)) → (by_opening c s bytes o).seen ≡ [] → (by_opening c s bytes o).connection ≡ c
+opening_same c s bytes None e = refl
+opening_same c s bytes (Some o) e = purpose_same (opens c o.0) e
+  where
+    purpose_same : (x : Result (Connection × Stream) Fault) → (by_purpose c o.0 o.1 x).seen ≡ [] → (by_purpose c o.0 o.1 x).connection ≡ c
+    purpose_same (Ok x) e = absurd (cc)
+    purpose_same (Err f) e = absurd (cc)
+
+intact_same : (c : Connection) (s : Stream) (bytes : List ℕ) → (run_intact c s bytes).seen ≡ [] → (run_intact c s bytes).connection ≡ c
+intact_same c Uni bytes e = opening_same c Uni bytes (uni_at c.endpoint bytes) e
+intact_same c Bi bytes e = opening_same c Bi bytes (bi_at c.endpoint bytes) e
+intact_same c other bytes e = open_same c other bytes e
+
+run_same : (c : Connection) (s : Stream) (bytes : List ℕ) → (run_stream c s bytes).seen ≡ [] → (run_stream c s bytes).connection ≡ c
+run_same c s bytes = elim c.over as (λ b. (cond b (all_given c s []) (run_intact c s bytes)).seen ≡ [] → (cond b (all_given c s []) (run_intact c s bytes)).connection ≡ c) [
+  | true ↦ λ e. refl
+  | false ↦ λ e. intact_same c s bytes e
+]
+
+pub stays_connected : (c : Connection) (s : Stream) (front : List ℕ) (d : Connection) (t : Stream) → Finds c s front [] d t [] → d ≡ c
+stays_connected c s front d t finds =
+    let same : run_stream c s (front ++ []) ≡ rests d t [] = finds [] ∙ ap (λ (y : StreamRun). followed [] y) (run_no_bytes d t) in
+    sym (ap (λ (y : StreamRun). y.connection) same) ∙ run_same c s (front ++ []) (ap (λ (y : StreamRun). y.seen) same)
 
 -- few bytes are left of one whose purpose is not known
 pub first_few : (s : Stream) (bytes : List ℕ) → IsFirst s → AreFew s bytes → length bytes ≤ 15

@@ -6,7 +6,7 @@ use Rattle.wtp_connection.specs.declared.connection.Found.TheVariants as found
 use Rattle.wtp_connection.specs.declared.stream.Stream.{Stream}
 use Rattle.wtp_connection.specs.declared.stream.Stream.TheVariants.{Joining, Waiting}
 use Rattle.wtp_connection.specs.Streams.{Seen, rests, followed, run_stream, ended}
-use Rattle.wtp_connection.specs.Receiving.{seen_of, Idle, Fits, Finds, LeavesOpen, all_found, FoundIs, more_in}
+use Rattle.wtp_connection.specs.Receiving.{seen_of, Idle, Fits, Finds, IsAlone, LeavesOpen, all_found, FoundIs, more_in}
 use Rattle.wtp_hold.specs.declared.hold.Hold.{Hold}
 use Rattle.wtp_hold.specs.declared.hold.Source.{Source}
 use Rattle.wtp_hold.specs.declared.hold.Source.TheVariants.{Held, Chunk}
@@ -52,6 +52,18 @@ abbrev pub Reads : Bool → Connection → Stream → List ℕ → List Seen →
 Reads fin c s bytes seen d t left =
     (more : List ℕ) → all_found fin c s bytes more ≡ followed seen (all_found fin d t left more)
 
+-- The bytes are those that are consumed and those that are left. Those that are consumed are exactly
+-- what is found, whatever follows them: the connection and the stream are those after them.
+pub record Consumes (x : Found) (c : Connection) (s : Stream) (bytes : List ℕ) (seen : List Seen)
+    (d : Connection) (t : Stream) (left : List ℕ) : Type 0 where
+  pub front : List ℕ
+  pub parts : bytes ≡ front ++ left
+  pub alone : IsAlone x c s front seen d t
+
+-- nothing is found in those that are consumed
+abbrev pub Passes : Connection → Stream → List ℕ → Connection → Stream → List ℕ → Type 0
+Passes c s bytes d t left = Consumes (found.More 0) c s bytes [] d t left
+
 -- nothing is found in these bytes, nor at the end of the stream if it comes after them
 pub record IsQuiet (fin : Bool) (d : Connection) (t : Stream) (bytes : List ℕ) : Type 0 where
   pub idle : Idle d t bytes
@@ -88,6 +100,9 @@ pub record ReceivedIs (x : Received) (c : Connection) (s : Stream) (bytes chunk 
       → Finds c s bytes (seen_of x.found (source_of x.source k chunk)) d t
       (joined k (drop x.taken chunk))
   pub after : Leaves x.found x.source x.taken limit chunk k d t
+  pub alone :
+      Consumes x.found c s bytes (seen_of x.found (source_of x.source k chunk)) d t
+      (joined k (drop x.taken chunk))
 
 -- ---- bytes that cannot be held
 
@@ -119,10 +134,13 @@ pub record NotHeldIs (x : NotHeld) (c : Connection) (s : Stream) (bytes chunk : 
   pub finds : Finds c s bytes [] d t (joined k (drop (taken_before x) chunk))
   pub idle : Idle d t (searched k (drop (taken_before x) chunk))
   pub reason : IsReason x limit (length k.bytes.items) (length (drop (taken_before x) chunk))
+  pub alone : Passes c s bytes d t (joined k (drop (taken_before x) chunk))
 
 -- what a call returns where these bytes of the stream were not consumed, of which the chunk is the last
 -- part
-abbrev pub ReceptionIs : Result Received NotHeld → Connection → Stream → List ℕ → List ℕ → ℕ → Hold → Connection → Stream → Type 0
+abbrev pub ReceptionIs :
+    Result Received NotHeld → Connection → Stream → List ℕ → List ℕ → ℕ → Hold → Connection → Stream
+    → Type 0
 ReceptionIs (Ok x) c s bytes chunk limit k d t = ReceivedIs x c s bytes chunk limit k d t
 ReceptionIs (Err x) c s bytes chunk limit k d t = NotHeldIs x c s bytes chunk limit k d t
 
@@ -170,6 +188,7 @@ consumed_by found.End len = len
 pub record IsStill (fin : Bool) (c : Connection) (s : Stream) (bytes : List ℕ) (d : Connection)
     (t : Stream) (k : Hold) : Type 0 where
   pub finds : Finds c s bytes [] d t k.bytes.items
+  pub alone : Passes c s bytes d t k.bytes.items
   pub quiet : IsQuiet fin d t k.bytes.items
   pub last : AreLast k.bytes.items bytes
   pub fresh : k.used ≡ 0

@@ -13,7 +13,7 @@ pub record GivesOut (old : List ℕ) (count waiting : ℕ)
   pub same : bits_of new ++ low_bits left rest ≡ bits_of old ++ low_bits count waiting
   pub few : left < 8
 
--- the bits `more` were added: bytes and waiting bits together grew by them, and fewer than `most`
+-- the bits `more` were added: bytes and waiting bits together grew by them, and fewer than `limit`
 -- bits still wait
 pub record Adds (limit : ℕ) (more : List Bool) (old : List ℕ) (count waiting : ℕ)
     (new : List ℕ) (left rest : ℕ) : Type 0 where

@@ -3,3 +3,4 @@ pub mod LineLemmas
 pub mod NameLemmas
 pub mod RequestLemmas
 pub mod ResponseLemmas
+pub mod WordLemmas

@@ -5,3 +5,4 @@ pub mod Request
 pub mod Response
 pub mod Content
 pub mod Message
+pub mod Words

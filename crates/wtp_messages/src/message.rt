@@ -3,6 +3,8 @@ ghost use Rattle.std.specs.Prelude.{◌≡◌, true, false, MatchResult, OnOk, O
 ghost use Rattle.wtp_messages.specs.Content.{fits, left_after};
 ghost use Rattle.wtp_messages.specs.Message.{message_of, end_of, RequestComes, ResponseComes, TrailersCome, SectionComes};
 
+pub mod words;
+
 use crate::content::Content;
 use crate::malformed::Malformed;
 use crate::request::Request;

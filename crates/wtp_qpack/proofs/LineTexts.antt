@@ -1,5 +1,5 @@
 -- Lines as bytes and lines of texts.
-use Rattle.std.proofs.Common.{◌≡◌, ◌⊎◌, inl, inr, ℕ, zero, suc, ◌<◌, Bool, true, false, ◌&&◌, cond, nat_lt, List, [], ◌∷◌, length, take, drop, refl, sym, ◌∙◌, ap, Option, Some, None, Result, Ok, Err, slice_get, slice_index, arith, subst, IsUtf8}
+use Rattle.std.proofs.Common.{◌≡◌, ◌⊎◌, inl, inr, ℕ, zero, suc, ◌<◌, Bool, true, false, ◌&&◌, cond, nat_lt, List, [], ◌∷◌, length, take, drop, refl, sym, ◌∙◌, ap, Option, Some, None, Result, Ok, Err, slice_get, slice_index, arith, IsUtf8}
 use Rattle.std.proofs.lemmas.Bool.{ltb-true}
 use Rattle.std.proofs.lemmas.Str.{IsUtf8-from_ascii, IsUtf8-from_is_utf8, is_utf8-from_IsUtf8}
 use Rattle.std.specs.Str.{is_utf8}
@@ -12,13 +12,12 @@ use Rattle.wtp_qpack.specs.declared.qpack.string_literal.Texts.TheVariants.{Octe
 use Rattle.wtp_qpack.specs.Field.{Field, field_map}
 use Rattle.wtp_qpack.specs.Qpack.{◌>>=◌}
 use Rattle.wtp_qpack.specs.Integer.{integer_at}
-use Rattle.wtp_qpack.specs.StaticTable.{static_table, entry_at, first_entry}
+use Rattle.wtp_qpack.specs.StaticTable.{static_table, entry_at}
 use Rattle.wtp_qpack.specs.StringLiteral.{utf8_text, octets, checked, text_of, flag_above, string_in, string_at, octets_at}
 use Rattle.wtp_qpack.specs.FieldLine.{representation_of, or_not_found, indexed_at, name_reference_in, literal_name_in, line_by, line_in, line_at}
 use Rattle.wtp_qpack.specs.FieldSection.{after_prefix, AreLines, section_at, map_at}
 use Rattle.wtp_qpack.specs.FieldLines.{octet_line_at, AreOctetLines, is_utf8_field, AreUtf8Fields, as_texts}
 use Rattle.wtp_qpack.proofs.Chosen.{bind_ok}
-use Rattle.wtp_qpack.proofs.StaticLemmas.{first_found}
 use Rattle.wtp_qpack.proofs.SectionLaws.{section_found}
 use Rattle.wtp_qpack.proofs.SectionReading.{map_found, map_fault}
 
@@ -104,16 +103,6 @@ unfolding ascii_field
 entry_utf8 k entry e =
     let both = all_at static_table k entry entries_ascii e in
     (ascii_utf8 entry.0 (and_left (below_128 entry.0) (below_128 entry.1) both), ascii_utf8 entry.1 (and_right (below_128 entry.0) (below_128 entry.1) both))
-
--- a name that is no text is none of the static table
-pub no_text_absent : (name : List ℕ) → (IsUtf8 name → ⊥) → None ≡ first_entry name
-no_text_absent name bad = by_first (first_entry name) refl
-  where
-    by_first : (o : Option ℕ) → first_entry name ≡ o → None ≡ o
-    by_first None e = refl
-    by_first (Some k) e =
-        let found = first_found name k e in
-        absurd (bad (subst IsUtf8 found.2 (IsUtf8-from_is_utf8 found.0.0 (entry_utf8 k found.0 found.1).0)))
 
 -- ---- lines
 

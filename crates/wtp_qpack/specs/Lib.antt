@@ -2,7 +2,7 @@ pub mod Qpack
 pub mod Integer
 pub mod Field
 pub mod StaticTable
-pub mod StaticNames
+pub mod StaticSlots
 pub mod StringLiteral
 pub mod FieldLine
 pub mod FieldSection

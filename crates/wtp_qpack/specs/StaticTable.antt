@@ -1,5 +1,5 @@
 -- The static table (RFC 9204, section 3.1 and Appendix A).
-use Rattle.std.specs.Prelude.{ℕ, List, [], ◌∷◌, Option, codes, position, slice_get}
+use Rattle.std.specs.Prelude.{◌≡◌, ◌≢◌, ℕ, ◌<◌, List, [], ◌∷◌, Option, Some, None, codes, position, slice_get}
 use Rattle.std.specs.Str.{bytes_eq}
 use Rattle.wtp_qpack.specs.Field.{Field}
 
@@ -124,3 +124,13 @@ entry_at k = slice_get static_table k
 -- the index of the first entry of a name
 abbrev pub first_entry : List ℕ → Option ℕ
 first_entry name = position (λ (e : Field). bytes_eq e.0 name) static_table
+
+-- the entry of an index has a name
+abbrev pub IsNamed : ℕ → List ℕ → Type 0
+IsNamed index name = (entry : Field) × (entry_at index ≡ Some entry) × (entry.0 ≡ name)
+
+-- the first entry that is a field; nothing is found only if there is none
+abbrev pub FindsStatic : Field → Option ℕ → Type 0
+FindsStatic field None = (index : ℕ) → entry_at index ≢ Some field
+FindsStatic field (Some index) =
+    (entry_at index ≡ Some field) × ((lower : ℕ) → lower < index → entry_at lower ≢ Some field)

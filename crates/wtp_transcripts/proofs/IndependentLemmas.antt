@@ -7,6 +7,8 @@ use Rattle.wtp_frames.specs.declared.endpoint.Side.{Side}
 use Rattle.wtp_frames.specs.declared.endpoint.Side.TheVariants.{Client, Server}
 use Rattle.wtp_frames.specs.declared.fault.Fault.{Fault as StreamFault}
 use Rattle.wtp_frames.specs.declared.fault.Fault.TheVariants as stream
+use Rattle.wtp_frames.specs.declared.reader.Reader.{Reader}
+use Rattle.wtp_frames.specs.Interim.{after_interim}
 use Rattle.wtp_connection.specs.declared.connection.Connection.{Connection}
 use Rattle.wtp_connection.specs.declared.connection.Known.{Known}
 use Rattle.wtp_connection.specs.declared.connection.Known.TheVariants as known
@@ -15,11 +17,11 @@ use Rattle.wtp_connection.specs.declared.fault.Fault.TheVariants as fault
 use Rattle.wtp_connection.specs.declared.stream.Purpose.{Purpose}
 use Rattle.wtp_connection.specs.declared.stream.Purpose.TheVariants as «for»
 use Rattle.wtp_connection.specs.declared.stream.Stream.{Stream}
-use Rattle.wtp_connection.specs.declared.stream.Stream.TheVariants.{Joining, Waiting, Session, Over, Incomplete}
-use Rattle.wtp_connection.specs.Opening.{is_critical, is_for_critical, has_no_headers, over_from}
+use Rattle.wtp_connection.specs.declared.stream.Stream.TheVariants.{Frames, Joining, Waiting, Session, Over, Incomplete}
+use Rattle.wtp_connection.specs.Opening.{connected, is_critical, is_for_critical, has_no_headers, over_from}
 use Rattle.wtp_connection.specs.Requests.{with_request}
-use Rattle.wtp_connection.specs.Streams.{connection_of, with_stream, closed_by, Seen, StreamRun, most_waiting, Joined, other_fault, refuses, settles, waits, freed, joins_open, without, reset_answer_at, reset_answer, overflows_open}
-use Rattle.wtp_transcripts.specs.Transcript.{read, Held, Event, Came, Told, Reset, Overflowed, Abandoned, Outcome, answered, called, unread, ends, reads_on, happens, alone, Table, Step, Accepted, Stopped, On, Transcript, State, begin, at_stream, next, after, marked, found_by, seen_in, on_stream, events_of, places, HasPlace, HasPlaces, is_opened as flag}
+use Rattle.wtp_connection.specs.Streams.{connection_of, with_stream, closed_by, Seen, StreamRun, most_waiting, Joined, other_fault, refuses, settles, waits, freed, joins_open, by_interim, tells_open, without, reset_answer_at, reset_answer, overflows_open}
+use Rattle.wtp_transcripts.specs.Transcript.{read, Held, Event, Came, Told, Interim, Tunnelled, Reset, Overflowed, Abandoned, Outcome, answered, called, unread, ends, reads_on, happens, alone, Table, Step, Accepted, Stopped, On, Transcript, State, begin, at_stream, next, after, marked, found_by, seen_in, on_stream, events_of, places, HasPlace, HasPlaces, is_opened as flag}
 use Rattle.wtp_transcripts.proofs.AlikeLemmas.{Flags, Goes, goes_then, goes_same, closed_goes, closed_over, RunsAlike, AgreesOn, read_alike, opened_first, Agree, plain_agree}
 use Rattle.wtp_transcripts.proofs.OverLemmas.{read_from, before_steps, nothing_seen, seen_append}
 use Rattle.wtp_transcripts.proofs.WaitLemmas.{EventCounts, event_counts, held_at, held_other}
@@ -104,9 +106,19 @@ abandon_alike : (b : Bool) (s : Stream) (c d : Connection) → d.over ≡ c.over
 abandon_alike true s c d i = same_alike c d s None i
 abandon_alike false s c d i = leaves_alike s (over_from s) c d None None i refl
 
+interim_alike : (x : Reader × Option StreamFault) (c d : Connection) (given : Bool) → d.over ≡ c.over → CallsAlike c d (by_interim c given x) (by_interim d given x)
+interim_alike (r, None) c d given i = same_alike c d (Frames r given) None i
+interim_alike (r, Some f) c d given i = refuses_alike c d f i
+
+tells_alike : (s : Stream) (c d : Connection) → d.over ≡ c.over → CallsAlike c d (tells_open c s) (tells_open d s)
+tells_alike (Frames r given) c d i = interim_alike (after_interim r) c d given i
+tells_alike other c d i = same_alike c d other None i
+
 pub call_alike : (e : Event) (s : Stream) (c d : Connection) → d.endpoint ≡ c.endpoint → d.over ≡ c.over → SamePlace c d s e → CallsAlike c d (called c s e) (called d s e)
 call_alike (Came bytes fin) s c d e i p = same_alike c d s None i
 call_alike (Told k) s c d e i p = cond_calls c.over d.over c d (c, s, None) (d, s, None) (joins_open c s k) (joins_open d s k) i (same_alike c d s None i) (joins_alike s k c d e i p)
+call_alike Interim s c d e i p = cond_calls c.over d.over c d (c, s, None) (d, s, None) (tells_open c s) (tells_open d s) i (same_alike c d s None i) (tells_alike s c d i)
+call_alike Tunnelled s c d e i p = same_alike c d (connected s) None i
 call_alike Reset s c d e i p = cond_calls (is_critical s && not c.over) (is_critical s && not d.over) c d (refuses c stream.ClosedCriticalStream) (refuses d stream.ClosedCriticalStream) (without c s, over_from s, reset_answer c s) (without d s, over_from s, reset_answer d s) (ap (λ (b : Bool). is_critical s && not b) i) (refuses_alike c d stream.ClosedCriticalStream i) (leaves_alike s (over_from s) c d (reset_answer c s) (reset_answer d s) i (answer_same s c d e i))
 call_alike Overflowed s c d e i p = cond_calls c.over d.over c d (c, s, None) (d, s, None) (overflows_open c s) (overflows_open d s) i (same_alike c d s None i) (overflow_alike s c d i)
 call_alike Abandoned s c d e i p = abandon_alike (is_critical s) s c d i

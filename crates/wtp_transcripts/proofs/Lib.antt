@@ -2,10 +2,13 @@ pub mod AlikeLemmas
 pub mod CallLemmas
 pub mod CutLemmas
 pub mod IndependentLemmas
+pub mod JoinedLemmas
 pub mod OnceLemmas
 pub mod OrderLemmas
 pub mod OverLemmas
 pub mod PlaceLemmas
+pub mod ResumedLemmas
+pub mod ResumedStepLemmas
 pub mod SessionLemmas
 pub mod ScheduleLemmas
 pub mod ShowLemmas

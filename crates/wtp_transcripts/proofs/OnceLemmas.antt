@@ -13,7 +13,7 @@ use Rattle.wtp_connection.specs.declared.stream.Stream.{Stream}
 use Rattle.wtp_connection.specs.declared.stream.Stream.TheVariants.{Joining, Waiting, Session, Over, Incomplete}
 use Rattle.wtp_connection.specs.Streams.{closed_by, Seen, StreamRun, rests, followed, all_given, bytes_seen, run_stream, by_fault, end_of, ending, ended, Joined, refuses, settles, freed, joins_open, joins}
 use Rattle.wtp_connection.proofs.StreamLemmas.{over_given, over_run}
-use Rattle.wtp_transcripts.specs.Transcript.{read, Held, Event, Came, Told, Reset, Overflowed, Abandoned, Outcome, outcome_of, after_seen, answered, reads_on, happens, alone, bytes_in, end_in, last_said, said, at_once, IsToJoin, IsRead, IsStill}
+use Rattle.wtp_transcripts.specs.Transcript.{read, Held, Event, Came, Told, Interim, Tunnelled, Reset, Overflowed, Abandoned, Outcome, outcome_of, after_seen, answered, reads_on, happens, alone, bytes_in, end_in, last_said, said, at_once, IsToJoin, IsRead, IsStill}
 use Rattle.wtp_transcripts.proofs.CutLemmas.{read_cut, run_still}
 use Rattle.wtp_transcripts.proofs.OverLemmas.{over_read, event_over}
 use Rattle.wtp_transcripts.proofs.TranscriptLemmas.{and_then}
@@ -90,7 +90,7 @@ read_more true fin c s l b h =
     ∙ ap (λ (y : StreamRun). followed x.seen y) (sym (read_still true c s l))
     ∙ ap (λ (k : List ℕ). followed x.seen (read true x.connection x.stream k)) (sym (ap (λ (k : List ℕ). x.left ++ k) none ∙ append-nil x.left))
 
-after_twice : (xs ys : List Seen) (x : Outcome) → after_seen (xs ++ ys) x ≡ after_seen xs (after_seen ys x)
+pub after_twice : (xs ys : List Seen) (x : Outcome) → after_seen (xs ++ ys) x ≡ after_seen xs (after_seen ys x)
 after_twice xs ys x = ap (λ (l : List Seen). record { seen = l; connection = x.connection; held = x.held }) (append_assoc xs ys x.seen)
 
 -- after a call
@@ -107,10 +107,10 @@ or_twice false b c = refl
 -- ---- bytes come again
 
 -- what all bytes so far give
-abbrev came : Connection → Held → List ℕ → Bool → Outcome
+abbrev pub came : Connection → Held → List ℕ → Bool → Outcome
 came c h bytes fin = happens c h (Came bytes fin)
 
-came_more : (c : Connection) (h : Held) (a b : List ℕ) (old fin : Bool) → ((h.fin || old) ≡ true → b ≡ []) → came c h (a ++ b) (old || fin) ≡ and_then (came c h a old) (Came b fin)
+pub came_more : (c : Connection) (h : Held) (a b : List ℕ) (old fin : Bool) → ((h.fin || old) ≡ true → b ≡ []) → came c h (a ++ b) (old || fin) ≡ and_then (came c h a old) (Came b fin)
 came_more c h a b old fin e =
     ap (λ (k : Bool). reads_on k (h.left ++ (a ++ b)) (c, h.stream, None)) (sym (or_twice h.fin old fin))
     ∙ ap (λ (l : List ℕ). reads_on ((h.fin || old) || fin) l (c, h.stream, None)) (sym (append_assoc h.left a b))
@@ -314,6 +314,8 @@ ends_once (Came b fin ∷ events) c h r e =
     ap (λ (l : List ℕ). l ++ bytes_in events) (r.0 e)
     ∙ ends_once events (happens c h (Came b fin)).connection (happens c h (Came b fin)).held r.1 (ap (λ (k : Bool). k || fin) e)
 ends_once (Told k ∷ events) c h r e = ends_once events (happens c h (Told k)).connection (happens c h (Told k)).held r.1 e
+ends_once (Interim ∷ events) c h r e = absurd r
+ends_once (Tunnelled ∷ events) c h r e = absurd r
 ends_once (Reset ∷ events) c h r e = absurd r
 ends_once (Overflowed ∷ events) c h r e = absurd r
 ends_once (Abandoned ∷ events) c h r e = absurd r
@@ -361,6 +363,8 @@ all_at_once (Told j ∷ events) c h a f o y e v r i =
     let joining : IsToJoin (canon c h a f o).held.stream = subst (λ (z : Outcome). IsToJoin z.held.stream) e r.0 in
     sym (after_twice y.seen w.seen (alone w.connection w.held events))
     ∙ all_at_once events c h a f (Some j) (and_then y (Told j)) (ap (λ (z : Outcome). and_then z (Told j)) e ∙ step_told o c h a f j v open_x joining) (valid_told o c h a f j v joining) r.1 (goes_told c h a f j y events i)
+all_at_once (Interim ∷ events) c h a f o y e v r i = absurd r
+all_at_once (Tunnelled ∷ events) c h a f o y e v r i = absurd r
 all_at_once (Reset ∷ events) c h a f o y e v r i = absurd r
 all_at_once (Overflowed ∷ events) c h a f o y e v r i = absurd r
 all_at_once (Abandoned ∷ events) c h a f o y e v r i = absurd r

@@ -21,6 +21,7 @@ use Rattle.wtp_transcripts.proofs.AlikeLemmas.{Flags, opened_first, opened_then,
 use Rattle.wtp_transcripts.proofs.WaitLemmas.{held_at, held_other}
 use Rattle.wtp_transcripts.proofs.OverLemmas.{read_from, accepted_over}
 use Rattle.wtp_transcripts.proofs.OnceLemmas.{alone_from, once, once_back}
+use Rattle.wtp_transcripts.proofs.JoinedLemmas.{joined_alone}
 use Rattle.wtp_transcripts.proofs.IndependentLemmas.{SamePlace, CallsAlike, call_alike, EventsAlike, event_alike, event_goes, AgreesAt, both_places, still_counted, begun_flags, accepted_opens, IsAlone, stands_alone}
 
 -- ---- what is opened stays so
@@ -242,7 +243,11 @@ at_once_same e t n first second s =
 
 alone_same : (e : Endpoint) (t : Table) (n : ℕ) (first second : Transcript) → (alone_on e t n first).connection.over ≡ false → SameOn e t n first second → alone_on e t n second ≡ alone_on e t n first
 alone_same e t n first second i (inl same) = ap (λ (l : List Event). alone (connection_of e) (t n) l) same
-alone_same e t n first second i (inr s) =
+alone_same e t n first second i (inr (inr s)) =
+    sym (joined_alone (events_of n second) (connection_of e) (t n) s.once_second)
+    ∙ ap (λ (l : List Event). alone (connection_of e) (t n) l) s.same
+    ∙ joined_alone (events_of n first) (connection_of e) (t n) s.once_first
+alone_same e t n first second i (inr (inl s)) =
     let one : alone_on e t n first ≡ alone (connection_of e) (t n) (at_once (events_of n first)) = once (connection_of e) (t n) (events_of n first) s.still s.read_first i in
     let both : alone (connection_of e) (t n) (at_once (events_of n second)) ≡ alone_on e t n first = ap (λ (l : List Event). alone (connection_of e) (t n) l) (at_once_same e t n first second s) ∙ sym one in
     once_back (connection_of e) (t n) (events_of n second) s.still s.read_second (ap (λ (x : Outcome). x.connection.over) both ∙ i) ∙ both

@@ -11,7 +11,7 @@ use Rattle.wtp_connection.specs.Opening.{is_critical, is_for_critical, has_no_he
 use Rattle.wtp_connection.specs.Requests.{with_request}
 use Rattle.wtp_connection.specs.Streams.{with_stream, Seen, StreamRun, all_given, ended, Joined, without, reset_answer_at}
 use Rattle.wtp_connection.proofs.StreamLemmas.{over_run}
-use Rattle.wtp_transcripts.specs.Transcript.{read, Held, Event, Came, Told, Reset, Overflowed, Abandoned, Outcome, answered, called, unread, ends, reads_on, happens, Step, Accepted, Stopped, On, Transcript, State, next, after, marked, found_by, seen_in}
+use Rattle.wtp_transcripts.specs.Transcript.{read, Held, Event, Came, Told, Interim, Tunnelled, Reset, Overflowed, Abandoned, Outcome, answered, called, unread, ends, reads_on, happens, Step, Accepted, Stopped, On, Transcript, State, next, after, marked, found_by, seen_in}
 
 pub over_read : (fin : Bool) (c : Connection) (s : Stream) (bytes : List ℕ) → c.over ≡ true → read fin c s bytes ≡ all_given c s []
 over_read true c s bytes e = ap (λ (x : StreamRun). ended x) (over_run c s bytes e) ∙ rw e refl
@@ -57,6 +57,8 @@ abandoned_over false c s t e = without_over c s ∙ e
 call_silent : (e : Event) (c : Connection) (s : Stream) → c.over ≡ true → IsSilent (called c s e)
 call_silent (Came bytes fin) c s o = record { over = o; none = refl }
 call_silent (Told k) c s o = same_silent c.over c s _ o o
+call_silent Interim c s o = same_silent c.over c s _ o o
+call_silent Tunnelled c s o = record { over = o; none = refl }
 call_silent Reset c s o = cond_silent (is_critical s && not c.over) _ _ (and_over (is_critical s) c.over o) (record { over = without_over c s ∙ o; none = no_answer c.endpoint.side (has_no_headers s) c.over o })
 call_silent Overflowed c s o = same_silent c.over c s _ o o
 call_silent Abandoned c s o = record { over = abandoned_over (is_critical s) c s _ o; none = refl }

@@ -1,18 +1,21 @@
 -- Streams that are not too many have places to wait.
-use Rattle.std.proofs.Common.{◌≡◌, ℕ, ◌<◌, ◌≤◌, ◌&&◌, ◌||◌, not, Bool, true, false, cond, eqb, List, [], ◌∷◌, length, Some, None, refl, sym, ap, ◌∙◌, arith, inl, inr, ◌⊎◌}
+use Rattle.std.proofs.Common.{◌≡◌, ℕ, ◌<◌, ◌≤◌, ◌&&◌, ◌||◌, not, Bool, true, false, cond, eqb, List, [], ◌∷◌, length, Option, Some, None, refl, sym, ap, ◌∙◌, arith, inl, inr, ◌⊎◌}
 use Rattle.std.proofs.lemmas.Bool.{cases_Bool, eqb-true, false≢true}
 use Rattle.wtp_frames.specs.declared.endpoint.Endpoint.{Endpoint}
+use Rattle.wtp_frames.specs.declared.fault.Fault.{Fault as StreamFault}
 use Rattle.wtp_frames.specs.declared.fault.Fault.TheVariants as stream
+use Rattle.wtp_frames.specs.declared.reader.Reader.{Reader}
+use Rattle.wtp_frames.specs.Interim.{after_interim}
 use Rattle.wtp_connection.specs.declared.connection.Connection.{Connection}
 use Rattle.wtp_connection.specs.declared.connection.Known.{Known}
 use Rattle.wtp_connection.specs.declared.connection.Known.TheVariants as known
 use Rattle.wtp_connection.specs.declared.fault.Fault.TheVariants as fault
 use Rattle.wtp_connection.specs.declared.stream.Stream.{Stream}
-use Rattle.wtp_connection.specs.declared.stream.Stream.TheVariants.{Joining, Waiting, Session, Over, Incomplete}
+use Rattle.wtp_connection.specs.declared.stream.Stream.TheVariants.{Frames, Joining, Waiting, Session, Over, Incomplete}
 use Rattle.wtp_connection.specs.Opening.{is_critical, is_for_critical, over_from}
-use Rattle.wtp_connection.specs.Streams.{most_waiting, Joined, settles, joins_open, overflows_open, without}
-use Rattle.wtp_transcripts.specs.Transcript.{Held, Event, Came, Told, Reset, Overflowed, Abandoned, called, unread, ends, happens, Table, Accepted, Stopped, On, Transcript, State, begin, at_stream, next, places, waiting_among, is_among, AreDistinct, HasPlace, HasPlaces, AllHavePlaces, WaitAmong, NoneWaits}
-use Rattle.wtp_transcripts.proofs.WaitLemmas.{read_waits, EventCounts, event_counts, held_at, held_other, other_waiting, its_waiting, its_places, accepted_waiting, stopped_waiting, over_from_none}
+use Rattle.wtp_connection.specs.Streams.{most_waiting, Joined, settles, joins_open, by_interim, tells_open, overflows_open, without}
+use Rattle.wtp_transcripts.specs.Transcript.{Held, Event, Came, Told, Interim, Tunnelled, Reset, Overflowed, Abandoned, called, unread, ends, happens, Table, Accepted, Stopped, On, Transcript, State, begin, at_stream, next, places, waiting_among, is_among, AreDistinct, HasPlace, HasPlaces, AllHavePlaces, WaitAmong, NoneWaits}
+use Rattle.wtp_transcripts.proofs.WaitLemmas.{read_waits, EventCounts, event_counts, held_at, held_other, other_waiting, its_waiting, its_places, accepted_waiting, stopped_waiting, over_from_none, connected_places}
 
 -- it is not said that the session is to come
 abbrev NotComing : Event → Type 0
@@ -51,9 +54,19 @@ abandon_none : (b : Bool) (s : Stream) (c : Connection) → places s ≡ 0 → p
 abandon_none true s c e = e
 abandon_none false s c e = over_from_none s
 
+interim_none : (c : Connection) (given : Bool) (x : Reader × Option StreamFault) → places (by_interim c given x).1 ≡ 0
+interim_none c given (next, None) = refl
+interim_none c given (next, Some f) = refl
+
+told_none : (s : Stream) (c : Connection) → places s ≡ 0 → places (tells_open c s).1 ≡ 0
+told_none (Frames r given) c e = interim_none c given (after_interim r)
+told_none other c e = e
+
 call_none : (e : Event) (s : Stream) (c : Connection) → places s ≡ 0 → NotComing e → places (called c s e).1 ≡ 0
 call_none (Came bytes fin) s c p h = p
 call_none (Told k) s c p h = cond_none c.over (c, s, None) (joins_open c s k) p (joined_none s k c p h)
+call_none Interim s c p h = cond_none c.over (c, s, None) (tells_open c s) p (told_none s c p)
+call_none Tunnelled s c p h = connected_places s ∙ p
 call_none Reset s c p h = cond_none (is_critical s && not c.over) _ _ refl (over_from_none s)
 call_none Overflowed s c p h = cond_none c.over (c, s, None) (overflows_open c s) p (overflow_none s c p)
 call_none Abandoned s c p h = abandon_none (is_critical s) s c p

@@ -1,11 +1,8 @@
 -- Calls on many streams, one by one, in any order.
-use Rattle.std.proofs.Common.{◌≡◌, ℕ, ◌&&◌, ◌||◌, not, Bool, true, false, cond, eqb, List, [], ◌∷◌, ◌++◌, Option, Some, None, Ok, Err, refl, sym, ap, subst, ◌∙◌, append_assoc, inl, inr}
+use Rattle.std.proofs.Common.{◌≡◌, ℕ, ◌&&◌, ◌||◌, not, Bool, true, false, cond, eqb, List, [], ◌∷◌, ◌++◌, Some, None, Ok, Err, refl, sym, ap, subst, ◌∙◌, append_assoc, inl, inr}
 use Rattle.std.proofs.lemmas.Bool.{cases_Bool, eqb-true, false≢true}
 use Rattle.std.proofs.lemmas.List.{append-nil}
-use Rattle.wtp_frames.specs.declared.fault.Fault.{Fault as StreamFault}
 use Rattle.wtp_frames.specs.declared.fault.Fault.TheVariants as stream
-use Rattle.wtp_frames.specs.declared.reader.Reader.{Reader}
-use Rattle.wtp_frames.specs.Interim.{after_interim}
 use Rattle.wtp_connection.specs.declared.connection.Connection.{Connection}
 use Rattle.wtp_connection.specs.declared.connection.Found.{Found}
 use Rattle.wtp_connection.specs.declared.connection.Found.TheVariants as found
@@ -13,15 +10,15 @@ use Rattle.wtp_connection.specs.declared.fault.Fault.TheVariants as fault
 use Rattle.wtp_connection.specs.declared.settings.PeerSettings.{PeerSettings}
 use Rattle.wtp_connection.specs.declared.stream.Purpose.{Purpose}
 use Rattle.wtp_connection.specs.declared.stream.Stream.{Stream}
-use Rattle.wtp_connection.specs.declared.stream.Stream.TheVariants.{Frames, Waiting, Session}
+use Rattle.wtp_connection.specs.declared.stream.Stream.TheVariants.{Waiting, Session}
 use Rattle.wtp_connection.specs.Datagrams.{Taken, taken, after_taken}
 use Rattle.wtp_connection.specs.Opening.{is_for_critical}
 use Rattle.wtp_connection.specs.Receiving.{seen_of, rest_after, FoundIs, settings_of, settings_after}
-use Rattle.wtp_connection.specs.Streams.{without_resumption, configured, accepts, closed_by, Seen, bytes_seen, StreamRun, rests, followed, run_stream, ended, Joined, by_interim, tells_open, tells_interim, stops}
+use Rattle.wtp_connection.specs.Streams.{without_resumption, configured, accepts, closed_by, Seen, bytes_seen, StreamRun, rests, followed, run_stream, ended, Joined, stops}
 use Rattle.wtp_connection.specs.Settings.{values_of, with_defaults}
 use Rattle.wtp_connection.proofs.FinishLemmas.{ended_followed}
 use Rattle.wtp_transcripts.specs.Transcript.{read, Held, called, end_seen, Table, with_held, is_opened as flag}
-use Rattle.wtp_transcripts.specs.Calls.{Call, Arrived, Returned, Interim, Tunnelled, Made, CallIs, CallStep, Accepts, Stops, Datagram, EarlyDataRefused, At, Leads, calls_on, AreReads, arrived, end_arrived, found_in, IsIdle}
+use Rattle.wtp_transcripts.specs.Calls.{Call, Arrived, Returned, Made, CallIs, CallStep, Accepts, Stops, Datagram, EarlyDataRefused, At, Leads, calls_on, AreReads, arrived, end_arrived, found_in, IsIdle}
 use Rattle.wtp_transcripts.proofs.AlikeLemmas.{Goes, goes_same, closed_goes, RunsAlike, read_alike, opened_first, peer_flags, plain_agree}
 use Rattle.wtp_transcripts.proofs.CallLemmas.{call_finds}
 use Rattle.wtp_transcripts.proofs.IndependentLemmas.{call_alike, its_place, flags_open, Opens, accepted_opens, stopped_opens}
@@ -97,27 +94,9 @@ goes_follows c d g o = record {
   plain = g.plain;
 }
 
-interim_goes : (c : Connection) (given : Bool) (x : Reader × Option StreamFault) → Goes c c (by_interim c given x).0 (by_interim c given x).0
-interim_goes c given (r, None) = goes_same c c
-interim_goes c given (r, Some f) = closed_goes c c (fault.Stream f)
-
-tells_goes : (s : Stream) (c : Connection) → Goes c c (tells_open c s).0 (tells_open c s).0
-tells_goes (Frames r given) c = interim_goes c given (after_interim r)
-tells_goes other c = goes_same c c
-
-told_goes : (b : Bool) (s : Stream) (c : Connection) → Goes c c (cond {A = Joined} b (c, s, None) (tells_open c s)).0 (cond {A = Joined} b (c, s, None) (tells_open c s)).0
-told_goes true s c = goes_same c c
-told_goes false s c = tells_goes s c
-
-told_over : (b : Bool) (s : Stream) (c : Connection) → b ≡ true → (cond {A = Joined} b (c, s, None) (tells_open c s)).0.over ≡ c.over
-told_over true s c e = refl
-told_over false s c e = absurd (false≢true e)
-
 call_follows : (x : Call) (c d : Connection) (h k : Held) → CallIs x c h d k → Follows c d
 call_follows (Arrived bytes fin) c d h k is = subst (λ (e : Connection). Follows c e) (sym is.0) (goes_follows c c (goes_same c c) (λ o. o))
 call_follows (Returned x) c d h k is = found_follows x c d h.stream k.stream h.left h.fin is.0 is.3
-call_follows (Interim f) c d h k is = subst (λ (e : Connection). Follows c e) (sym (ap (λ (z : Joined). z.0) is)) (goes_follows c (tells_interim c h.stream).0 (told_goes c.over h.stream c) (λ o. told_over c.over h.stream c o ∙ o))
-call_follows Tunnelled c d h k is = subst (λ (e : Connection). Follows c e) (sym is.0) (goes_follows c c (goes_same c c) (λ o. o))
 call_follows (Made e f) c d h k is = subst (λ (z : Connection). Follows c z) (sym (ap (λ (z : Joined). z.0) is)) (goes_follows c (called c h.stream e).0 (call_alike e h.stream c c refl refl (its_place c h.stream e)).goes (λ o. call_over e c h.stream o))
 
 opens_follows : (c d : Connection) → Opens c d → (c.over ≡ true → d.over ≡ true) → Follows c d
@@ -188,8 +167,6 @@ ends_once : (calls : List Call) → AreReads true calls → arrived calls ≡ []
 ends_once [] r = refl
 ends_once (Arrived bytes fin ∷ calls) r = ap (λ (l : List ℕ). l ++ arrived calls) (r.0 refl) ∙ ends_once calls r.1
 ends_once (Returned x ∷ calls) r = ends_once calls r
-ends_once (Interim f ∷ calls) r = absurd r
-ends_once (Tunnelled ∷ calls) r = absurd r
 ends_once (Made e f ∷ calls) r = absurd r
 
 -- a call, and what is found after it
@@ -236,8 +213,6 @@ reads_its (Arrived bytes fin) c d h m calls k is a r = reads_arrived c h bytes f
     subst (λ (e : Connection). ReadsAs e m calls k) is.0 (
     r (subst (λ (z : Held). AreReads z.fin calls) (sym is.1) a.1))))
 reads_its (Returned x) c d h m calls k is a r = reads_returned x c d h m calls k is.0 is.1 is.2 a (r (subst (λ (b : Bool). AreReads b calls) (sym is.2) a))
-reads_its (Interim f) c d h m calls k is a r = absurd a
-reads_its Tunnelled c d h m calls k is a r = absurd a
 reads_its (Made e f) c d h m calls k is a r = absurd a
 
 -- ---- all streams

@@ -19,7 +19,7 @@ state_of c t = record { connection = c; streams = t }
 outcome_same : (c : Connection) (t u : Table) (n : ℕ) (e : Event) → ((k : ℕ) → t k ≡ u k) → happens c (t n) e ≡ happens c (u n) e
 outcome_same c t u n e h = ap (λ (x : Held). happens c x e) (h n)
 
-table_same : (t u : Table) (n : ℕ) (x y : Held) → x ≡ y → ((k : ℕ) → t k ≡ u k) → (k : ℕ) → with_held n x t k ≡ with_held n y u k
+pub table_same : (t u : Table) (n : ℕ) (x y : Held) → x ≡ y → ((k : ℕ) → t k ≡ u k) → (k : ℕ) → with_held n x t k ≡ with_held n y u k
 table_same t u n x y e h k = same_with (eqb n k) x y (t k) (u k) e (h k)
 
 pub same_seen : (steps : Transcript) (c d : Connection) (t u : Table) → c ≡ d → ((k : ℕ) → t k ≡ u k) → seen_in (state_of c t) steps ≡ seen_in (state_of d u) steps

@@ -11,6 +11,8 @@ use Rattle.wtp_frames.specs.declared.fault.Fault.{Fault as StreamFault}
 use Rattle.wtp_frames.specs.declared.fault.Fault.TheVariants as stream
 use Rattle.wtp_frames.specs.declared.frame_type.FrameType.TheVariants as kind
 use Rattle.wtp_frames.specs.Item.{Item, Whole, Broken}
+use Rattle.wtp_frames.specs.declared.reader.Reader.{Reader}
+use Rattle.wtp_frames.specs.Interim.{after_interim}
 use Rattle.wtp_frames.specs.Run.{run}
 use Rattle.wtp_frames.specs.Start.{message_reader}
 use Rattle.wtp_connection.specs.declared.connection.Connection.{Connection}
@@ -26,10 +28,10 @@ use Rattle.wtp_connection.specs.declared.stream.Stream.{Stream}
 use Rattle.wtp_connection.specs.declared.stream.Stream.TheVariants.{Uni, Bi, Frames, Joining, Waiting, Session, Encoder, Decoder, Ignored, Over, Incomplete}
 use Rattle.wtp_connection.specs.Fault.{scope_of}
 use Rattle.wtp_connection.specs.Instructions.{sets_zero, after_bytes}
-use Rattle.wtp_connection.specs.Opening.{uni_at, bi_at, is_critical, is_for_critical, over_from, over_by}
+use Rattle.wtp_connection.specs.Opening.{connected, uni_at, bi_at, is_critical, is_for_critical, over_from, over_by}
 use Rattle.wtp_connection.specs.Requests.{with_request}
-use Rattle.wtp_connection.specs.Streams.{with_stream, opens, opens_once, closed_in, closed_by, StreamRun, rests, all_given, breaks, by_settings, of_items, has_frames, bytes_seen, by_capacity, by_place, run_open, by_purpose, by_opening, run_intact, run_stream, by_fault, end_of, ending, ended, most_waiting, Joined, refuses, settles, waits, freed, joins_open, joins, without, overflows_open, configured, received_settings}
-use Rattle.wtp_transcripts.specs.Transcript.{read, Held, Event, Came, Told, Reset, Overflowed, Abandoned, Outcome, outcome_of, called, unread, ends, reads_on, happens, end_seen, Table, with_held, Accepted, Stopped, On, Transcript, State, at_stream, next, after, places, waiting_among, is_among, AreDistinct, AreOf}
+use Rattle.wtp_connection.specs.Streams.{with_stream, opens, opens_once, closed_in, closed_by, StreamRun, rests, all_given, breaks, by_settings, of_items, has_frames, bytes_seen, by_capacity, by_place, run_open, by_purpose, by_opening, run_intact, run_stream, by_fault, end_of, ending, ended, most_waiting, Joined, refuses, settles, waits, freed, joins_open, joins, by_interim, tells_open, without, overflows_open, configured, received_settings}
+use Rattle.wtp_transcripts.specs.Transcript.{read, Held, Event, Came, Told, Interim, Tunnelled, Reset, Overflowed, Abandoned, Outcome, outcome_of, called, unread, ends, reads_on, happens, end_seen, Table, with_held, Accepted, Stopped, On, Transcript, State, at_stream, next, after, places, waiting_among, is_among, AreDistinct, AreOf}
 
 -- ---- runs
 
@@ -219,9 +221,23 @@ first_true : (a b : Bool) → (a && b) ≡ true → a ≡ true
 first_true true b e = refl
 first_true false b e = e
 
+interim_counts : (c : Connection) (r : Reader) (given : Bool) (x : Reader × Option StreamFault) → Counts c (Frames r given) (by_interim c given x)
+interim_counts c r given (next, None) = record { sum = refl; bound = λ b. b }
+interim_counts c r given (next, Some f) = refuses_counts c c (Frames r given) f (omega arith)
+
+tells_counts : (s : Stream) (c : Connection) → Counts c s (tells_open c s)
+tells_counts (Frames r given) c = interim_counts c r given (after_interim r)
+tells_counts other c = same_counts c other None
+
+pub connected_places : (s : Stream) → places (connected s) ≡ places s
+connected_places (Frames r given) = refl
+connected_places other = refl
+
 call_counts : (e : Event) (c : Connection) (s : Stream) → places s ≤ c.waiting → Counts c s (called c s e)
 call_counts (Came bytes fin) c s h = same_counts c s None
 call_counts (Told k) c s h = cond_counts c.over c s (c, s, None) (joins_open c s k) (same_counts c s None) (joins_counts s k c h)
+call_counts Interim c s h = cond_counts c.over c s (c, s, None) (tells_open c s) (same_counts c s None) (tells_counts s c)
+call_counts Tunnelled c s h = record { sum = omega (arith, connected_places s); bound = λ b. b }
 call_counts Reset c s h = reset_counts (is_critical s && not c.over) c s _ (λ e. critical_none s (first_true (is_critical s) (not c.over) e)) h
 call_counts Overflowed c s h = cond_counts c.over c s (c, s, None) (overflows_open c s) (same_counts c s None) (overflow_counts s c h)
 call_counts Abandoned c s h = abandon_counts (is_critical s) c s h

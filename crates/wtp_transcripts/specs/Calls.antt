@@ -6,18 +6,15 @@ use Rattle.wtp_connection.specs.declared.connection.Found.{Found}
 use Rattle.wtp_connection.specs.declared.fault.Fault.{Fault}
 use Rattle.wtp_connection.specs.declared.stream.Purpose.{Purpose}
 use Rattle.wtp_connection.specs.Datagrams.{taken, after_taken}
-use Rattle.wtp_connection.specs.Opening.{connected}
 use Rattle.wtp_connection.specs.Receiving.{seen_of, rest_after, FoundIs, settings_of, settings_after}
-use Rattle.wtp_connection.specs.Streams.{without_resumption, accepts, Seen, rests, tells_interim, stops}
+use Rattle.wtp_connection.specs.Streams.{without_resumption, accepts, Seen, rests, stops}
 use Rattle.wtp_transcripts.specs.Transcript.{read, Held, Event, called, Table, with_held}
 
--- bytes come, which may be the last, and are held; `receive` returns this; HEADERS are said to be those
--- of an interim response, or to make the stream a tunnel; or another call is made, which returns this
+-- bytes come, which may be the last, and are held; `receive` returns this; or another call is made, which
+-- returns this
 pub data Call : Type 0 where
   Arrived : List ℕ → Bool → Call
   Returned : Found → Call
-  Interim : Option Fault → Call
-  Tunnelled : Call
   Made : Event → Option Fault → Call
 
 -- What it does to the connection and to a stream.
@@ -30,8 +27,6 @@ CallIs (Returned x) c h d k =
     × (k.left ≡ rest_after x h.left)
     × (k.fin ≡ h.fin)
     × (settings_of d ≡ settings_after x c)
-CallIs (Interim f) c h d k = (d, k.stream, f) ≡ tells_interim c h.stream
-CallIs Tunnelled c h d k = (d ≡ c) × (k ≡ record h { stream = connected h.stream })
 CallIs (Made e f) c h d k = (d, k.stream, f) ≡ called c h.stream e
 
 -- the peer opens a stream, asks to stop an own one, sends a datagram, or does not accept 0-RTT; or a call

@@ -7,13 +7,15 @@ use Rattle.wtp_connection.specs.declared.connection.Found.TheVariants as found
 use Rattle.wtp_connection.specs.declared.connection.Known.{Known}
 use Rattle.wtp_connection.specs.declared.connection.Known.TheVariants as known
 use Rattle.wtp_connection.specs.declared.fault.Fault.{Fault}
+use Rattle.wtp_connection.specs.declared.settings.PeerSettings.{PeerSettings}
 use Rattle.wtp_connection.specs.declared.stream.Purpose.{Purpose}
 use Rattle.wtp_connection.specs.declared.stream.Purpose.TheVariants as «for»
 use Rattle.wtp_connection.specs.declared.stream.Stream.{Stream}
 use Rattle.wtp_connection.specs.declared.stream.Stream.TheVariants.{Joining, Waiting}
-use Rattle.wtp_connection.specs.Opening.{is_for_critical}
+use Rattle.wtp_connection.specs.Opening.{connected, is_for_critical}
+use Rattle.wtp_connection.specs.Resumption.{loses_capacity, loses_limits}
 use Rattle.wtp_connection.specs.Receiving.{seen_of, rest_after, FoundIs}
-use Rattle.wtp_connection.specs.Streams.{connection_of, accepts, Seen, Broke, Ended, StreamRun, rests, run_stream, ended, most_waiting, Joined, joins, resets, stops, overflows, abandons}
+use Rattle.wtp_connection.specs.Streams.{connection_of, resuming_of, accepts, Seen, Configured, Broke, Ended, StreamRun, rests, run_stream, ended, most_waiting, Joined, joins, tells_interim, resets, stops, overflows, abandons}
 
 -- ---- one stream is read
 
@@ -32,6 +34,14 @@ AreCalls (x ∷ xs) fin c s bytes d t left =
     × FoundIs x c s bytes fin e u
     × AreCalls xs fin e u (rest_after x bytes) d t left
 
+-- a frame or bytes
+abbrev pub IsPiece : Found → Type 0
+IsPiece (found.Settings v start end) = Unit {0}
+IsPiece (found.Frame kind start end) = Unit {0}
+IsPiece (found.Data start end) = Unit {0}
+IsPiece (found.TooLarge size n) = Unit {0}
+IsPiece other = ⊥
+
 -- what calls find, where these bytes are left at first
 abbrev pub seen_by : List Found → List ℕ → List Seen
 seen_by [] bytes = []
@@ -45,11 +55,14 @@ pub record Held : Type 0 where
   pub left : List ℕ
   pub fin : Bool
 
--- bytes of a stream come, which may be its last; it is said what is known of its session; the peer resets
+-- bytes of a stream come, which may be its last; it is said what is known of its session; the HEADERS
+-- that it gave last are said to be those of an interim response, or to make it a tunnel; the peer resets
 -- it; more of its bytes are left than the caller holds; or the application reads it no further
 pub data Event : Type 0 where
   Came : List ℕ → Bool → Event
   Told : Known → Event
+  Interim : Event
+  Tunnelled : Event
   Reset : Event
   Overflowed : Event
   Abandoned : Event
@@ -80,6 +93,8 @@ answered (Some f) = Broke f ∷ []
 abbrev pub called : Connection → Stream → Event → Joined
 called c s (Came bytes fin) = (c, s, None)
 called c s (Told k) = joins c s k
+called c s Interim = tells_interim c s
+called c s Tunnelled = (c, connected s, None)
 called c s Reset = resets c s
 called c s Overflowed = overflows c s
 called c s Abandoned = ((abandons c s).0, (abandons c s).1, None)
@@ -137,6 +152,25 @@ said (Some k) = Told k ∷ []
 abbrev pub at_once : List Event → List Event
 at_once events = Came (bytes_in events) (end_in events) ∷ said (last_said None events)
 
+-- bytes come before these events
+abbrev pub before_all : List ℕ → Bool → List Event → List Event
+before_all bytes fin [] = Came bytes fin ∷ []
+before_all bytes fin (Came more last ∷ events) = Came (bytes ++ more) (fin || last) ∷ events
+before_all bytes fin (other ∷ events) = Came bytes fin ∷ other ∷ events
+
+-- the same events, where all bytes that come between two others come at once
+abbrev pub joined : List Event → List Event
+joined [] = []
+joined (Came bytes fin ∷ events) = before_all bytes fin (joined events)
+joined (other ∷ events) = other ∷ joined events
+
+-- no bytes come after the end
+abbrev pub EndsOnce : Bool → List Event → Type 0
+EndsOnce ended [] = Unit {0}
+EndsOnce ended (Came bytes fin ∷ events) =
+    (ended ≡ true → bytes ≡ []) × EndsOnce (ended || fin) events
+EndsOnce ended (other ∷ events) = EndsOnce ended events
+
 -- it is to be joined with its session
 abbrev pub IsToJoin : Stream → Type 0
 IsToJoin (Joining s) = Unit {0}
@@ -186,6 +220,10 @@ pub record State : Type 0 where
 -- a connection before its first byte, with these streams
 abbrev pub begin : Endpoint → Table → State
 begin e t = record { connection = connection_of e; streams = t }
+
+-- the same, where a client resumes a session with these settings of the server
+abbrev pub resumes : Endpoint → PeerSettings → Table → State
+resumes e v t = record { connection = resuming_of e v; streams = t }
 
 -- what an event of stream n does
 abbrev pub at_stream : State → ℕ → Event → Outcome
@@ -333,8 +371,31 @@ pub record SameBytes (e : Endpoint) (t : Table) (n : ℕ) (first second : Transc
   pub end : end_in (events_of n second) ≡ end_in (events_of n first)
   pub said : last_said None (events_of n second) ≡ last_said None (events_of n first)
 
+-- the same is said and done of stream n, and between two such events the same bytes of it come
+pub record SameCalls (t : Table) (n : ℕ) (first second : Transcript) : Type 0 where
+  pub once_first : EndsOnce (t n).fin (events_of n first)
+  pub once_second : EndsOnce (t n).fin (events_of n second)
+  pub same : joined (events_of n second) ≡ joined (events_of n first)
+
 -- The same bytes of stream n come, with its end or without it, and the same is said last of its session;
--- or the same events of it happen.
+-- or the same events of it happen, however its bytes are cut between them.
 abbrev pub SameOn : Endpoint → Table → ℕ → Transcript → Transcript → Type 0
 SameOn e t n first second =
-    (events_of n second ≡ events_of n first) ⊎ SameBytes e t n first second
+    (events_of n second ≡ events_of n first)
+    ⊎ (SameBytes e t n first second ⊎ SameCalls t n first second)
+
+-- ---- a session that is resumed
+
+-- SETTINGS that lose something of what is remembered
+abbrev pub loses : PeerSettings → Seen → Bool
+loses old (Configured v payload) = loses_capacity old v || loses_limits old v
+loses old other = false
+
+abbrev pub loses_any : PeerSettings → List (ℕ × Seen) → Bool
+loses_any old [] = false
+loses_any old (x ∷ seen) = loses old x.1 || loses_any old seen
+
+-- No SETTINGS of the peer lose anything of what is remembered, as far as they are found where no session
+-- is resumed.
+abbrev pub KeepsRemembered : Endpoint → PeerSettings → Table → Transcript → Type 0
+KeepsRemembered e v t steps = loses_any v (seen_in (begin e t) steps) ≡ false

@@ -6,12 +6,14 @@ ghost use Rattle.wtp_frames.specs.declared.endpoint.Endpoint.{Endpoint};
 ghost use Rattle.wtp_connection.specs.declared.connection.Connection.{Connection};
 ghost use Rattle.wtp_connection.specs.declared.connection.Found.{Found};
 ghost use Rattle.wtp_connection.specs.declared.connection.Known.TheVariants as known;
+ghost use Rattle.wtp_connection.specs.declared.settings.PeerSettings.{PeerSettings};
 ghost use Rattle.wtp_connection.specs.declared.stream.Purpose.TheVariants as «for»;
 ghost use Rattle.wtp_connection.specs.declared.stream.Stream.{Stream};
 ghost use Rattle.wtp_connection.specs.declared.stream.Stream.TheVariants.{Uni, Bi, Waiting, Session};
-ghost use Rattle.wtp_connection.specs.Streams.{connection_of, Opened, bytes_seen};
+ghost use Rattle.wtp_connection.specs.Receiving.{FoundIs, seen_of, consumed_in};
+ghost use Rattle.wtp_connection.specs.Streams.{connection_of, resuming_of, without_resumption, Opened, bytes_seen};
 ghost use Rattle.wtp_transcripts.specs.Calls.{CallStep, Leads, calls_on, AreReads, arrived, end_arrived, found_in, IsIdle};
-ghost use Rattle.wtp_transcripts.specs.Transcript.{read, AreCalls, seen_by, Held, Event, Came, Told, happens, alone, bytes_in, end_in, last_said, at_once, IsRead, IsStill, Table, Step, On, Transcript, State, begin, next, after, found_by, seen_in, on_stream, events_of, end_seen, places, waiting_among, AreDistinct, AreOf, HasPlaces, KeepsRules, StopsNone, AllHavePlaces, WaitAmong, NoneWaits, SameOn};
+ghost use Rattle.wtp_transcripts.specs.Transcript.{read, AreCalls, seen_by, Held, Event, Came, Told, happens, alone, bytes_in, end_in, last_said, at_once, joined, EndsOnce, IsPiece, IsRead, IsStill, Table, Step, On, Transcript, State, begin, next, after, found_by, seen_in, on_stream, events_of, end_seen, places, waiting_among, AreDistinct, AreOf, HasPlaces, KeepsRules, StopsNone, AllHavePlaces, WaitAmong, NoneWaits, SameOn, resumes, KeepsRemembered};
 
 /// A loop of calls that goes on until one returns `More` finds all that is in the bytes, and at the end
 /// of the stream if it comes after them. The connection, the stream and the bytes that are left are
@@ -27,9 +29,8 @@ pub fn calls_find_everything()
 /// before another one is. While no error ends the connection, and nothing but `receive` is called on a
 /// stream, what its calls find is what is in all of its bytes, joined, as the connection was before
 /// them, once they find nothing more. A stream that waits gives nothing and loses no byte; one of an
-/// open session gives exactly its bytes, and its end. Between the calls datagrams may come, and other
-/// streams may give interim responses and become tunnels. The connection resumes no session, or SETTINGS
-/// came.
+/// open session gives exactly its bytes, and its end. Between the calls datagrams may come, and any call
+/// may be made on other streams. The connection resumes no session, or SETTINGS came.
 pub fn calls_may_be_interleaved()
     ensures seen { (steps : List CallStep) (c d : Connection) (t u : Table) (n : ℕ)
         → c.resumed ≡ false → Leads steps c t d u → d.over ≡ false
@@ -155,6 +156,24 @@ pub fn streams_give_their_bytes()
         ≡ (alone (connection_of e) (t n) (at_once (events_of n steps))).seen }
 {}
 
+/// The bytes that come between two calls of the caller on a stream may be cut anywhere: the stream gives
+/// the same, and the same is held of it. These calls say what is known of its session, that HEADERS are
+/// those of an interim response or make it a tunnel, or that it is reset, overflows or is abandoned.
+pub fn bytes_between_calls_may_be_cut()
+    ensures { (c : Connection) (h : Held) (events : List Event) → EndsOnce h.fin events
+        → alone c h events ≡ alone c h (joined events) }
+{}
+
+/// A call that finds a frame or bytes leaves the connection and the stream as if no other bytes than
+/// those that it consumed had come. So what is said of HEADERS then is said between these bytes and
+/// those that follow.
+pub fn calls_stop_at_what_they_find()
+    ensures { (x : Found) (c d : Connection) (s t : Stream) (bytes : List ℕ) (fin : Bool)
+        → FoundIs x c s bytes fin d t → IsPiece x
+        → read false c s (consumed_in x bytes)
+        ≡ record { seen = seen_of x bytes; connection = d; stream = t; left = [] } }
+{}
+
 /// A stream of a session that is open at last gives what it is for, exactly its bytes, and its end if
 /// that came, whatever encodings its first numbers have, however early its bytes come, and whatever
 /// happens on other streams.
@@ -187,9 +206,10 @@ pub fn valid_connections_go_on()
 
 /// What the streams of a peer that keeps the rules give does not depend on the order between them: if
 /// the same bytes come on each stream, and the same is known of its session at last, each gives the
-/// same, and no error ends the connection. A stream that is reset, abandoned or told of the end of its
-/// session has the same events in both orders. Interim responses, tunnels and datagrams are no events
-/// here: of what comes between two of them `calls_may_be_interleaved` speaks.
+/// same, and no error ends the connection. If other calls are made on a stream (its HEADERS are said to be
+/// those of an interim response or to make it a tunnel; it is reset or abandoned, or told of the end of
+/// its session), the same are made in both orders, with the same bytes between them, however cut.
+/// Datagrams are no events here: of what comes between two of them `calls_may_be_interleaved` speaks.
 pub fn order_makes_no_difference()
     ensures seen { (e : Endpoint) (t : Table) (n : ℕ) (first second : Transcript) → NoneWaits t
         → KeepsRules e t first → ((k : ℕ) → SameOn e t k first second) → StopsNone second
@@ -198,4 +218,41 @@ pub fn order_makes_no_difference()
     ensures over { (e : Endpoint) (t : Table) (first second : Transcript) → NoneWaits t
         → KeepsRules e t first → ((k : ℕ) → SameOn e t k first second) → StopsNone second
         → AllHavePlaces (begin e t) second → (after (begin e t) second).connection.over ≡ false }
+{}
+
+/// On a connection that resumes a session and that no error ends, everything is found as on one that
+/// resumes none, on all streams and in the same order. It goes on if that one does, and all SETTINGS keep
+/// what is remembered (RFC 9114, section 7.2.4.2). If the server does not accept 0-RTT nothing is
+/// remembered.
+pub fn resumption_changes_nothing_else()
+    ensures seen { (e : Endpoint) (v : PeerSettings) (t : Table) (steps : Transcript)
+        → (after (resumes e v t) steps).connection.over ≡ false
+        → seen_in (resumes e v t) steps ≡ seen_in (begin e t) steps }
+    ensures streams { (e : Endpoint) (v : PeerSettings) (t : Table) (steps : Transcript) (n : ℕ)
+        → (after (resumes e v t) steps).connection.over ≡ false
+        → (after (resumes e v t) steps).streams n ≡ (after (begin e t) steps).streams n }
+    ensures over { (e : Endpoint) (v : PeerSettings) (t : Table) (steps : Transcript)
+        → (after (resumes e v t) steps).connection.over ≡ false
+        → (after (begin e t) steps).connection.over ≡ false }
+    ensures kept { (e : Endpoint) (v : PeerSettings) (t : Table) (steps : Transcript)
+        → (after (begin e t) steps).connection.over ≡ false → KeepsRemembered e v t steps
+        → (after (resumes e v t) steps).connection.over ≡ false }
+    ensures refused { (e : Endpoint) (v : PeerSettings)
+        → without_resumption (resuming_of e v) ≡ connection_of e }
+{}
+
+/// `order_makes_no_difference` holds of a connection that resumes a session too, if the SETTINGS of the
+/// server keep what is remembered.
+pub fn order_makes_no_difference_to_a_resumed_session()
+    ensures seen { (e : Endpoint) (v : PeerSettings) (t : Table) (n : ℕ) (first second : Transcript)
+        → NoneWaits t → KeepsRules e t first → ((k : ℕ) → SameOn e t k first second)
+        → StopsNone second → AllHavePlaces (begin e t) first → AllHavePlaces (begin e t) second
+        → KeepsRemembered e v t first
+        → on_stream n (seen_in (resumes e v t) second)
+        ≡ on_stream n (seen_in (resumes e v t) first) }
+    ensures over { (e : Endpoint) (v : PeerSettings) (t : Table) (first second : Transcript)
+        → NoneWaits t → KeepsRules e t first → ((k : ℕ) → SameOn e t k first second)
+        → StopsNone second → AllHavePlaces (begin e t) first → AllHavePlaces (begin e t) second
+        → KeepsRemembered e v t first
+        → (after (resumes e v t) second).connection.over ≡ false }
 {}

@@ -7,7 +7,7 @@ use Rattle.wtp_connection.specs.declared.fault.Fault.{Fault as StreamsFault}
 use Rattle.wtp_connection.specs.declared.stream.Stream.{Stream as Frames}
 use Rattle.wtp_connection.specs.declared.stream.Stream.TheVariants as frames
 use Rattle.wtp_connection.specs.Fault.{scope_of as streams_scope}
-use Rattle.wtp_connection.specs.Streams.{Joined as After, joins as joins_streams, resets as resets_frames}
+use Rattle.wtp_connection.specs.Streams.{Joined as After, joins as joins_streams, resets as resets_frames, overflows as overflows_frames}
 use Rattle.wtp_messages.specs.declared.message.Message.{Message}
 use Rattle.wtp_messages.specs.Response.{is_success}
 use Rattle.wtp_webtransport.specs.declared.fault.Fault.{Fault}
@@ -21,7 +21,7 @@ use Rattle.wtp_webtransport.specs.Events as told
 use Rattle.wtp_webtransport.specs.Fault.{scope_of}
 use Rattle.wtp_webtransport.specs.Streams.{after_end, with_streams, with_frames, with_part, connects, is_held, is_done, answered, answered_by}
 use Rattle.wtp_webtransport.specs.Receiving.{closed_by}
-use Rattle.wtp_webtransport.specs.Joining.{Outcome, reset_told, reset_in, reset_by, resets, lost_if, abandons, stops_half, joined_told, joined_by, joining_of, joins}
+use Rattle.wtp_webtransport.specs.Joining.{Outcome, reset_told, reset_in, reset_by, resets, lost_if, abandons, stops_half, joined_told, joined_by, joining_of, joins, overflowed_by, overflows}
 use Rattle.wtp_webtransport.specs.Endings.{begins_session, ends_session, accepts_session, Keeps, KeepsAfter}
 use Rattle.wtp_webtransport.proofs.EndingLemmas.{quiet, over, held_after_end, begins_fault, ends_fault}
 
@@ -95,6 +95,15 @@ pub join_keeps : (c : Connection) (s : Stream) (k : Known) → KeepsAfter s (joi
 join_keeps c s k =
     either c.over s _ _ (unchanged s c)
     (joined_keeps (joins_streams c.streams s.frames k) (joining_of s.frames) c s)
+
+overflowed_keeps : (j : After) (c : Connection) (s : Stream) → KeepsAfter s (overflowed_by c s j)
+overflowed_keeps (d, t, None) c s = quiet s.part told.More s.part refl refl refl
+overflowed_keeps (d, t, Some f) c s = fault_keeps s t (with_streams c d) (fault.Streams f)
+
+pub overflow_keeps : (c : Connection) (s : Stream) → KeepsAfter s (overflows c s)
+overflow_keeps c s =
+    either c.over s _ _ (unchanged s c)
+    (overflowed_keeps (overflows_frames c.streams s.frames) c s)
 
 -- ---- answers
 

@@ -3,3 +3,12 @@ pub mod CapsuleLemmas
 pub mod HalfLemmas
 pub mod CutLemmas
 pub mod ContentLemmas
+pub mod SectionLemmas
+pub mod FoundLemmas
+pub mod CallLemmas
+pub mod StopLemmas
+pub mod GivenLemmas
+pub mod WordLemmas
+pub mod PlaceLemmas
+pub mod PieceLemmas
+pub mod RunLemmas

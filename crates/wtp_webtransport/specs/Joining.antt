@@ -11,7 +11,7 @@ use Rattle.wtp_connection.specs.declared.stream.Stream.TheVariants as frames
 use Rattle.wtp_connection.specs.declared.stream.Purpose.{Purpose}
 use Rattle.wtp_connection.specs.Datagrams.{Taken as StreamsTaken, taken as streams_taken, after_taken as streams_after}
 use Rattle.wtp_connection.specs.Fault.{scope_of as streams_scope}
-use Rattle.wtp_connection.specs.Streams.{Joined as After, joins as joins_streams, resets as resets_frames, abandons as abandons_frames, stops as stops_streams}
+use Rattle.wtp_connection.specs.Streams.{Joined as After, joins as joins_streams, resets as resets_frames, abandons as abandons_frames, overflows as overflows_frames, stops as stops_streams}
 use Rattle.wtp_webtransport.specs.declared.fault.Fault.{Fault}
 use Rattle.wtp_webtransport.specs.declared.fault.Fault.TheVariants as fault
 use Rattle.wtp_webtransport.specs.declared.event.Waits.TheVariants as wait
@@ -89,6 +89,16 @@ abandoned_by c s x = (lost_if (is_held s.part), with_streams c x.0, with_frames 
 abbrev pub abandons : Connection → Stream → Outcome
 abandons c s =
     if c.over then (More, c, s) else abandoned_by c s (abandons_frames c.streams s.frames)
+
+-- more bytes of a stream are left over than the caller keeps
+abbrev pub overflowed_by : Connection → Stream → After → Outcome
+overflowed_by c s (d, t, None) = (More, with_streams c d, with_frames s t)
+overflowed_by c s (d, t, Some f) =
+    with_error (with_frames s t) (closed_by (with_streams c d) (fault.Streams f))
+
+abbrev pub overflows : Connection → Stream → Outcome
+overflows c s =
+    if c.over then (More, c, s) else overflowed_by c s (overflows_frames c.streams s.frames)
 
 -- the peer asks to stop the own half of a stream: a session whose own stream it is ends by that
 abbrev pub stops_half : Connection → Stream → Outcome

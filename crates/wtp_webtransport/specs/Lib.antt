@@ -7,5 +7,8 @@ pub mod Events
 pub mod Streams
 pub mod Sessions
 pub mod Receiving
+pub mod Calls
 pub mod Joining
 pub mod Endings
+pub mod Words
+pub mod Places

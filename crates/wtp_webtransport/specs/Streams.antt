@@ -6,10 +6,11 @@ use Rattle.wtp_frames.specs.declared.endpoint.Side.{Side}
 use Rattle.wtp_frames.specs.declared.endpoint.Side.TheVariants.{Client}
 use Rattle.wtp_frames.specs.Start.{message_reader}
 use Rattle.wtp_connection.specs.declared.connection.Connection.{Connection as Streams}
+use Rattle.wtp_connection.specs.declared.settings.PeerSettings.{PeerSettings}
 use Rattle.wtp_connection.specs.declared.stream.Stream.{Stream as Frames}
 use Rattle.wtp_connection.specs.declared.stream.Stream.TheVariants as frames
 use Rattle.wtp_connection.specs.Opening.{waits_for as session_waited_for, connected}
-use Rattle.wtp_connection.specs.Streams.{connection_of as streams_of, accepts}
+use Rattle.wtp_connection.specs.Streams.{connection_of as streams_of, resuming_of as resuming_streams, without_resumption, accepts}
 use Rattle.wtp_messages.specs.declared.message.Message.{Message}
 use Rattle.wtp_messages.specs.declared.message.Role.{Role}
 use Rattle.wtp_messages.specs.declared.message.Role.TheVariants as role
@@ -41,6 +42,17 @@ connection_of e extended = record {
   goaway = None;
   over = false;
 }
+
+-- One of a client that resumes a session and sends 0-RTT data: the server has the settings of that
+-- session until its SETTINGS come (RFC 9114, section 7.2.4.2). A request for a session still waits for
+-- these.
+abbrev pub resuming_connection : Endpoint → Bool → PeerSettings → Connection
+resuming_connection e extended v =
+    record (connection_of e extended) { streams = resuming_streams e v }
+
+-- the server did not accept 0-RTT
+abbrev pub without_early_data : Connection → Connection
+without_early_data c = record c { streams = without_resumption c.streams }
 
 -- the connection and a stream, with this state of all streams and of the frames of that one
 abbrev pub with_streams : Connection → Streams → Connection

@@ -3,6 +3,8 @@ ghost use Rattle.std.specs.Prelude.{◌≡◌, ◌≢◌, ◌≤◌, ◌<◌, �
 ghost use Rattle.wtp_wire.specs.Settings.{pair_at};
 ghost use Rattle.wtp_webtransport.specs.Capsules.{type_of as type_of_is, sort_of as sort_of_is, between, skipping, CapsuleIs, StartGives, ValueGives, HeadIs};
 
+pub mod words;
+
 use std::alloc::{AllocError, Global};
 use std::marker::Model;
 use std::mem;

@@ -3,11 +3,12 @@ ghost use Rattle.std.specs.Prelude.{◌≡◌, ◌≤◌, length};
 ghost use Rattle.wtp_connection.specs.Receiving.{Fits};
 ghost use Rattle.wtp_webtransport.specs.Events.{told_of};
 ghost use Rattle.wtp_webtransport.specs.Receiving.{Receives, FoundGives, closed_by, fails, found_opened, goaway_found, last_in, malformed as malformed_is, told_more};
-ghost use Rattle.wtp_webtransport.specs.Streams.{connection_of, accepted, request_stream, after_error, is_unprocessed_by};
+ghost use Rattle.wtp_webtransport.specs.Streams.{connection_of, resuming_connection, without_early_data, accepted, request_stream, after_error, is_unprocessed_by};
 
 mod messages;
 mod sessions;
 mod streams;
+pub mod words;
 
 use crate::event::{Event, Received, Waits};
 use crate::fault::Fault;
@@ -43,8 +44,8 @@ pub struct Connection {
 
 impl Connection {
     /// Creates a connection. `extended`: the own SETTINGS allow extended CONNECT, which sessions of
-    /// WebTransport need (RFC 9220, section 3). Send no early data (0-RTT) on it: settings that a client
-    /// remembers are not checked (`wtp_connection` does it, with `resuming`).
+    /// WebTransport need (RFC 9220, section 3). A client that sends early data (0-RTT) creates it by
+    /// [`resuming`](Self::resuming).
     pub fn new(endpoint: Endpoint, extended: bool) -> Self
         ensures { result ≡ connection_of endpoint extended }
     {
@@ -56,6 +57,36 @@ impl Connection {
             goaway: None,
             over: false,
         }
+    }
+
+    /// Creates the connection of a client that resumes a session of TLS and sends 0-RTT data.
+    /// `remembered` are the settings of the server in that session: they are its settings until its
+    /// SETTINGS come, which must keep them (RFC 9114, section 7.2.4.2). If the server does not accept
+    /// 0-RTT, call [`early_data_refused`](Self::early_data_refused). At a server this is
+    /// [`new`](Self::new).
+    ///
+    /// Sessions of WebTransport are possible once SETTINGS came: a request for one is not sent as early
+    /// data (RFC 8470, section 4).
+    pub fn resuming(endpoint: Endpoint, extended: bool, remembered: &PeerSettings) -> Self
+        ensures { result ≡ resuming_connection endpoint extended remembered.now }
+    {
+        Connection {
+            streams: Streams::resuming(endpoint, remembered),
+            endpoint,
+            extended,
+            configured: false,
+            goaway: None,
+            over: false,
+        }
+    }
+
+    /// Says that the server did not accept 0-RTT: until its SETTINGS come each setting has its default
+    /// again, and they need not keep what is remembered. Nothing changes after its SETTINGS, and if no
+    /// session is resumed.
+    pub fn early_data_refused(&mut self)
+        ensures { self.new ≡ without_early_data self.old }
+    {
+        self.streams.early_data_refused();
     }
 
     /// Creates the state of a stream that the peer opened, by its ID (RFC 9000, section 2.1).
@@ -101,9 +132,8 @@ impl Connection {
     /// over. With an error all bytes are consumed. After an error of the connection every call
     /// consumes all bytes of every stream and returns `More`.
     ///
-    /// How many bytes wait is not bounded: [`abandon`](Self::abandon) a stream of which more wait than
-    /// you keep. If it waits for its session, reset and stop it with
-    /// WEBTRANSPORT_BUFFERED_STREAM_REJECTED; otherwise close the connection with H3_EXCESSIVE_LOAD.
+    /// How many bytes wait is not bounded: say of a stream of which more wait than you keep that it
+    /// [overflows](Self::overflow).
     pub fn receive<'a>(
         &mut self,
         stream: &mut Stream,

@@ -1,11 +1,13 @@
 //! Laws of the definitions that the contracts cite. Each function does nothing: its contract is the
 //! law.
-ghost use Rattle.std.specs.Prelude.{◌≡◌, ◌||◌, ◌+◌, ◌<◌, ◌≤◌, ℕ, Bool, true, false, List, ◌∷◌, ◌++◌, length, Option};
+ghost use Rattle.std.specs.Prelude.{◌≡◌, ◌||◌, ◌+◌, ◌<◌, ◌≤◌, ℕ, Bool, true, false, List, ◌∷◌, ◌++◌, length, drop, Option};
 ghost use Rattle.wtp_webtransport.specs.declared.connection.Connection.{Connection};
 ghost use Rattle.wtp_webtransport.specs.declared.stream.Stream.{Stream};
 ghost use Rattle.wtp_webtransport.specs.Receiving.{Outcome, Receives};
+ghost use Rattle.wtp_webtransport.specs.Calls.{Stops, Finishes, Reads, SaysTo, left_of, told_before, told_all, course_of, plain, moved, IsSession, IsPiece, HasMemory, HasFrames, Grown};
+ghost use Rattle.wtp_connection.specs.Opening.{is_critical};
 ghost use Rattle.wtp_webtransport.specs.Endings.{KeepsSession, KeepsAfter, accepts_session};
-ghost use Rattle.wtp_webtransport.specs.Joining.{resets, stops_half, abandons, joins};
+ghost use Rattle.wtp_webtransport.specs.Joining.{resets, stops_half, abandons, joins, overflows};
 ghost use Rattle.wtp_webtransport.specs.Streams.{is_held, answered};
 ghost use Rattle.wtp_connection.specs.declared.connection.Known.{Known};
 ghost use Rattle.wtp_messages.specs.Content.{fits, left_after};
@@ -15,6 +17,7 @@ ghost use Rattle.wtp_webtransport.specs.declared.capsules.CapsuleType.{CapsuleTy
 ghost use Rattle.wtp_webtransport.specs.declared.capsules.Sort.TheVariants.{Read, Skip, Refuse};
 ghost use Rattle.wtp_webtransport.specs.Capsules.{Found, Place, between, place_by, sort_of, CapsuleIs, IsPlace};
 ghost use Rattle.wtp_webtransport.specs.Cuts.{breaks, followed, after_found, run, IsProper};
+ghost use Rattle.wtp_webtransport.specs.Places.{IsPlaced};
 ghost use Rattle.wtp_webtransport.specs.Prefix.{names_table};
 
 /// A session ends once: `SessionClosed` and `SessionLost` come only on the own stream of a session that
@@ -28,8 +31,52 @@ pub fn sessions_end_once()
     ensures stop { (c : Connection) (s : Stream) → KeepsAfter s (stops_half c s) }
     ensures abandon { (c : Connection) (s : Stream) → KeepsAfter s (abandons c s) }
     ensures join { (c : Connection) (s : Stream) (k : Known) → KeepsAfter s (joins c s k) }
+    ensures overflow { (c : Connection) (s : Stream) → KeepsAfter s (overflows c s) }
     ensures answer { (s : Stream) (status : ℕ) → is_held (answered s status).part
         ≡ (is_held s.part || accepts_session s.part status) }
+{}
+
+/// The bytes of a stream may be cut anywhere, but for the content of a session (of that see
+/// [`content_of_sessions_may_be_cut`]). Wherever the calls have memory:
+///
+/// - `stops`: after a call on the bytes `a` that needs more bytes, or waits, a call with what it left
+///   and `b` returns what one on `a` and `b` returns.
+/// - `given`: any other event does not depend on the bytes that follow, and neither do the states after
+///   it and the bytes consumed; with an error all are.
+/// - `pieces`: a piece of content is the same, or longer by the piece that the next call returns. So is
+///   the error that it is too long. The stream of a message has frames, and is none that must not be
+///   closed.
+///
+/// Of a malformed section it is left open which of the rules that it breaks is named.
+pub fn calls_may_be_cut()
+    ensures stops { (limit : ℕ) (c : Connection) (s : Stream) (a b : List ℕ) (fin : Bool) (o p q : Outcome)
+        → (IsSession s.part → ⊥) → Receives limit c s a false o → course_of o.1 ≡ Stops
+        → Receives limit o.2 o.3 (drop o.0 a ++ b) fin p → HasMemory p
+        → Receives limit c s (a ++ b) fin q → HasMemory q
+        → plain q ≡ moved o.0 (length (a ++ b)) p }
+    ensures given { (limit : ℕ) (c : Connection) (s : Stream) (a b : List ℕ) (fin : Bool) (o q : Outcome)
+        → (IsSession s.part → ⊥) → Receives limit c s a false o → HasMemory o
+        → (course_of o.1 ≡ Stops → ⊥) → (IsPiece o.1 → ⊥)
+        → Receives limit c s (a ++ b) fin q → HasMemory q → plain q ≡ moved 0 (length (a ++ b)) o }
+    ensures pieces { (limit : ℕ) (c : Connection) (s : Stream) (a b : List ℕ) (fin : Bool) (o q : Outcome)
+        → (IsSession s.part → ⊥) → HasFrames s.part s.frames
+        → Receives limit c s a false o → IsPiece o.1 → is_critical o.3.frames ≡ false
+        → Receives limit c s (a ++ b) fin q → HasMemory q → Grown limit a b fin o q }
+{}
+
+/// However the bytes of a stream are cut, its calls say the same: the calls on the bytes `a`, up to one
+/// that needs more bytes or waits, and then those on what it left and `b`, say together what the calls on
+/// `a` and `b` say, byte by byte of pieces, and end with the same states; up to an error or the end they
+/// say so alone. This is with memory, before a session is open on the stream, and where each call consumes
+/// bytes that came.
+pub fn streams_may_be_cut()
+    ensures stops { (limit : ℕ) (os fs gs : List Outcome) (z w y : Outcome) (c : Connection) (s : Stream)
+        (a b : List ℕ) (fin : Bool) → Reads limit os z c s a false → course_of z.1 ≡ Stops
+        → Reads limit fs w z.2 z.3 (left_of os z a ++ b) fin → Reads limit gs y c s (a ++ b) fin
+        → SaysTo (told_before os ++ told_all fs w) w gs y }
+    ensures ends { (limit : ℕ) (os gs : List Outcome) (z y : Outcome) (c : Connection) (s : Stream)
+        (a b : List ℕ) (fin : Bool) → Reads limit os z c s a false → course_of z.1 ≡ Finishes
+        → Reads limit gs y c s (a ++ b) fin → SaysTo (told_all os z) z gs y }
 {}
 
 /// The content of a session may be cut anywhere, also where allocation failed: whatever follows the
@@ -74,4 +121,11 @@ pub fn prefixes_that_name_a_table_are_refused()
         → IsInt 8 count s → 0 < count → names_table (s ++ more) ≡ true }
     ensures sign { (b : ℕ) (more : List ℕ) → 128 ≤ b → names_table (0 ∷ b ∷ more) ≡ true }
     ensures neither { (b : ℕ) (more : List ℕ) → b < 128 → names_table (0 ∷ b ∷ more) ≡ false }
+{}
+
+/// The bytes that an event refers to are the last of those that are consumed with it.
+#[tactic(auto, using(crate::proofs::PlaceLemmas::received_placed))]
+pub fn bytes_of_events_are_consumed_last()
+    ensures { (limit : ℕ) (c : Connection) (s : Stream) (bytes : List ℕ) (fin : Bool) (o : Outcome)
+        → Receives limit c s bytes fin o → IsPlaced o.1 o.0 bytes }
 {}

@@ -2,9 +2,10 @@
 -- map comes back.
 use Rattle.std.proofs.Common.{◌≡◌, ◌≢◌, ℕ, ◌+◌, ◌*◌, ◌<◌, ◌≤◌, Bool, false, List, [], ◌∷◌, ◌++◌, length, refl, sym, ap, ◌∙◌, arith, inl, inr, Option, None, Result, Ok, Err}
 use Rattle.std.proofs.lemmas.Bool.{cases_lt}
+use Rattle.wtp_core.specs.declared.bytes.poll.Polled.{Polled}
 use Rattle.wtp_core.specs.declared.bytes.poll.Polled.TheVariants.{Ready, Pending, Again, NoMemory}
 use Rattle.wtp_core.specs.Source.{Source, HasModel}
-use Rattle.wtp_core.specs.Polled.{PollsAtMost}
+use Rattle.wtp_core.specs.Polled.{PollsAtMost, WaitsAs}
 use Rattle.wtp_core.proofs.TellingLemmas.{telling_map, telling_same, telling_then, telling_both}
 use Rattle.wtp_wire.specs.declared.frame.kind.FrameKind.{FrameKind}
 use Rattle.wtp_wire.specs.declared.frame.kind.FrameKind.TheVariants.{Headers}
@@ -28,7 +29,7 @@ use Rattle.wtp_wire.specs.Run.{Run, Tail, skip_unknown, run, follows}
 use Rattle.wtransport_proto.specs.HeldRun.{tail_of, run_of}
 use Rattle.wtransport_proto.specs.Reading.{FirstAfter}
 use Rattle.wtransport_proto.specs.StreamPolling.{SourceIsAfter, StreamTakesFrame, Faults, SkipsUnknown, LacksMemory, StreamPolled}
-use Rattle.wtransport_proto.specs.Exchange.{past_front, KeptPlace, Turned, Lacked, Takes, LeftIsAfter, Breaks, FrameDid, MapDid, CameBack, ReadsBack}
+use Rattle.wtransport_proto.specs.Exchange.{WaitsAtMost, past_front, KeptPlace, Turned, Lacked, Takes, LeftIsAfter, Breaks, FrameDid, MapDid, CameBack, ReadsBack}
 use Rattle.wtp_wire.proofs.RunLemmas.{skip_unknown-unknown, skip_unknown-framed, skip_unknown-bad, skip_unknown-big, skip_unknown-short}
 use Rattle.wtp_wire.proofs.RunLaws.{run-allowed}
 use Rattle.wtransport_proto.proofs.HeldRunLemmas.{skip_not_read, leaves_run, leaves_size, unknown_run, unknown_size, run_new}
@@ -193,6 +194,21 @@ asks_on s t u n p k = telling_then s t u (PollsAtMost (4112 * n)) (PollsAtMost 4
 
 pub asks_end : (s t u : Option Source) (n turns : ℕ) → n < turns → HasModel s t (PollsAtMost (4112 * n)) → HasModel t u (PollsAtMost 4112) → HasModel s u (PollsAtMost (4112 * turns))
 asks_end s t u n turns l p k = telling_then s t u (PollsAtMost (4112 * n)) (PollsAtMost 4112) (PollsAtMost (4112 * turns)) (λ a b c g h. asks_last n turns a b c l g h) p k
+
+polled_once : {T : Type 0} (r : Polled T) (a b : Source) → WaitsAs r a b → b.waits ≤ a.waits + 1
+polled_once (Ready x) a b h = omega (arith, h)
+polled_once Pending a b h = omega (arith, h)
+polled_once Again a b h = omega (arith, h)
+polled_once NoMemory a b h = omega (arith, h)
+
+pub waits_start : (s : Option Source) → HasModel s s (WaitsAtMost 0)
+waits_start s = telling_same s (WaitsAtMost 0) (λ a. omega arith)
+
+pub waits_on : {T : Type 0} (r : Polled T) (s t u : Option Source) (n : ℕ) → HasModel s t (WaitsAtMost n) → HasModel t u (WaitsAs r) → HasModel s u (WaitsAtMost (n + 1))
+waits_on r s t u n p k = telling_then s t u (WaitsAtMost n) (WaitsAs r) (WaitsAtMost (n + 1)) (λ a b c g h. let one = polled_once r b c h in omega (arith, g, one)) p k
+
+pub waits_end : (s t u : Option Source) (n turns : ℕ) → n < turns → HasModel s t (WaitsAtMost n) → HasModel t u (λ a b. b.waits ≡ a.waits + 0) → HasModel s u (WaitsAtMost turns)
+waits_end s t u n turns l p k = telling_then s t u (WaitsAtMost n) (λ a b. b.waits ≡ a.waits + 0) (WaitsAtMost turns) (λ a b c g h. omega (arith, l, g, h)) p k
 
 -- ---- the map comes back
 

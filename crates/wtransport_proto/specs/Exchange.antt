@@ -28,6 +28,10 @@ use Rattle.wtransport_proto.specs.Reading.{FirstAfter}
 
 -- In all of these, a and b are the models of the sink or the source before and after the call.
 
+-- the source was not ready at most n times
+abbrev pub WaitsAtMost : ℕ → Source → Source → Type 0
+WaitsAtMost n a b = b.waits ≤ a.waits + n
+
 -- ---- sending
 
 -- the sink took all of these bytes, within this many turns: each turn but the last waited, and

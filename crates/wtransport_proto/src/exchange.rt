@@ -9,7 +9,7 @@ ghost use Rattle.wtp_wire.specs.Wire.{wire};
 ghost use Rattle.wtp_fields.specs.Field.{Field, IsMap, AreTexts};
 ghost use Rattle.wtp_fields.specs.Headers.{payload};
 ghost use Rattle.wtransport_proto.specs.Driving.{ChangesFirst};
-ghost use Rattle.wtransport_proto.specs.Exchange.{SendDid, FrameDid, MapDid, ReadsBack, Sent, Received, UnlessRead, SentBack};
+ghost use Rattle.wtransport_proto.specs.Exchange.{WaitsAtMost, SendDid, FrameDid, MapDid, ReadsBack, Sent, Received, UnlessRead, SentBack};
 
 use crate::stream::{IoReadError, IoWriteError, ReadsFrames};
 use std::alloc::Global;
@@ -100,6 +100,7 @@ fn next_frame<K: ReadsFrames, S: AsyncRead>(
     ensures read { HasModel (S.model source.old) (S.model source.new)
         (FrameDid K.role (K.first stream.old) (K.first stream.new) turns result) }
     ensures asks { HasModel (S.model source.old) (S.model source.new) (PollsAtMost (4112 * turns)) }
+    ensures waits { HasModel (S.model source.old) (S.model source.new) (WaitsAtMost turns) }
 {
     let mut reading = FrameReading::new(alloc);
     for _turn in 0..turns {
@@ -137,6 +138,7 @@ pub fn receive<K: ReadsFrames, S: AsyncRead>(
     ensures back { (m : List Field) → IsMap m → AreTexts m
         → HasModel (S.model source.old) (S.model source.new) (ReadsBack K.role m turns result) }
     ensures asks { HasModel (S.model source.old) (S.model source.new) (PollsAtMost (4112 * turns)) }
+    ensures waits { HasModel (S.model source.old) (S.model source.new) (WaitsAtMost turns) }
 {
     let frame = next_frame(alloc, stream, source, turns)?;
     match frame.kind() {
@@ -170,6 +172,7 @@ pub fn send_and_receive<W: AsyncWrite, K: ReadsFrames, S: AsyncRead>(
     ensures received { HasModel (S.model source.old) (S.model source.new)
         (Received K.role (K.first stream.old) (K.first stream.new) turns result) }
     ensures asks { HasModel (S.model source.old) (S.model source.new) (PollsAtMost (4112 * turns)) }
+    ensures waits { HasModel (S.model source.old) (S.model source.new) (WaitsAtMost turns) }
     ensures unread { UnlessRead result ((stream.new ≡ stream.old) × (source.new ≡ source.old)) }
     ensures too_long { result ≡ Err (ExchangeError.Frame GenerateError.PayloadTooLong)
         → 2 ^ 62 ≤ length (payload headers.now) }

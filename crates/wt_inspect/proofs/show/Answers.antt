@@ -1,7 +1,7 @@
 use Rattle.wt_inspect.proofs.show.Goals as goal
 
-pub returns : goal.returns
-returns c = record {
+pub returns-clause-shows : goal.returns-clause-shows
+returns-clause-shows c = record {
   inspection = c.in_ok-inspection.inspection;
   tiles = c.in_ok-inspection.ensures.tiles;
   read = c.in_ok-inspection.ensures.read;

@@ -1,7 +1,7 @@
 //! Polled reading of a variable-length integer, or into a buffer.
 ghost use Rattle.std.specs.Prelude.{◌≡◌, ℕ, ◌<◌, ◌≤◌, List, [], None, length, take, Ok};
 ghost use Rattle.wtp_core.specs.Source.{HasModel};
-ghost use Rattle.wtp_core.specs.Polled.{PollsAtMost, WaitsAs};
+ghost use Rattle.wtp_core.specs.Polled.{IsPaced, PollsAtMost, WaitsAs};
 ghost use Rattle.wtp_core.specs.Varint.{number_at};
 ghost use Rattle.wtp_core.specs.VarintLenNeeded.{varint_len_needed, IsCutNumber, varint_need_most, varint_need_grows};
 ghost use Rattle.wtp_core.specs.Get.{VarintPolled, VarintGiven, BufferPolled, BufferGiven};
@@ -72,7 +72,7 @@ impl GetVarint {
     }
 
     /// Reads until the number is complete or the source gives no more. Calls the source at most 8
-    /// times, and does not allocate.
+    /// times, and at most once more than it gives bytes, and does not allocate.
     ///
     /// Returns the number, and is then reset; `Pending` if the source was not ready, after which
     /// the source is not called again; or the reason why the source gave no more bytes. It may be
@@ -85,6 +85,7 @@ impl GetVarint {
             (VarintPolled result self.old self.new) }
         ensures waits { HasModel (S.model source.old) (S.model source.new) (WaitsAs result) }
         ensures asks { HasModel (S.model source.old) (S.model source.new) (PollsAtMost 8) }
+        ensures paced { HasModel (S.model source.old) (S.model source.new) IsPaced }
     {
         match fill_prefix::<VarintPrefix, S>(source, &mut self.bytes, &mut self.len) {
             Ok(()) => {}
@@ -136,6 +137,7 @@ impl<'a> GetBuffer<'a> {
             (BufferPolled result (taken_of self.old) (taken_of self.new)) }
         ensures waits { HasModel (S.model source.old) (S.model source.new) (WaitsAs result) }
         ensures asks { HasModel (S.model source.old) (S.model source.new) (PollsAtMost (room_of self.old)) }
+        ensures paced { HasModel (S.model source.old) (S.model source.new) IsPaced }
         ensures finished { length (taken_of self.old) ≡ room_of self.old
             → (source.new ≡ source.old) × (result ≡ Polled.Ready (Ok tt))
             × (buffer_of self.new ≡ buffer_of self.old) }

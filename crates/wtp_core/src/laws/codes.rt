@@ -1,5 +1,5 @@
 //! Laws of error codes and their numbers.
-ghost use Rattle.std.specs.Prelude.{◌≡◌, ℕ, ◌-◌, ◌<◌, ◌≤◌, ◌^◌, Ok};
+ghost use Rattle.std.specs.Prelude.{◌≡◌, ℕ, ◌-◌, ◌<◌, ◌≤◌, ◌^◌, Ok, IsTrue, ◌↔◌};
 ghost use Rattle.wtp_core.specs.declared.error.ErrorCode.{ErrorCode};
 ghost use Rattle.wtp_core.specs.ErrorCodes.{code_number};
 ghost use Rattle.wtp_core.specs.ErrorScope.{scope_of};
@@ -57,4 +57,11 @@ pub fn application_and_back(code: u32) -> Result<u32, NotAnApplicationCode>
     ensures { result ≡ Ok code }
 {
     from_http3(to_http3(code))
+}
+
+/// Codes are equal exactly if their numbers are.
+pub fn codes_compare(a: Code, b: Code) -> bool
+    ensures { IsTrue result ↔ (a ≡ b) }
+{
+    a == b
 }

@@ -76,8 +76,8 @@ fn most_bytes(text: &[u8]) -> usize
 
 /// Replaces the contents of `out` with the decoded text, and returns whether the text is ASCII. Few
 /// bytes are tested for that, because every short word stands for an ASCII byte. If the capacity of
-/// `out` is less than twice the length of the encoded text, allocates once, twice that length: more
-/// than enough, and quickly computed.
+/// `out` is less than twice the length of the encoded text, allocates once, at least twice that
+/// length: more than enough, and quickly computed.
 ///
 /// Returns [`HuffmanError::Invalid`] if the bytes are not code words followed by fewer than eight
 /// one bits (RFC 7541, section 5.2), and [`HuffmanError::Memory`] if an allocation fails. After an

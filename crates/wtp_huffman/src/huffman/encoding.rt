@@ -53,8 +53,8 @@ fn room_for(text: &[u8]) -> usize
 /// Appends the code words of a text, padded with ones to a whole byte (RFC 7541, section 5.2).
 ///
 /// Returns [`AllocError`] if allocation fails. This cannot happen if `out` has room for the encoded
-/// text and eight more bytes. After an error, `out` still begins with its old contents, and may
-/// contain part of the encoded text after them. An empty text never fails.
+/// text and eight more bytes. After an error, `out` still begins with its old contents, and what
+/// follows is unspecified. An empty text never fails.
 pub fn append(out: &mut Vec<u8>, text: &[u8]) -> Result<(), AllocError>
     ensures coded { OnOk result (AppendsHuffman text.now out.old.items out.new.items) }
     ensures front { BeginsWith out.old.items out.new.items }

@@ -342,7 +342,7 @@ pub fn write(out: &mut Vec<u8>, name: &str, value: &str) -> Result<(), AllocErro
     is_text(value);
     write_by(
         out,
-        static_table::first_entry(name),
+        static_table::first_entry_of(name.as_bytes()),
         name.as_bytes(),
         value.as_bytes(),
     )

@@ -1,9 +1,10 @@
-//! The static table (RFC 9204, section 3.1 and Appendix A), and its names in byte order.
+//! The static table (RFC 9204, section 3.1 and Appendix A), and where its names and fields are looked
+//! up.
 
-ghost use Rattle.std.specs.Prelude.{◌≡◌, ℕ, option_map, slice_get, IfSome, IfNone, Contains};
+ghost use Rattle.std.specs.Prelude.{◌≡◌, ◌+◌, ◌<◌, Decides, Some, option_map, slice_get, slice_index};
 ghost use Rattle.wtp_qpack.specs.Field.{fields_of_texts, field_of_texts};
-ghost use Rattle.wtp_qpack.specs.StaticTable.{static_table, entry_at, first_entry};
-ghost use Rattle.wtp_qpack.specs.StaticNames.{name_indices, static_names_of, AreOrdered};
+ghost use Rattle.wtp_qpack.specs.StaticTable.{static_table, entry_at, first_entry, IsNamed, FindsStatic};
+ghost use Rattle.wtp_qpack.specs.StaticSlots.{byte_at, name_slot, value_slot, field_slot};
 
 /// Names and values, by index.
 pub static ENTRIES: [(&str, &str); 99] = [
@@ -117,60 +118,42 @@ pub static ENTRIES: [(&str, &str); 99] = [
     ("x-frame-options", "sameorigin"),
 ];
 
-/// The names in byte order, each with the index of its first entry.
-pub static NAMES: [(&str, usize); 52] = [
-    (":authority", 0),
-    (":method", 15),
-    (":path", 1),
-    (":scheme", 22),
-    (":status", 24),
-    ("accept", 29),
-    ("accept-encoding", 31),
-    ("accept-language", 72),
-    ("accept-ranges", 32),
-    ("access-control-allow-credentials", 73),
-    ("access-control-allow-headers", 33),
-    ("access-control-allow-methods", 76),
-    ("access-control-allow-origin", 35),
-    ("access-control-expose-headers", 79),
-    ("access-control-request-headers", 80),
-    ("access-control-request-method", 81),
-    ("age", 2),
-    ("alt-svc", 83),
-    ("authorization", 84),
-    ("cache-control", 36),
-    ("content-disposition", 3),
-    ("content-encoding", 42),
-    ("content-length", 4),
-    ("content-security-policy", 85),
-    ("content-type", 44),
-    ("cookie", 5),
-    ("date", 6),
-    ("early-data", 86),
-    ("etag", 7),
-    ("expect-ct", 87),
-    ("forwarded", 88),
-    ("if-modified-since", 8),
-    ("if-none-match", 9),
-    ("if-range", 89),
-    ("last-modified", 10),
-    ("link", 11),
-    ("location", 12),
-    ("origin", 90),
-    ("purpose", 91),
-    ("range", 55),
-    ("referer", 13),
-    ("server", 92),
-    ("set-cookie", 14),
-    ("strict-transport-security", 56),
-    ("timing-allow-origin", 93),
-    ("upgrade-insecure-requests", 94),
-    ("user-agent", 95),
-    ("vary", 59),
-    ("x-content-type-options", 61),
-    ("x-forwarded-for", 96),
-    ("x-frame-options", 97),
-    ("x-xss-protection", 62),
+/// For each slot, the index of the first entry of the one name that may have it, or 99.
+static NAME_SLOTS: [u8; 256] = [
+    99, 99, 99, 99, 99, 99, 99, 99, 99, 29, 99, 99, 99, 99, 7, 99, 99, 99, 99, 99, 5, 93, 99, 83,
+    6, 99, 99, 99, 99, 99, 97, 96, 99, 99, 99, 99, 99, 99, 99, 62, 99, 99, 99, 99, 99, 99, 99, 99,
+    99, 99, 99, 99, 99, 99, 32, 99, 87, 99, 99, 99, 99, 99, 99, 99, 84, 99, 99, 88, 99, 99, 99, 56,
+    72, 99, 99, 44, 99, 99, 99, 31, 99, 86, 36, 99, 99, 99, 61, 99, 89, 94, 11, 99, 99, 99, 99, 4,
+    99, 99, 99, 99, 99, 99, 99, 99, 99, 42, 99, 99, 99, 99, 99, 99, 99, 99, 99, 99, 99, 99, 99, 99,
+    99, 99, 99, 12, 9, 99, 99, 99, 90, 99, 3, 99, 99, 99, 99, 99, 99, 99, 99, 99, 99, 99, 99, 99,
+    99, 55, 99, 99, 99, 99, 85, 99, 99, 10, 99, 91, 8, 99, 99, 13, 92, 99, 99, 99, 99, 99, 1, 99,
+    99, 99, 35, 99, 99, 76, 99, 22, 99, 15, 99, 99, 99, 99, 99, 24, 59, 99, 99, 33, 99, 99, 99, 99,
+    81, 99, 99, 79, 14, 99, 99, 99, 99, 99, 99, 80, 99, 99, 0, 99, 99, 99, 99, 99, 99, 73, 99, 99,
+    99, 99, 99, 95, 99, 99, 99, 99, 99, 99, 99, 99, 99, 99, 99, 99, 2, 99, 99, 99, 99, 99, 99, 99,
+    99, 99, 99, 99, 99, 99, 99, 99, 99, 99, 99, 99, 99, 99, 99, 99,
+];
+
+/// For the first entry of each name, the slot from which on its values have theirs.
+static STARTS: [u8; 99] = [
+    1, 3, 0, 7, 1, 9, 10, 13, 14, 45, 51, 59, 65, 70, 72, 20, 0, 0, 0, 0, 0, 0, 7, 0, 0, 0, 0, 0,
+    0, 6, 0, 60, 50, 21, 0, 74, 54, 0, 0, 0, 0, 0, 1, 0, 27, 0, 0, 0, 0, 0, 0, 0, 0, 0, 0, 68, 24,
+    0, 0, 28, 0, 78, 80, 0, 0, 0, 0, 0, 0, 0, 0, 0, 82, 46, 0, 0, 50, 0, 0, 69, 67, 42, 0, 69, 86,
+    84, 59, 89, 90, 91, 92, 87, 94, 93, 67, 97, 98, 40, 0,
+];
+
+/// For each slot, the index of the one entry that may have it, or 99.
+static FIELD_SLOTS: [u8; 256] = [
+    64, 0, 26, 69, 27, 43, 1, 3, 29, 5, 6, 42, 66, 7, 8, 70, 2, 4, 63, 24, 25, 16, 65, 75, 67, 68,
+    71, 28, 49, 46, 17, 22, 23, 30, 15, 33, 60, 57, 34, 54, 50, 19, 18, 45, 58, 9, 20, 53, 21, 47,
+    56, 10, 81, 59, 44, 52, 51, 48, 36, 11, 76, 73, 41, 77, 38, 12, 98, 39, 82, 97, 13, 78, 14, 74,
+    31, 32, 35, 55, 61, 40, 37, 62, 72, 79, 80, 83, 84, 85, 86, 87, 88, 89, 90, 91, 92, 93, 94, 95,
+    96, 99, 99, 99, 99, 99, 99, 99, 99, 99, 99, 99, 99, 99, 99, 99, 99, 99, 99, 99, 99, 99, 99, 99,
+    99, 99, 99, 99, 99, 99, 99, 99, 99, 99, 99, 99, 99, 99, 99, 99, 99, 99, 99, 99, 99, 99, 99, 99,
+    99, 99, 99, 99, 99, 99, 99, 99, 99, 99, 99, 99, 99, 99, 99, 99, 99, 99, 99, 99, 99, 99, 99, 99,
+    99, 99, 99, 99, 99, 99, 99, 99, 99, 99, 99, 99, 99, 99, 99, 99, 99, 99, 99, 99, 99, 99, 99, 99,
+    99, 99, 99, 99, 99, 99, 99, 99, 99, 99, 99, 99, 99, 99, 99, 99, 99, 99, 99, 99, 99, 99, 99, 99,
+    99, 99, 99, 99, 99, 99, 99, 99, 99, 99, 99, 99, 99, 99, 99, 99, 99, 99, 99, 99, 99, 99, 99, 99,
+    99, 99, 99, 99, 99, 99, 99, 99, 99, 99, 99, 99, 99, 99,
 ];
 
 /// Returns the whole table.
@@ -195,59 +178,106 @@ pub fn entry(index: u64) -> Option<(&'static str, &'static str)>
     entry_in(table(), index)
 }
 
-/// Returns the names that start with a byte, in byte order.
-#[tactic(auto, unfolding(crate::specs::StaticNames::static_names, crate::specs::StaticNames::static_names_of))]
-fn names_of(first: u8) -> &'static [(&'static str, usize)]
-    ensures { name_indices result.now ≡ static_names_of first }
+/// Returns the byte at a place of a text, or 0 past its end.
+#[inline(always)]
+fn byte_at(text: &[u8], at: usize) -> usize
+    ensures value { result ≡ byte_at text.now at }
+    ensures few { result < 256 }
 {
-    match first {
-        b':' => &NAMES[..5],
-        b'a' => &NAMES[5..19],
-        b'c' => &NAMES[19..26],
-        b'd' => &NAMES[26..27],
-        b'e' => &NAMES[27..30],
-        b'f' => &NAMES[30..31],
-        b'i' => &NAMES[31..34],
-        b'l' => &NAMES[34..37],
-        b'o' => &NAMES[37..38],
-        b'p' => &NAMES[38..39],
-        b'r' => &NAMES[39..41],
-        b's' => &NAMES[41..44],
-        b't' => &NAMES[44..45],
-        b'u' => &NAMES[45..47],
-        b'v' => &NAMES[47..48],
-        b'x' => &NAMES[48..],
-        _ => &[],
+    match text.get(at) {
+        Some(byte) => *byte as usize,
+        None => 0,
     }
 }
 
-/// Returns the index of a name, by binary search.
-fn index_in(names: &[(&str, usize)], name: &str) -> Option<usize>
-    ensures found { IfSome result (λ k. Contains (name_indices names.now) (name.now, k)) }
-    ensures absent { AreOrdered (name_indices names.now)
-        → IfNone result ((k : ℕ) → ¬ Contains (name_indices names.now) (name.now, k)) }
+/// Returns the slot of a name.
+#[inline(always)]
+#[tactic(auto, unfolding(crate::specs::StaticSlots::name_slot))]
+fn name_slot(name: &[u8]) -> usize
+    ensures value { result ≡ name_slot name.now }
+    ensures within { result < 256 }
 {
-    match names.binary_search_by_key(&name, |known| known.0) {
-        Ok(place) => Some(names[place].1),
-        Err(_) => None,
+    let last_but_one = byte_at(name, name.len().saturating_sub(2));
+    (name.len() % 32 * 8 + byte_at(name, 0) * 9 + last_but_one) % 256
+}
+
+/// Returns how many slots after the first of its name a value has its slot.
+#[inline(always)]
+#[tactic(auto, unfolding(crate::specs::StaticSlots::value_slot))]
+fn value_slot(value: &[u8]) -> usize
+    ensures value { result ≡ value_slot value.now }
+    ensures within { result < 32 }
+{
+    let last = byte_at(value, value.len().saturating_sub(1));
+    let third_last = byte_at(value, value.len().saturating_sub(3));
+    (byte_at(value, 6) * 2 + last * 11 + third_last * 2) % 32
+}
+
+/// Returns the index that a slot of names has.
+#[inline(always)]
+fn named_at(slot: usize) -> usize
+    requires { slot < 256 }
+    ensures { result ≡ slice_index NAME_SLOTS slot }
+{
+    NAME_SLOTS[slot] as usize
+}
+
+/// Returns the index that the slot of a field has, by the first entry of its name.
+#[inline(always)]
+#[tactic(auto, unfolding(crate::specs::StaticSlots::field_slot))]
+fn field_at(first: u64, value: &[u8]) -> u64
+    requires { first < 99 }
+    ensures { result ≡ slice_index FIELD_SLOTS (field_slot first value.now) }
+{
+    let slot = (STARTS[first as usize] as usize + value_slot(value)) % 256;
+    FIELD_SLOTS[slot] as u64
+}
+
+/// Returns whether the entry of an index has this name.
+#[tactic(auto, using(crate::proofs::StaticLemmas::decisions))]
+fn has_name(index: u64, name: &[u8]) -> bool
+    ensures { Decides result (IsNamed index name.now) }
+{
+    match entry(index) {
+        Some((known, _)) => known.as_bytes() == name,
+        None => false,
     }
 }
 
-/// Returns the index of the first entry of a name. It is looked up among the names that start with
-/// the same byte.
-pub fn first_entry(name: &str) -> Option<usize>
-    ensures { result ≡ first_entry name.now }
+/// Returns whether the entry of an index has this name and value.
+#[tactic(auto, using(crate::proofs::StaticLemmas::decisions))]
+fn is_entry(index: u64, name: &[u8], value: &[u8]) -> bool
+    ensures { Decides result (entry_at index ≡ Some (name.now, value.now)) }
 {
-    let first = name.as_bytes().first()?;
-    index_in(names_of(*first), name)
+    match entry(index) {
+        Some((known, text)) => text.as_bytes() == value && known.as_bytes() == name,
+        None => false,
+    }
 }
 
-/// The same for a name that need not be UTF-8. All names of the table are.
+/// Returns the index of the first entry of a name.
+#[tactic(auto, using(crate::proofs::StaticLemmas::name_found, crate::proofs::StaticLemmas::name_absent))]
 pub fn first_entry_of(name: &[u8]) -> Option<usize>
     ensures { result ≡ first_entry name.now }
 {
-    match str::from_utf8(name) {
-        Ok(name) => first_entry(name),
-        Err(_) => None,
+    let index = named_at(name_slot(name));
+    if has_name(index as u64, name) {
+        Some(index)
+    } else {
+        None
+    }
+}
+
+/// Returns the index of the entry that has this name and value, where the first entry with the name
+/// is given; or `None` if there is none.
+pub fn entry_of(first: u64, name: &[u8], value: &[u8]) -> Option<u64>
+    requires { first_entry name.now ≡ Some first }
+    ensures { FindsStatic (name.now, value.now) result }
+{
+    let index = field_at(first, value);
+    if is_entry(index, name, value) {
+        Some(index)
+    } else {
+        None
     }
 }

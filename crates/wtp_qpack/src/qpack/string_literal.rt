@@ -1,7 +1,7 @@
 //! String literals (RFC 7541, section 5.2; RFC 9204, section 4.1.2).
 
 ghost use Rattle.std.specs.Prelude.{◌≡◌, ◌+◌, ◌-◌, ◌*◌, ◌^◌, ◌<◌, ◌≤◌, ◌++◌, length, take, drop};
-ghost use Rattle.std.specs.Prelude.{IfOk, IfErr, OnOk, OnErr, SomeIff, IsTrue, true, Err};
+ghost use Rattle.std.specs.Prelude.{IsSome, IfOk, IfErr, OnOk, OnErr, SomeIff, IsTrue, true, Err};
 ghost use Rattle.std.specs.Vec.{vec_len, vec_capacity};
 ghost use Rattle.wtp_huffman.specs.Huffman.{coded_len};
 ghost use Rattle.wtp_huffman.specs.HuffmanEncoding.{BeginsWith};
@@ -124,6 +124,7 @@ pub fn read<'a, const N: u32>(
     ensures read { GivesUnlessMemory (seen_string (drop (length room.old.items) room.new.items))
         result (string_in texts N bytes.now) }
     ensures front { take (length room.old.items) room.new.items ≡ room.old.items }
+    ensures plain { IfOk result (λ x. IsSome x.0 → room.new.items ≡ room.old.items) }
     ensures size { IfOk result (λ x. vec_len room.new + 2 * length x.1.now
         ≤ vec_len room.old + 2 * length bytes.now) }
     ensures once { Grows (is_coded N bytes.now) capacity

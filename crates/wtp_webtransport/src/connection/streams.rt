@@ -1,7 +1,7 @@
 //! Streams of sessions, streams that end before their last byte, and datagrams.
 ghost use Rattle.std.specs.Prelude.{◌≡◌, Ok, Err, MatchResult, option_map};
 ghost use Rattle.wtp_webtransport.specs.Events.{told_of};
-ghost use Rattle.wtp_webtransport.specs.Joining.{joins, resets, reset_told, stops_half, abandons, joining_of, joined_told, stops, takes, after_datagram};
+ghost use Rattle.wtp_webtransport.specs.Joining.{joins, resets, reset_told, stops_half, abandons, overflows, joining_of, joined_told, stops, takes, after_datagram};
 
 use crate::connection::Connection;
 use crate::event::{Event, Waits};
@@ -97,6 +97,25 @@ impl Connection {
             Event::SessionLost
         } else {
             Event::More
+        }
+    }
+
+    /// Says that more bytes of a stream wait than the caller keeps. The stream is over: its bytes are
+    /// discarded.
+    ///
+    /// Returns `StreamError`, with the code WEBTRANSPORT_BUFFERED_STREAM_REJECTED, if the stream waits
+    /// for its session (draft-ietf-webtrans-http3-02, section 4.5), and otherwise `ConnectionError`, with
+    /// H3_EXCESSIVE_LOAD (RFC 9114, section 10.5). If the stream is over, and after an error of the
+    /// connection, it returns `More`, and nothing changes.
+    pub fn overflow(&mut self, stream: &mut Stream) -> Event<'static>
+        ensures { (told_of result, self.new, stream.new) ≡ overflows self.old stream.old }
+    {
+        if self.over {
+            return Event::More;
+        }
+        match self.streams.overflow(&mut stream.frames) {
+            None => Event::More,
+            Some(fault) => self.close(Fault::Streams(fault)),
         }
     }
 

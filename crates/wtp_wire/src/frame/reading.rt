@@ -118,9 +118,9 @@ impl FrameReading {
     ///
     /// It may be polled again after each of these, with the same source or another one.
     ///
-    /// If the source has a complete frame buffered, it is taken in one call, and a payload of at
-    /// most 40 bytes then usually needs no allocation. This is how it is implemented; the contract
-    /// does not promise it.
+    /// If the source has a complete frame of a known type buffered, and nothing of it was read
+    /// before, it is taken in one call, and a payload of at most 40 bytes then usually needs no
+    /// allocation. This is how it is implemented; the contract does not promise it.
     #[inline(always)]
     pub fn poll<S: AsyncRead>(&mut self, source: &mut S) -> Polled<Result<FrameOwned, IoReadError>>
         ensures was_unfinished { IsUnfinished self.old }

@@ -1,7 +1,7 @@
 //! Polled reading of stream headers.
 ghost use Rattle.std.specs.Prelude.{◌≡◌, ℕ, ◌+◌, ◌<◌, ◌≤◌, List, [], length, take, Ok};
 ghost use Rattle.wtp_core.specs.Source.{HasModel};
-ghost use Rattle.wtp_core.specs.Polled.{PollsAtMost, WaitsAs};
+ghost use Rattle.wtp_core.specs.Polled.{IsPaced, PollsAtMost, WaitsAs};
 ghost use Rattle.wtp_wire.specs.HeaderFront.{Short, header_front};
 ghost use Rattle.wtp_wire.specs.HeaderNeed.{header_need, header_need_most, header_need_grows};
 ghost use Rattle.wtp_wire.specs.HeaderPolling.{HeaderPolled, HeaderGiven, IsWhole};
@@ -136,6 +136,7 @@ impl HeaderReading {
             (HeaderPolled result self.old self.new) }
         ensures waits { HasModel (S.model source.old) (S.model source.new) (WaitsAs result) }
         ensures asks { HasModel (S.model source.old) (S.model source.new) (PollsAtMost 16) }
+        ensures paced { HasModel (S.model source.old) (S.model source.new) IsPaced }
     {
         match fill_prefix::<HeaderPrefix, S>(source, &mut self.bytes, &mut self.len) {
             Ok(()) => {}

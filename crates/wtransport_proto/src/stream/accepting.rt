@@ -122,9 +122,10 @@ impl BiAccepting {
     /// - `Failed(_, IO(error))`: the source gave no more bytes. The error is `ImmediateFin` if the
     ///   source ended and no byte is held.
     ///
-    /// Each returned state holds the bytes received of a partial frame, and loses none of them. It
-    /// may be polled again, with the same source or another one. `Failed` leaves the stream as
-    /// `read_frame_async` does: a frame that was not allowed counts as read.
+    /// Each returned state holds the bytes received of a partial frame, or skips them if they are
+    /// the payload of an unknown one, and loses none of them. It may be polled again, with the same
+    /// source or another one. `Failed` leaves the stream as `read_frame_async` does: a frame that
+    /// was not allowed counts as read.
     pub fn poll<S: AsyncRead>(mut self, source: &mut S) -> BiAccepted
         ensures was_unfinished { IsUnfinished self.reading }
         ensures unfinished { IsUnfinished (held_in result) }

@@ -158,8 +158,9 @@ impl StreamUniRemoteH3 {
     /// - `Pending`: the source was not ready. `NoMemory`: allocation failed for a payload.
     /// - `Again`: an unknown frame was skipped, or 4096 bytes of its payload.
     ///
-    /// The reading holds the bytes received of a frame, and loses nothing. It may be polled again
-    /// after each of these, with the same source or another.
+    /// The reading holds the bytes received of a frame, or skips them if they are the payload of an
+    /// unknown one, and loses nothing. It may be polled again after each of these, with the same
+    /// source or another.
     pub fn read_frame_async<S: AsyncRead>(
         &mut self,
         reading: &mut FrameReading,

@@ -1,5 +1,5 @@
-use Rattle.std.proofs.Common.{◌≡◌, ◌/◌, length, drop}
-use Rattle.wtp_dynamic_encoder.specs.Hashing.{mixed, word_of, hash_words}
+use Rattle.std.proofs.Common.{◌≡◌, ◌/◌, length}
+use Rattle.wtp_dynamic_encoder.specs.Hashing.{mixed, hash_words}
 use Rattle.wtp_dynamic_encoder.proofs.hash.hash_text.Given as goal
 
 abbrev pub invariant-loop-word : goal.invariant-loop-word
@@ -8,6 +8,3 @@ invariant-loop-word l =
 
 abbrev pub decreases-loop-word : goal.decreases-loop-word
 decreases-loop-word l = length l.rest
-
-abbrev pub invariant-loop-byte : goal.invariant-loop-byte
-invariant-loop-byte l = word_of l.last (drop l.byte-index l.byte-items) ≡ word_of 0 l.byte-items

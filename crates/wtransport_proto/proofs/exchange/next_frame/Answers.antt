@@ -1,6 +1,6 @@
 use Rattle.std.proofs.Common.{◌≡◌, inl, inr, arith}
 use Rattle.wtransport_proto.proofs.DriveLemmas.{first_same, first_on}
-use Rattle.wtransport_proto.proofs.ExchangeLemmas.{told_start, told_waiting, told_unknown, told_memory, told_taken, told_broken, told_waited, nothing_held, asks_start, asks_on, asks_end}
+use Rattle.wtransport_proto.proofs.ExchangeLemmas.{told_start, told_waiting, told_unknown, told_memory, told_taken, told_broken, told_waited, nothing_held, asks_start, asks_on, asks_end, waits_start, waits_on, waits_end}
 use Rattle.wtransport_proto.proofs.exchange.next_frame.Goals as goal
 
 pub loop-turn-init : goal.loop-turn-init
@@ -10,6 +10,7 @@ loop-turn-init g c = record {
   changes = first_same g.K.ReadsFrames.first c.args.stream.now;
   model = told_start (g.S.AsyncRead.model c.args.source.now) g.K.ReadsFrames.role (g.K.ReadsFrames.first c.args.stream.now) _ c.new-reading.ensures;
   asks = asks_start (g.S.AsyncRead.model c.args.source.now);
+  waits = waits_start (g.S.AsyncRead.model c.args.source.now);
 }
 
 pub loop-turn-preserved : goal.loop-turn-preserved
@@ -26,6 +27,7 @@ loop-turn-preserved g c = record {
         c.loop-turn._turn c.loop-turn.reading c.read_frame_async.new.reading c.loop-turn.invariant.model (rw e at c.read_frame_async.ensures.polled) c.read_frame_async.ensures.asks
   ];
   asks = asks_on (g.S.AsyncRead.model c.args.source.now) (g.S.AsyncRead.model c.loop-turn.source) (g.S.AsyncRead.model c.read_frame_async.new.source) c.loop-turn._turn c.loop-turn.invariant.asks c.read_frame_async.ensures.asks;
+  waits = waits_on _ (g.S.AsyncRead.model c.args.source.now) (g.S.AsyncRead.model c.loop-turn.source) (g.S.AsyncRead.model c.read_frame_async.new.source) c.loop-turn._turn c.loop-turn.invariant.waits c.read_frame_async.ensures.waits;
 }
 
 pub returns-in-Ready-Ok : goal.returns-in-Ready-Ok
@@ -41,6 +43,7 @@ returns-in-Ready-Ok g c =
       changes = first_on g.K.ReadsFrames.first _ _ _ c.loop-turn.invariant.changes c.read_frame_async.ensures.changes;
       read = told_taken s t u g.K.ReadsFrames.role f0 f1 f2 c.loop-turn._turn c.args.turns c.loop-turn.reading c.read_frame_async.new.reading c.in-Ready-Ok.frame c.loop-turn.invariant.model (rw c.in-Ready-Ok.field-0-is at c.in-Ready-Ok.ensures.polled);
       asks = asks_end s t u c.loop-turn._turn c.args.turns c.loop-turn-test.true c.loop-turn.invariant.asks c.read_frame_async.ensures.asks;
+      waits = waits_end s t u c.loop-turn._turn c.args.turns c.loop-turn-test.true c.loop-turn.invariant.waits c.in-Ready-Ok.ensures.waits;
     }
 
 pub returns-in-Ready-Err : goal.returns-in-Ready-Err
@@ -56,6 +59,7 @@ returns-in-Ready-Err g c =
       changes = first_on g.K.ReadsFrames.first _ _ _ c.loop-turn.invariant.changes c.read_frame_async.ensures.changes;
       read = told_broken s t u g.K.ReadsFrames.role f0 f1 f2 c.loop-turn._turn c.args.turns c.loop-turn.reading c.read_frame_async.new.reading c.in-Ready-Err.fault c.loop-turn.invariant.model (rw c.in-Ready-Err.field-0-is at c.in-Ready-Err.ensures.polled);
       asks = asks_end s t u c.loop-turn._turn c.args.turns c.loop-turn-test.true c.loop-turn.invariant.asks c.read_frame_async.ensures.asks;
+      waits = waits_end s t u c.loop-turn._turn c.args.turns c.loop-turn-test.true c.loop-turn.invariant.waits c.in-Ready-Err.ensures.waits;
     }
 
 pub returns-in-NoMemory : goal.returns-in-NoMemory
@@ -71,6 +75,7 @@ returns-in-NoMemory g c =
       changes = first_on g.K.ReadsFrames.first _ _ _ c.loop-turn.invariant.changes c.read_frame_async.ensures.changes;
       read = told_memory s t u g.K.ReadsFrames.role f0 f1 f2 c.loop-turn._turn c.args.turns c.loop-turn.reading c.read_frame_async.new.reading c.loop-turn-test.true c.read_frame_async.ensures.unfinished c.loop-turn.invariant.model c.in-NoMemory.ensures.polled c.read_frame_async.ensures.asks;
       asks = asks_end s t u c.loop-turn._turn c.args.turns c.loop-turn-test.true c.loop-turn.invariant.asks c.read_frame_async.ensures.asks;
+      waits = waits_end s t u c.loop-turn._turn c.args.turns c.loop-turn-test.true c.loop-turn.invariant.waits c.in-NoMemory.ensures.waits;
     }
 
 pub returns : goal.returns
@@ -82,4 +87,5 @@ returns g c =
       read = told_waited (g.S.AsyncRead.model c.args.source.now) (g.S.AsyncRead.model c.loop-turn.source) g.K.ReadsFrames.role (g.K.ReadsFrames.first c.args.stream.now) (g.K.ReadsFrames.first c.loop-turn.stream)
           c.args.turns c.loop-turn.reading c.loop-turn.invariant.unfinished (rw all at c.loop-turn.invariant.model);
       asks = rw all at c.loop-turn.invariant.asks;
+      waits = rw all at c.loop-turn.invariant.waits;
     }

@@ -52,4 +52,5 @@ returns g c =
       read = other;
       back = λ m ordered texts. told_back s t role first next c.args.turns m (Err (receive.OtherKind c.kind.result)) ordered texts other;
       asks = c.next_frame.ensures.asks;
+      waits = c.next_frame.ensures.waits;
     }

@@ -12,5 +12,5 @@ loop-name-preserved g c =
     c.in_ok-insert.ensures.ok ∙ ap (λ m. put m (c.in-Some.name.now, c.in-Some.value.now)) c.loop-name.invariant
     ∙ sym (lent_push c.loop-name.yielded (c.in-Some.name, c.in-Some.value))
 
-pub returns : goal.returns
-returns g c = rw (← c.into_iter-name-iterator.ensures.into_iter_gives) (c.loop-name.yielded, (c.next.new.self, (c.loop-name.name-iterator, c.loop-name.yielded_by, c.in-None.ensures.steps)), c.loop-name.invariant)
+pub returns-clause-map : goal.returns-clause-map
+returns-clause-map g c = rw (← c.into_iter-name-iterator.ensures.into_iter_gives) (c.loop-name.yielded, (c.next.new.self, (c.loop-name.name-iterator, c.loop-name.yielded_by, c.in-None.ensures.steps)), c.loop-name.invariant)

@@ -1,6 +1,6 @@
 use Rattle.std.proofs.Common.{◌≡◌, ◌≤◌, ◌||◌, ◌++◌, max, false, [], length, take, drop, ◌+◌, ◌-◌, ◌*◌}
-use Rattle.wtp_hold.specs.Holding.{is_early, pending, joined, AreLast}
-use Rattle.wtp_connection.specs.Receiving.{IsFirst, Finds}
+use Rattle.wtp_hold.specs.Holding.{is_early, pending, joined, Passes, AreLast}
+use Rattle.wtp_connection.specs.Receiving.{IsFirst}
 use Rattle.wtp_hold.proofs.hold.Hold.receive.Given as goal
 
 abbrev pub invariant-held : goal.invariant-held
@@ -8,7 +8,7 @@ invariant-held l = record {
   within : l.taken ≤ length l.chunk;
   fresh : l.self.used ≡ 0;
   end : l.self.fin ≡ (l.fn.self.fin || l.fn.fin);
-  finds : Finds l.fn.connection l.fn.stream (joined l.fn.self l.fn.chunk) [] l.connection l.stream (l.self.bytes.items ++ drop l.taken l.chunk);
+  finds : Passes l.fn.connection l.fn.stream (joined l.fn.self l.fn.chunk) l.connection l.stream (l.self.bytes.items ++ drop l.taken l.chunk);
   held : AreLast l.self.bytes.items (joined l.fn.self (take l.taken l.chunk));
   room : length l.self.bytes.items ≤ max l.limit (length (pending l.fn.self));
   empty : pending l.fn.self ≡ [] → (l.self.bytes.items ≡ []) × (l.taken ≡ 0);

@@ -3,7 +3,7 @@ use Rattle.std.proofs.lemmas.List.{take-take}
 use Rattle.wtp_core.proofs.NeedLemmas.{number_at-cut, number_at-whole}
 use Rattle.wtp_core.specs.declared.bytes.error.IoReadError.{IoReadError}
 use Rattle.wtp_core.proofs.WaitLemmas.{interrupted_waits}
-use Rattle.wtp_core.proofs.GetLemmas.{interrupted_plain, interrupted_varint_told, interrupted_varint_given, whole_varint_told, whole_varint_given}
+use Rattle.wtp_core.proofs.GetLemmas.{interrupted_plain, interrupted_varint_told, interrupted_varint_given, whole_varint_told, whole_varint_given, paced_whole, paced_interrupted}
 use Rattle.wtp_core.proofs.bytes.get.GetVarint.poll.Goals as goal
 
 -- the bytes held after the poll start with those held before
@@ -48,3 +48,9 @@ pub returns-clause-polled : goal.returns-clause-polled
 returns-clause-polled g c = rw (← c.self.view_is) (whole_varint_told (g.S.AsyncRead.model c.args.source.now) (g.S.AsyncRead.model c.fill_prefix.new.source) _ _
     (take c.self.inside.len c.self.inside.bytes) (take c.fill_prefix.new.len c.fill_prefix.new.buf)
     (omega (arith, c.in-Ok.ensures.whole, c.fill_prefix.ensures.room, length-take c.fill_prefix.new.len c.fill_prefix.new.buf)) c.in-Some.ensures.found c.in-Ok.ensures.model)
+
+pub returns-in-Err-clause-paced : goal.returns-in-Err-clause-paced
+returns-in-Err-clause-paced g c = paced_interrupted (g.S.AsyncRead.model c.args.source.now) (g.S.AsyncRead.model c.fill_prefix.new.source) c.in-Err.interrupt _ _ c.in-Err.ensures.model
+
+pub returns-clause-paced : goal.returns-clause-paced
+returns-clause-paced g c = paced_whole (g.S.AsyncRead.model c.args.source.now) (g.S.AsyncRead.model c.fill_prefix.new.source) _ _ c.in-Ok.ensures.model

@@ -2,6 +2,7 @@ use Rattle.std.proofs.Common.{◌≡◌, ℕ, ◌≤◌, List, [], take, ◌∙�
 use Rattle.std.proofs.lemmas.List.{take-take}
 use Rattle.wtp_core.specs.VarintLenNeeded.{varint_need_range}
 use Rattle.wtp_wire.specs.HeaderNeed.{header_need_is}
+use Rattle.wtp_core.proofs.GetLemmas.{paced_whole, paced_interrupted}
 use Rattle.wtp_wire.proofs.HeaderPollLemmas.{header_cut, interrupted_header, whole_told, whole_given, interrupted_told, interrupted_given, asks_interrupted}
 use Rattle.wtp_wire.proofs.stream_header.reading.HeaderReading.poll.Goals as goal
 
@@ -44,3 +45,9 @@ returns-clause-given g c = rw (← c.self.view_is) (whole_given _ c.self.inside.
 pub returns-clause-polled : goal.returns-clause-polled
 returns-clause-polled g c = rw (← c.self.view_is) (whole_told (g.S.AsyncRead.model c.args.source.now) (g.S.AsyncRead.model c.fill_prefix.new.source) c.read_whole-answer.result
     (take c.self.inside.len c.self.inside.bytes) (take c.fill_prefix.new.len c.fill_prefix.new.buf) c.read_whole-answer.ensures c.in-Ok.ensures.model)
+
+pub returns-in-Err-clause-paced : goal.returns-in-Err-clause-paced
+returns-in-Err-clause-paced g c = paced_interrupted (g.S.AsyncRead.model c.args.source.now) (g.S.AsyncRead.model c.fill_prefix.new.source) c.in-Err.interrupt _ _ c.in-Err.ensures.model
+
+pub returns-clause-paced : goal.returns-clause-paced
+returns-clause-paced g c = paced_whole (g.S.AsyncRead.model c.args.source.now) (g.S.AsyncRead.model c.fill_prefix.new.source) _ _ c.in-Ok.ensures.model
