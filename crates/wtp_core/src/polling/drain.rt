@@ -9,8 +9,8 @@ use crate::bytes::{AsyncWrite, IoWriteError, Polled, WriteStep};
 /// the bytes taken.
 ///
 /// Returns `Ready(Ok(()))` once all bytes are taken, without calling the sink if none was left.
-/// Otherwise `sent` is less than the length of `bytes`, and a later call continues from there. The
-/// sink is not called again after it returned anything but bytes taken:
+/// Otherwise `sent` is less than the length of `bytes`, and a later call continues from there. It
+/// ends at the first result of the sink that is not a number of bytes taken:
 ///
 /// - `Pending`, `Ready(Err(Stopped))`, `Ready(Err(NotConnected))`: the sink returned that result.
 ///   Its count of this result rose by one, and its other counts did not change.

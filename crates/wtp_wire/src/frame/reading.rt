@@ -107,9 +107,10 @@ impl FrameReading {
     ///
     /// - `Ready(Ok(frame))` or `Ready(Err(Parse(error)))`: the result of `Frame::read` for the
     ///   bytes received and ahead. The source is positioned right after the bytes that
-    ///   `Frame::read` reads. Only the payload is allocated, once, before its first byte is read.
+    ///   `Frame::read` reads.
     /// - `Ready(Err(IO(error)))`: the source gave no more bytes, and there were too few. All bytes
-    ///   received are held, or skipped if they are the payload of an unknown frame.
+    ///   received are held; those of an unknown frame are held until its head is complete, and
+    ///   skipped from then on.
     /// - `Pending`: the source was not ready, and was not called again after that. All bytes
     ///   received are held or skipped, as above.
     /// - `NoMemory`: allocation failed for a payload of 1 to 4096 bytes. All bytes received are
@@ -120,7 +121,8 @@ impl FrameReading {
     ///
     /// If the source has a complete frame of a known type buffered, and nothing of it was read
     /// before, it is taken in one call, and a payload of at most 40 bytes then usually needs no
-    /// allocation. This is how it is implemented; the contract does not promise it.
+    /// allocation. A payload is allocated once, before its first byte is read. This is how it is
+    /// implemented; the contract does not promise it.
     #[inline(always)]
     pub fn poll<S: AsyncRead>(&mut self, source: &mut S) -> Polled<Result<FrameOwned, IoReadError>>
         ensures was_unfinished { IsUnfinished self.old }
