@@ -255,7 +255,7 @@ int wt_settings_read(const uint8_t *payload, size_t length, wt_setting *settings
 /* Writes the payload of a SETTINGS frame: the settings in their order. It allocates, but for none.
    WT_OK, WT_BUFFER_TOO_SMALL: as above. WT_INVALID: a number is 2^62 or more, an identifier is one that HTTP/2
    used, or one that has a name or is reserved for exercise is repeated. WT_MEMORY, only if it would not be
-   WT_INVALID. For n settings it makes at most n (n - 1) / 2 comparisons of identifiers. */
+   WT_INVALID. As it is implemented, n settings take at most n (n - 1) / 2 comparisons of identifiers. */
 int wt_settings_write(const wt_setting *settings, size_t count, uint8_t *out, size_t room,
                       size_t *used);
 

@@ -225,8 +225,9 @@ fn write_pairs(alloc: Global, settings: &[WtSetting]) -> Result<Vec<u8>, AllocEr
 /// shorter than that size, which `used` then is; `out` does not change. Returns `INVALID` if a
 /// number is 2^62 or more, or if a peer would find a fault in the payload: an identifier of HTTP/2,
 /// or a known one that is repeated. Otherwise returns `MEMORY` if allocation failed, which does not
-/// happen for no settings at all. Then nothing changes. For n settings it makes at most n (n - 1) /
-/// 2 comparisons of identifiers.
+/// happen for no settings at all. Then nothing changes.
+///
+/// As it is implemented, n settings take at most n (n - 1) / 2 comparisons of identifiers.
 #[unsafe(no_mangle)]
 pub extern "C" fn wt_settings_write(
     alloc: Global,

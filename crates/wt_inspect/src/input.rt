@@ -48,7 +48,7 @@ pub fn read_all<R: Read>(alloc: Global, input: &mut R) -> Result<Vec<u8>, Failur
     }
 }
 
-/// Decodes hexadecimal text. Blanks, line ends and `0x` are ignored.
+/// Decodes hexadecimal text. Blanks and line ends are ignored, and `0x` where a byte could begin.
 ///
 /// Returns [`Failure::NotHex`] if the text contains another character or ends after half a byte,
 /// and [`Failure::Memory`] if allocation fails.

@@ -134,7 +134,7 @@ fn add_warning(
     Ok(())
 }
 
-/// Returns whether a section is that of an interim response, with a status from 100 to 199 (RFC
+/// Returns whether a section is that of an interim response, with a status that begins with 1 (RFC
 /// 9114, section 4.1).
 fn is_interim(role: StreamRole, section: &FieldSection) -> bool
     ensures { result ≡ is_interim role section.now }

@@ -17,7 +17,7 @@ pub use settings::{SettingIssue, SettingLine};
 pub struct Inspection {
     /// The items in order. Each byte of the input belongs to exactly one item.
     pub items: Vec<Item>,
-    /// Protocol violations that do not stop reading, in order of their offsets.
+    /// Protocol violations that do not stop reading. No contract says which they are.
     pub warnings: Vec<Warning>,
     /// How the input ends.
     pub end: End,

@@ -5,7 +5,7 @@ use Rattle.std.proofs.lemmas.List.{drop-append-le}
 use Rattle.wtp_core.specs.declared.bytes.poll.Polled.TheVariants.{Ready, Pending, Again, NoMemory}
 use Rattle.wtp_core.specs.Source.{Source, HasModel}
 use Rattle.wtp_core.specs.Polled.{PollsAtMost}
-use Rattle.wtp_core.proofs.TellingLemmas.{telling_map, telling_same, telling_then, telling_both}
+use Rattle.wtp_core.proofs.TellingLemmas.{telling_map, telling_same, telling_then}
 use Rattle.wtp_wire.specs.Content.{Content}
 use Rattle.wtp_wire.specs.Held.{Held, IsUnfinished, Leaves}
 use Rattle.wtransport_proto.specs.declared.stream.error.IoReadError.{IoReadError}
@@ -13,9 +13,9 @@ use Rattle.wtransport_proto.specs.declared.stream.driving.Driven.TheVariants as 
 use Rattle.wtp_wire.specs.Rule.{Role}
 use Rattle.wtp_wire.specs.Run.{Run}
 use Rattle.wtransport_proto.specs.HeldRun.{run_of, size_of}
-use Rattle.wtransport_proto.specs.StreamPolling.{EndsWithFault, Faults, StreamTakesFrame, SkipsUnknown, StreamPolled}
+use Rattle.wtransport_proto.specs.StreamPolling.{EndsWithFault, Faults}
 use Rattle.wtransport_proto.specs.Place.{place_of}
-use Rattle.wtransport_proto.specs.Polls.{TakesSome}
+use Rattle.wtransport_proto.specs.Polls.{TakesSome, PollDid}
 use Rattle.wtransport_proto.proofs.PollsLemmas.{series_start, series_end, series_on}
 use Rattle.wtransport_proto.specs.Driving.{ChangesFirst, after, RunsOn, KeepsPlace, DriveKeeps, DriveDid, DriveWaits, Drove}
 use Rattle.wtransport_proto.proofs.PlaceLemmas.{same_refl, same_then, leaves_place, unknown_place, frame_place, fault_place}
@@ -88,22 +88,22 @@ drove_start role first h fs a none = record {
   series = series_start TakesSome role first h fs a none;
 }
 
-drove_frame : (role : Role) (f0 f1 f2 : Bool) (old mid new : Held) (fs fs' : List Content) (f : Content) (n : ℕ) (a b c : Source) → fs' ≡ fs ++ f ∷ [] → Drove role f0 f1 old mid fs n a b → StreamTakesFrame role f1 f2 mid new f b c → PollsAtMost 4112 b c → Drove role f0 f2 old new fs' (n + 1) a c
-drove_frame role f0 f1 f2 old mid new fs fs' f n a b c is g t k = record {
+drove_frame : (role : Role) (f0 f1 f2 : Bool) (old mid new : Held) (fs fs' : List Content) (f : Content) (n : ℕ) (a b c : Source) → fs' ≡ fs ++ f ∷ [] → Drove role f0 f1 old mid fs n a b → PollDid role (Ready (Ok f)) f1 f2 mid new b c → Drove role f0 f2 old new fs' (n + 1) a c
+drove_frame role f0 f1 f2 old mid new fs fs' f n a b c is g h = let t = h.0 in let k = h.2 in record {
   run = g.run ∙ ap (after fs) (frame_run role f1 f2 mid new f b c t k.ending) ∙ after_more fs f (run_of role f2 new c) ∙ ap (λ (l : List Content). after l (run_of role f2 new c)) (sym is);
   place = same_then (place_of role f0 old a) (place_of role f1 mid b) (place_of role f2 new c) g.place (frame_place role f1 f2 mid new f b c t);
   shorter = let one = g.shorter in let two = framed_size mid new f b c t.decided in omega arith;
   asks = asks_more n a b c g.asks k;
-  series = series_on TakesSome role fs fs' n (Ready (Ok f)) f0 f1 f2 old mid new a b c is tt g.series t;
+  series = series_on TakesSome role fs fs' n (Ready (Ok f)) f0 f1 f2 old mid new a b c is tt g.series h;
 }
 
-drove_unknown : (role : Role) (f0 f1 f2 : Bool) (old mid new : Held) (fs : List Content) (n : ℕ) (a b c : Source) → IsUnfinished mid → Drove role f0 f1 old mid fs n a b → SkipsUnknown f1 f2 mid new b c → PollsAtMost 4112 b c → Drove role f0 f2 old new fs (n + 1) a c
-drove_unknown role f0 f1 f2 old mid new fs n a b c u g t k = record {
+drove_unknown : (role : Role) (f0 f1 f2 : Bool) (old mid new : Held) (fs : List Content) (n : ℕ) (a b c : Source) → IsUnfinished mid → Drove role f0 f1 old mid fs n a b → PollDid role Again f1 f2 mid new b c → Drove role f0 f2 old new fs (n + 1) a c
+drove_unknown role f0 f1 f2 old mid new fs n a b c u g h = let t = h.0 in let k = h.2 in record {
   run = g.run ∙ ap (after fs) (unknown_run role f1 f2 mid new b c t k.ending);
   place = same_then (place_of role f0 old a) (place_of role f1 mid b) (place_of role f2 new c) g.place (unknown_place role f1 f2 mid new b c u t);
   shorter = let one = g.shorter in let two = unknown_size f1 f2 mid new b c t in omega arith;
   asks = asks_more n a b c g.asks k;
-  series = series_on TakesSome role fs fs n Again f0 f1 f2 old mid new a b c (sym (append-nil fs)) tt g.series t;
+  series = series_on TakesSome role fs fs n Again f0 f1 f2 old mid new a b c (sym (append-nil fs)) tt g.series h;
 }
 
 runs_after : (role : Role) (f0 f1 f2 : Bool) (old mid new : Held) (fs : List Content) (n : ℕ) (a b c : Source) → Drove role f0 f1 old mid fs n a b → Leaves mid new b c → f2 ≡ f1 → PollsAtMost 4112 b c → RunsOn role f0 f2 old new fs a c
@@ -150,65 +150,65 @@ told_spent s t role f0 f1 r0 r1 fs polls p =
 
 pub told_still : (s t u : Option Source) (role : Role) (f0 f1 f2 : Bool) (r0 r1 r2 : Held) (fs : List Content) (n polls : ℕ) → n < polls → IsUnfinished r1
     → HasModel s t (Drove role f0 f1 r0 r1 fs n)
-    → HasModel t u (StreamPolled role NoMemory f1 f2 r1 r2) → HasModel t u (PollsAtMost 4112)
+    → HasModel t u (PollDid role NoMemory f1 f2 r1 r2)
     → HasModel s u (DriveDid role driven.NoMemory f0 f2 r0 r2 fs polls)
-told_still s t u role f0 f1 f2 r0 r1 r2 fs n polls lt unfinished p q k =
-    telling_then s t u (Drove role f0 f1 r0 r1 fs n) (λ b c. StreamPolled role NoMemory f1 f2 r1 r2 b c × PollsAtMost 4112 b c) (DriveDid role driven.NoMemory f0 f2 r0 r2 fs polls)
+told_still s t u role f0 f1 f2 r0 r1 r2 fs n polls lt unfinished p q =
+    telling_then s t u (Drove role f0 f1 r0 r1 fs n) (PollDid role NoMemory f1 f2 r1 r2) (DriveDid role driven.NoMemory f0 f2 r0 r2 fs polls)
     (λ a b c g h. (
-      runs_after role f0 f1 f2 r0 r1 r2 fs n a b c g h.0.leaves h.0.flag h.1,
-      keeps_after role f0 f1 r0 r1 r2 fs n polls a b c lt g (leaves_size r1 r2 b c h.0.leaves) h.1,
+      runs_after role f0 f1 f2 r0 r1 r2 fs n a b c g h.0.leaves h.0.flag h.2,
+      keeps_after role f0 f1 r0 r1 r2 fs n polls a b c lt g (leaves_size r1 r2 b c h.0.leaves) h.2,
       place_after role f0 f1 f2 r0 r1 r2 fs n a b c unfinished g h.0.leaves h.0.flag,
-      (n, lt, inr (asks_more n a b c g.asks h.1, series_end TakesSome role fs n NoMemory f0 f1 f2 r0 r1 r2 a b c g.series h.0)),
+      (n, lt, inr (asks_more n a b c g.asks h.2, series_end TakesSome role fs n NoMemory f0 f1 f2 r0 r1 r2 a b c g.series h)),
     ))
-    p (telling_both t u (StreamPolled role NoMemory f1 f2 r1 r2) (PollsAtMost 4112) q k)
+    p q
 
 pub told_waiting : (s t u : Option Source) (role : Role) (f0 f1 f2 : Bool) (r0 r1 r2 : Held) (fs : List Content) (n polls : ℕ) → n < polls → IsUnfinished r1
     → HasModel s t (Drove role f0 f1 r0 r1 fs n)
-    → HasModel t u (StreamPolled role Pending f1 f2 r1 r2) → HasModel t u (PollsAtMost 4112)
+    → HasModel t u (PollDid role Pending f1 f2 r1 r2)
     → HasModel s u (DriveDid role driven.Waiting f0 f2 r0 r2 fs polls)
-told_waiting s t u role f0 f1 f2 r0 r1 r2 fs n polls lt unfinished p q k =
-    telling_then s t u (Drove role f0 f1 r0 r1 fs n) (λ b c. StreamPolled role Pending f1 f2 r1 r2 b c × PollsAtMost 4112 b c) (DriveDid role driven.Waiting f0 f2 r0 r2 fs polls)
+told_waiting s t u role f0 f1 f2 r0 r1 r2 fs n polls lt unfinished p q =
+    telling_then s t u (Drove role f0 f1 r0 r1 fs n) (PollDid role Pending f1 f2 r1 r2) (DriveDid role driven.Waiting f0 f2 r0 r2 fs polls)
     (λ a b c g h. (
-      runs_after role f0 f1 f2 r0 r1 r2 fs n a b c g h.0.0 h.0.1 h.1,
+      runs_after role f0 f1 f2 r0 r1 r2 fs n a b c g h.0.0 h.0.1 h.2,
       let one = g.asks.waits in let two = h.0.2 in omega arith,
-      keeps_after role f0 f1 r0 r1 r2 fs n polls a b c lt g (leaves_size r1 r2 b c h.0.0) h.1,
+      keeps_after role f0 f1 r0 r1 r2 fs n polls a b c lt g (leaves_size r1 r2 b c h.0.0) h.2,
       place_after role f0 f1 f2 r0 r1 r2 fs n a b c unfinished g h.0.0 h.0.1,
-      (n, lt, asks_more n a b c g.asks h.1, series_end TakesSome role fs n Pending f0 f1 f2 r0 r1 r2 a b c g.series h.0),
+      (n, lt, asks_more n a b c g.asks h.2, series_end TakesSome role fs n Pending f0 f1 f2 r0 r1 r2 a b c g.series h),
     ))
-    p (telling_both t u (StreamPolled role Pending f1 f2 r1 r2) (PollsAtMost 4112) q k)
+    p q
 
 pub told_ended : (s t u : Option Source) (role : Role) (f0 f1 f2 : Bool) (r0 r1 r2 : Held) (fs : List Content) (x : IoReadError) (n polls : ℕ) → n < polls → IsUnfinished r1
     → HasModel s t (Drove role f0 f1 r0 r1 fs n)
-    → HasModel t u (StreamPolled role (Ready (Err x)) f1 f2 r1 r2) → HasModel t u (PollsAtMost 4112)
+    → HasModel t u (PollDid role (Ready (Err x)) f1 f2 r1 r2)
     → HasModel s u (DriveDid role (driven.Ended x) f0 f2 r0 r2 fs polls)
-told_ended s t u role f0 f1 f2 r0 r1 r2 fs x n polls lt unfinished p q k =
-    telling_then s t u (Drove role f0 f1 r0 r1 fs n) (λ b c. Faults role f1 f2 r1 r2 x b c × PollsAtMost 4112 b c) (DriveDid role (driven.Ended x) f0 f2 r0 r2 fs polls)
+told_ended s t u role f0 f1 f2 r0 r1 r2 fs x n polls lt unfinished p q =
+    telling_then s t u (Drove role f0 f1 r0 r1 fs n) (PollDid role (Ready (Err x)) f1 f2 r1 r2) (DriveDid role (driven.Ended x) f0 f2 r0 r2 fs polls)
     (λ a b c g h. (
       ended role f0 f1 f2 r0 r1 r2 fs x n a b c g h.0,
       h.0.dry,
-      keeps_after role f0 f1 r0 r1 r2 fs n polls a b c lt g h.0.size h.1,
+      keeps_after role f0 f1 r0 r1 r2 fs n polls a b c lt g h.0.size h.2,
       fault_place role f1 f2 (place_of role f0 r0 a) r1 r2 x b c unfinished g.place h.0,
-      (n, lt, asks_more n a b c g.asks h.1, series_end TakesSome role fs n (Ready (Err x)) f0 f1 f2 r0 r1 r2 a b c g.series h.0),
+      (n, lt, asks_more n a b c g.asks h.2, series_end TakesSome role fs n (Ready (Err x)) f0 f1 f2 r0 r1 r2 a b c g.series h),
     ))
-    p (telling_both t u (Faults role f1 f2 r1 r2 x) (PollsAtMost 4112) q k)
+    p q
 
 pub told_frame : (s t u : Option Source) (role : Role) (f0 f1 f2 : Bool) (r0 r1 r2 : Held) (fs fs' : List Content) (f : Content) (n : ℕ) → fs' ≡ fs ++ f ∷ []
     → HasModel s t (Drove role f0 f1 r0 r1 fs n)
-    → HasModel t u (StreamPolled role (Ready (Ok f)) f1 f2 r1 r2) → HasModel t u (PollsAtMost 4112)
+    → HasModel t u (PollDid role (Ready (Ok f)) f1 f2 r1 r2)
     → HasModel s u (Drove role f0 f2 r0 r2 fs' (n + 1))
-told_frame s t u role f0 f1 f2 r0 r1 r2 fs fs' f n is p q k =
-    telling_then s t u (Drove role f0 f1 r0 r1 fs n) (λ b c. StreamTakesFrame role f1 f2 r1 r2 f b c × PollsAtMost 4112 b c) (Drove role f0 f2 r0 r2 fs' (n + 1))
-    (λ a b c g h. drove_frame role f0 f1 f2 r0 r1 r2 fs fs' f n a b c is g h.0 h.1)
-    p (telling_both t u (StreamTakesFrame role f1 f2 r1 r2 f) (PollsAtMost 4112) q k)
+told_frame s t u role f0 f1 f2 r0 r1 r2 fs fs' f n is p q =
+    telling_then s t u (Drove role f0 f1 r0 r1 fs n) (PollDid role (Ready (Ok f)) f1 f2 r1 r2) (Drove role f0 f2 r0 r2 fs' (n + 1))
+    (λ a b c g h. drove_frame role f0 f1 f2 r0 r1 r2 fs fs' f n a b c is g h)
+    p q
 
 pub told_unknown : (s t u : Option Source) (role : Role) (f0 f1 f2 : Bool) (r0 r1 r2 : Held) (fs : List Content) (n : ℕ) → IsUnfinished r1
     → HasModel s t (Drove role f0 f1 r0 r1 fs n)
-    → HasModel t u (StreamPolled role Again f1 f2 r1 r2) → HasModel t u (PollsAtMost 4112)
+    → HasModel t u (PollDid role Again f1 f2 r1 r2)
     → HasModel s u (Drove role f0 f2 r0 r2 fs (n + 1))
-told_unknown s t u role f0 f1 f2 r0 r1 r2 fs n unfinished p q k =
-    telling_then s t u (Drove role f0 f1 r0 r1 fs n) (λ b c. SkipsUnknown f1 f2 r1 r2 b c × PollsAtMost 4112 b c) (Drove role f0 f2 r0 r2 fs (n + 1))
-    (λ a b c g h. drove_unknown role f0 f1 f2 r0 r1 r2 fs n a b c unfinished g h.0 h.1)
-    p (telling_both t u (SkipsUnknown f1 f2 r1 r2) (PollsAtMost 4112) q k)
+told_unknown s t u role f0 f1 f2 r0 r1 r2 fs n unfinished p q =
+    telling_then s t u (Drove role f0 f1 r0 r1 fs n) (PollDid role Again f1 f2 r1 r2) (Drove role f0 f2 r0 r2 fs (n + 1))
+    (λ a b c g h. drove_unknown role f0 f1 f2 r0 r1 r2 fs n a b c unfinished g h)
+    p q
 
 pub told_start : (s : Option Source) (role : Role) (first : Bool) (h : Held) (fs : List Content) → fs ≡ [] → HasModel s s (Drove role first first h h fs 0)
 told_start s role first h fs none = telling_same s (Drove role first first h h fs 0) (λ a. drove_start role first h fs a none)

@@ -6,7 +6,7 @@ use Rattle.wtp_core.specs.declared.bytes.poll.Polled.{Polled}
 use Rattle.wtp_core.specs.declared.bytes.poll.Polled.TheVariants.{Ready, Pending, Again, NoMemory}
 use Rattle.wtp_core.specs.Source.{Source, HasModel}
 use Rattle.wtp_core.specs.Polled.{PollsAtMost, WaitsAs}
-use Rattle.wtp_core.proofs.TellingLemmas.{telling_map, telling_same, telling_then, telling_both}
+use Rattle.wtp_core.proofs.TellingLemmas.{telling_map, telling_same, telling_then}
 use Rattle.wtp_wire.specs.declared.frame.kind.FrameKind.{FrameKind}
 use Rattle.wtp_wire.specs.declared.frame.kind.FrameKind.TheVariants.{Headers}
 use Rattle.wtp_core.specs.declared.error.Refused.{Refused}
@@ -28,12 +28,12 @@ use Rattle.wtp_wire.specs.Rule.{Role, RemoteBi, LocalBi, RemoteUni, InSession, r
 use Rattle.wtp_wire.specs.Run.{Run, Tail, skip_unknown, run, follows}
 use Rattle.wtransport_proto.specs.HeldRun.{tail_of, run_of}
 use Rattle.wtransport_proto.specs.Reading.{FirstAfter}
-use Rattle.wtransport_proto.specs.StreamPolling.{SourceIsAfter, StreamTakesFrame, Faults, SkipsUnknown, LacksMemory, StreamPolled}
-use Rattle.wtransport_proto.specs.Exchange.{WaitsAtMost, past_front, KeptPlace, Turned, Lacked, Takes, LeftIsAfter, Breaks, FrameDid, MapDid, CameBack, ReadsBack}
+use Rattle.wtransport_proto.specs.StreamPolling.{SourceIsAfter, SkipsUnknown}
+use Rattle.wtransport_proto.specs.Exchange.{WaitsAtMost, past_front, KeptPlace, Turned, Lacked, EndsWith, Takes, LeftIsAfter, Breaks, FrameDid, MapDid, CameBack, ReadsBack}
 use Rattle.wtp_wire.proofs.RunLemmas.{skip_unknown-unknown, skip_unknown-framed, skip_unknown-bad, skip_unknown-big, skip_unknown-short}
 use Rattle.wtp_wire.proofs.RunLaws.{run-allowed}
 use Rattle.wtransport_proto.proofs.HeldRunLemmas.{skip_not_read, leaves_run, leaves_size, unknown_run, unknown_size, run_new}
-use Rattle.wtransport_proto.specs.Polls.{GivesNone}
+use Rattle.wtransport_proto.specs.Polls.{GivesNone, PollDid}
 use Rattle.wtransport_proto.proofs.PollsLemmas.{series_start, series_end, series_on}
 use Rattle.wtransport_proto.proofs.DriveLemmas.{asks_more, asks_last}
 
@@ -90,10 +90,10 @@ turned_start role first h a e = record {
   waited = λ f rest is. (rw e (front_none [] 0 a.ahead refl ∙ is), omega arith);
 }
 
-turned_waiting : (role : Role) (f0 f1 f2 : Bool) (n : ℕ) (mid new : Held) (a b c : Source) → Turned role f0 f1 n mid a b → Leaves mid new b c → f2 ≡ f1 → b.waits < c.waits → PollsAtMost 4112 b c → Turned role f0 f2 (n + 1) new a c
-turned_waiting role f0 f1 f2 n mid new a b c g v e w k = record {
-  kept = kept_still role f0 f1 f2 mid new a b c g.kept v e k.ending;
-  series = series_on GivesNone role [] [] n Pending f0 f1 f2 new_held mid new a b c refl tt g.series (v, e, w);
+turned_waiting : (role : Role) (f0 f1 f2 : Bool) (n : ℕ) (mid new : Held) (a b c : Source) → Turned role f0 f1 n mid a b → PollDid role Pending f1 f2 mid new b c → Turned role f0 f2 (n + 1) new a c
+turned_waiting role f0 f1 f2 n mid new a b c g h = let v = h.0.0 in let w = h.0.2 in record {
+  kept = kept_still role f0 f1 f2 mid new a b c g.kept v h.0.1 h.2.ending;
+  series = series_on GivesNone role [] [] n Pending f0 f1 f2 new_held mid new a b c refl tt g.series h;
   moved = let one = g.moved in omega (arith, leaves_size mid new b c v);
   waited = λ f rest is. let one = g.waited f rest is in let more = one.1 in (v.same ∙ one.0, omega arith);
 }
@@ -104,11 +104,11 @@ no_unknown f1 f2 mid new b c f rest p is = elim (cases_lt 0 new.skip_remaining) 
   | inr l ↦ let d = p.whole (omega arith) in let e = d.front in absurd (cc)
 ]
 
-turned_unknown : (role : Role) (f0 f1 f2 : Bool) (n : ℕ) (mid new : Held) (a b c : Source) → Turned role f0 f1 n mid a b → SkipsUnknown f1 f2 mid new b c → PollsAtMost 4112 b c → Turned role f0 f2 (n + 1) new a c
-turned_unknown role f0 f1 f2 n mid new a b c g p k = record {
-  kept = kept_unknown role f0 f1 f2 mid new a b c g.kept p k.ending;
-  series = series_on GivesNone role [] [] n Again f0 f1 f2 new_held mid new a b c refl tt g.series p;
-  moved = let one = g.moved in let two = k.waits in omega (arith, unknown_size f1 f2 mid new b c p);
+turned_unknown : (role : Role) (f0 f1 f2 : Bool) (n : ℕ) (mid new : Held) (a b c : Source) → Turned role f0 f1 n mid a b → PollDid role Again f1 f2 mid new b c → Turned role f0 f2 (n + 1) new a c
+turned_unknown role f0 f1 f2 n mid new a b c g h = let p = h.0 in record {
+  kept = kept_unknown role f0 f1 f2 mid new a b c g.kept p h.2.ending;
+  series = series_on GivesNone role [] [] n Again f0 f1 f2 new_held mid new a b c refl tt g.series h;
+  moved = let one = g.moved in let two = h.2.waits in omega (arith, unknown_size f1 f2 mid new b c p);
   waited = λ f rest is. let one = g.waited f rest is in absurd (no_unknown f1 f2 mid new b c f rest p one.0);
 }
 
@@ -118,41 +118,49 @@ pub told_start : (s : Option Source) (role : Role) (first : Bool) (h : Held) →
 told_start s role first h e = telling_same s (Turned role first first 0 h) (λ a. turned_start role first h a e)
 
 pub told_waiting : (s t u : Option Source) (role : Role) (f0 f1 f2 : Bool) (n : ℕ) (mid new : Held)
-    → HasModel s t (Turned role f0 f1 n mid) → HasModel t u (StreamPolled role Pending f1 f2 mid new) → HasModel t u (PollsAtMost 4112) → HasModel s u (Turned role f0 f2 (n + 1) new)
-told_waiting s t u role f0 f1 f2 n mid new p q k =
-    telling_then s t u (Turned role f0 f1 n mid) (λ b c. StreamPolled role Pending f1 f2 mid new b c × PollsAtMost 4112 b c) (Turned role f0 f2 (n + 1) new)
-    (λ a b c g h. turned_waiting role f0 f1 f2 n mid new a b c g h.0.0 h.0.1 h.0.2 h.1)
-    p (telling_both t u (StreamPolled role Pending f1 f2 mid new) (PollsAtMost 4112) q k)
+    → HasModel s t (Turned role f0 f1 n mid) → HasModel t u (PollDid role Pending f1 f2 mid new) → HasModel s u (Turned role f0 f2 (n + 1) new)
+told_waiting s t u role f0 f1 f2 n mid new p q =
+    telling_then s t u (Turned role f0 f1 n mid) (PollDid role Pending f1 f2 mid new) (Turned role f0 f2 (n + 1) new) (λ a b c g h. turned_waiting role f0 f1 f2 n mid new a b c g h) p q
 
 pub told_unknown : (s t u : Option Source) (role : Role) (f0 f1 f2 : Bool) (n : ℕ) (mid new : Held)
-    → HasModel s t (Turned role f0 f1 n mid) → HasModel t u (StreamPolled role Again f1 f2 mid new) → HasModel t u (PollsAtMost 4112) → HasModel s u (Turned role f0 f2 (n + 1) new)
-told_unknown s t u role f0 f1 f2 n mid new p q k =
-    telling_then s t u (Turned role f0 f1 n mid) (λ b c. SkipsUnknown f1 f2 mid new b c × PollsAtMost 4112 b c) (Turned role f0 f2 (n + 1) new)
-    (λ a b c g h. turned_unknown role f0 f1 f2 n mid new a b c g h.0 h.1)
-    p (telling_both t u (SkipsUnknown f1 f2 mid new) (PollsAtMost 4112) q k)
+    → HasModel s t (Turned role f0 f1 n mid) → HasModel t u (PollDid role Again f1 f2 mid new) → HasModel s u (Turned role f0 f2 (n + 1) new)
+told_unknown s t u role f0 f1 f2 n mid new p q =
+    telling_then s t u (Turned role f0 f1 n mid) (PollDid role Again f1 f2 mid new) (Turned role f0 f2 (n + 1) new) (λ a b c g h. turned_unknown role f0 f1 f2 n mid new a b c g h) p q
 
-lacked : (role : Role) (f0 f1 f2 : Bool) (n turns : ℕ) (mid new : Held) (a b c : Source) → n < turns → Turned role f0 f1 n mid a b → LacksMemory f1 f2 mid new b c → c.ending ≡ b.ending → Lacked role f0 f2 turns new a c
-lacked role f0 f1 f2 n turns mid new a b c fewer g h ending = record {
-  kept = kept_still role f0 f1 f2 mid new a b c g.kept h.leaves h.flag ending;
+lacked : (role : Role) (f0 f1 f2 : Bool) (n turns : ℕ) (mid new : Held) (a b c : Source) → n < turns → Turned role f0 f1 n mid a b → PollDid role NoMemory f1 f2 mid new b c → Lacked role f0 f2 turns new a c
+lacked role f0 f1 f2 n turns mid new a b c fewer g h = record {
+  kept = kept_still role f0 f1 f2 mid new a b c g.kept h.0.leaves h.0.flag h.2.ending;
   before = n;
   fewer = fewer;
   series = series_end GivesNone role [] n NoMemory f0 f1 f2 new_held mid new a b c g.series h;
 }
 
 pub told_memory : (s t u : Option Source) (role : Role) (f0 f1 f2 : Bool) (n turns : ℕ) (mid new : Held)
-    → n < turns → IsUnfinished new → HasModel s t (Turned role f0 f1 n mid) → HasModel t u (StreamPolled role NoMemory f1 f2 mid new) → HasModel t u (PollsAtMost 4112) → HasModel s u (FrameDid role f0 f2 turns (Err receive.Memory))
-told_memory s t u role f0 f1 f2 n turns mid new fewer unfinished p q k =
-    telling_then s t u (Turned role f0 f1 n mid) (λ b c. LacksMemory f1 f2 mid new b c × PollsAtMost 4112 b c) (FrameDid role f0 f2 turns (Err receive.Memory))
-    (λ a b c g h. (new, unfinished, lacked role f0 f1 f2 n turns mid new a b c fewer g h.0 h.1.ending))
-    p (telling_both t u (LacksMemory f1 f2 mid new) (PollsAtMost 4112) q k)
+    → n < turns → IsUnfinished new → HasModel s t (Turned role f0 f1 n mid) → HasModel t u (PollDid role NoMemory f1 f2 mid new) → HasModel s u (FrameDid role f0 f2 turns (Err receive.Memory))
+told_memory s t u role f0 f1 f2 n turns mid new fewer unfinished p q =
+    telling_then s t u (Turned role f0 f1 n mid) (PollDid role NoMemory f1 f2 mid new) (FrameDid role f0 f2 turns (Err receive.Memory))
+    (λ a b c g h. (new, unfinished, lacked role f0 f1 f2 n turns mid new a b c fewer g h)) p q
 
-taken : (role : Role) (f0 f1 f2 : Bool) (mid new : Held) (f : Content) (a b c : Source) → KeptPlace role f0 f1 mid a b → StreamTakesFrame role f1 f2 mid new f b c → Takes role f0 f2 f a c
-taken role f0 f1 f2 mid new f a b c g t = record { known = sym g.known ∙ ap past_front t.decided.front; allowed = rw (← g.flag) t.allowed; flag = t.flag }
+ended : (role : Role) (f0 f1 f2 : Bool) (n turns : ℕ) (mid new : Held) (last : Polled (Result Content IoReadError)) (a b c : Source) → n < turns → Turned role f0 f1 n mid a b → PollDid role last f1 f2 mid new b c → EndsWith role f0 f2 turns last a c
+ended role f0 f1 f2 n turns mid new last a b c fewer g h = record {
+  before = n;
+  fewer = fewer;
+  held = new;
+  series = series_end GivesNone role [] n last f0 f1 f2 new_held mid new a b c g.series h;
+}
+
+taken : (role : Role) (f0 f1 f2 : Bool) (n turns : ℕ) (mid new : Held) (f : Content) (a b c : Source) → n < turns → Turned role f0 f1 n mid a b → PollDid role (Ready (Ok f)) f1 f2 mid new b c → Takes role f0 f2 turns f a c
+taken role f0 f1 f2 n turns mid new f a b c fewer g h = let t = h.0 in record {
+  known = sym g.kept.known ∙ ap past_front t.decided.front;
+  allowed = rw (← g.kept.flag) t.allowed;
+  flag = t.flag;
+  turned = ended role f0 f1 f2 n turns mid new (Ready (Ok f)) a b c fewer g h;
+}
 
 pub told_taken : (s t u : Option Source) (role : Role) (f0 f1 f2 : Bool) (n turns : ℕ) (mid new : Held) (f : Content)
-    → HasModel s t (Turned role f0 f1 n mid) → HasModel t u (StreamPolled role (Ready (Ok f)) f1 f2 mid new) → HasModel s u (FrameDid role f0 f2 turns (Ok f))
-told_taken s t u role f0 f1 f2 n turns mid new f p q =
-    telling_then s t u (Turned role f0 f1 n mid) (StreamTakesFrame role f1 f2 mid new f) (Takes role f0 f2 f) (λ a b c g h. taken role f0 f1 f2 mid new f a b c g.kept h) p q
+    → n < turns → HasModel s t (Turned role f0 f1 n mid) → HasModel t u (PollDid role (Ready (Ok f)) f1 f2 mid new) → HasModel s u (FrameDid role f0 f2 turns (Ok f))
+told_taken s t u role f0 f1 f2 n turns mid new f fewer p q =
+    telling_then s t u (Turned role f0 f1 n mid) (PollDid role (Ready (Ok f)) f1 f2 mid new) (Takes role f0 f2 turns f) (λ a b c g h. taken role f0 f1 f2 n turns mid new f a b c fewer g h) p q
 
 -- by the front that decided
 left_by : (role : Role) (f0 f1 f2 : Bool) (mid new : Held) (b c : Source) (k : Front) → f1 ≡ f0 → FirstAfter role f1 k f2 → SourceIsAfter k mid new b c → FirstAfter role f0 (past_front k) f2 × LeftIsAfter (past_front k) c.ahead
@@ -162,20 +170,22 @@ left_by role f0 f1 f2 mid new b c (BadId rest) same flag place = (flag ∙ same,
 left_by role f0 f1 f2 mid new b c (TooBig rest) same flag place = (flag ∙ same, sym place.1)
 left_by role f0 f1 f2 mid new b c Short same flag place = (flag ∙ same, place.1)
 
-broken : (role : Role) (f0 f1 f2 : Bool) (mid new : Held) (x : IoReadError) (a b c : Source) → KeptPlace role f0 f1 mid a b → Faults role f1 f2 mid new x b c → Breaks role f0 f2 x a c
-broken role f0 f1 f2 mid new x a b c g t =
-    let left = left_by role f0 f1 f2 mid new b c (front_held mid b.ahead) g.flag t.flag t.place in
+broken : (role : Role) (f0 f1 f2 : Bool) (n turns : ℕ) (mid new : Held) (x : IoReadError) (a b c : Source) → n < turns → Turned role f0 f1 n mid a b → PollDid role (Ready (Err x)) f1 f2 mid new b c → Breaks role f0 f2 turns x a c
+broken role f0 f1 f2 n turns mid new x a b c fewer g h =
+    let t = h.0 in
+    let left = left_by role f0 f1 f2 mid new b c (front_held mid b.ahead) g.kept.flag t.flag t.place in
     record {
-      ends = record { frames = ap (λ (r : Run). r.frames) g.run ∙ t.ends.frames; fault = rw (ap (λ (r : Run). r.ending) g.run) t.ends.fault };
-      flag = rw (← g.known) left.0;
-      place = rw (← g.known) left.1;
+      ends = record { frames = ap (λ (r : Run). r.frames) g.kept.run ∙ t.ends.frames; fault = rw (ap (λ (r : Run). r.ending) g.kept.run) t.ends.fault };
+      flag = rw (← g.kept.known) left.0;
+      place = rw (← g.kept.known) left.1;
       dry = t.dry;
+      turned = ended role f0 f1 f2 n turns mid new (Ready (Err x)) a b c fewer g h;
     }
 
 pub told_broken : (s t u : Option Source) (role : Role) (f0 f1 f2 : Bool) (n turns : ℕ) (mid new : Held) (x : IoReadError)
-    → HasModel s t (Turned role f0 f1 n mid) → HasModel t u (StreamPolled role (Ready (Err x)) f1 f2 mid new) → HasModel s u (FrameDid role f0 f2 turns (Err (receive.Stream x)))
-told_broken s t u role f0 f1 f2 n turns mid new x p q =
-    telling_then s t u (Turned role f0 f1 n mid) (Faults role f1 f2 mid new x) (Breaks role f0 f2 x) (λ a b c g h. broken role f0 f1 f2 mid new x a b c g.kept h) p q
+    → n < turns → HasModel s t (Turned role f0 f1 n mid) → HasModel t u (PollDid role (Ready (Err x)) f1 f2 mid new) → HasModel s u (FrameDid role f0 f2 turns (Err (receive.Stream x)))
+told_broken s t u role f0 f1 f2 n turns mid new x fewer p q =
+    telling_then s t u (Turned role f0 f1 n mid) (PollDid role (Ready (Err x)) f1 f2 mid new) (Breaks role f0 f2 turns x) (λ a b c g h. broken role f0 f1 f2 n turns mid new x a b c fewer g h) p q
 
 pub told_waited : (s t : Option Source) (role : Role) (f0 f1 : Bool) (turns : ℕ) (mid : Held)
     → IsUnfinished mid → HasModel s t (Turned role f0 f1 turns mid) → HasModel s t (FrameDid role f0 f1 turns (Err receive.Waiting))
@@ -217,8 +227,8 @@ is_headers (PlainOf kind p) e = ap (λ (k : FrameKind). PlainOf k p) e
 is_headers (WebTransportOf id) e = absurd (cc)
 
 -- the frame that was taken is the first frame of the input
-found : (role : Role) (first next : Bool) (f g : Content) (rest : List ℕ) (a b : Source) → front a.ahead ≡ Framed g rest → Takes role first next f a b → (f ≡ g) × (b.ahead ≡ rest)
-found role first next f g rest a b is t =
+found : (role : Role) (first next : Bool) (turns : ℕ) (f g : Content) (rest : List ℕ) (a b : Source) → front a.ahead ≡ Framed g rest → Takes role first next turns f a b → (f ≡ g) × (b.ahead ≡ rest)
+found role first next turns f g rest a b is t =
     let both : Framed f b.ahead ≡ Framed g rest = sym t.known ∙ ap front (skip_unknown-framed a.ahead rest g is) ∙ is in
     (cc both, cc both)
 
@@ -232,7 +242,7 @@ section_good p m rest turns refused.Memory a b good bad = tt
 reads_back : (role : Role) (first next : Bool) (turns : ℕ) (m : List Field) (result : Result (List Field) ReceiveError) (a b : Source) → IsMap m → AreTexts m → MapDid role first next turns result a b → ReadsBack role m turns result a b
 reads_back role first next turns m (Ok n) a b ordered texts (p, t, read) rest allowed small is =
     let at : front a.ahead ≡ Framed (HeadersOf (payload m)) rest = ap front is ∙ front-wire (HeadersOf (payload m)) rest small in
-    let same = found role first next (HeadersOf p) (HeadersOf (payload m)) rest a b at t in
+    let same = found role first next turns (HeadersOf p) (HeadersOf (payload m)) rest a b at t in
     let good : headers_at (payload m) ≡ Ok m = ap or_decompression (payload_again m ordered texts) in
     let one = same.0 in (cc, same.1)
 reads_back role first next turns m (Err receive.Waiting) a b ordered texts (held, u, g) rest allowed small is =
@@ -243,11 +253,11 @@ reads_back role first next turns m (Err (receive.Stream x)) a b ordered texts g 
     (ap (λ (l : List ℕ). run role first l (tail_of a.ending)) is ∙ headers-run role first (payload m) rest (tail_of a.ending) allowed small) g.ends.frames
 reads_back role first next turns m (Err (receive.OtherKind kind)) a b ordered texts (f, t, of, other) rest allowed small is =
     let at : front a.ahead ≡ Framed (HeadersOf (payload m)) rest = ap front is ∙ front-wire (HeadersOf (payload m)) rest small in
-    let same = found role first next f (HeadersOf (payload m)) rest a b at t in
+    let same = found role first next turns f (HeadersOf (payload m)) rest a b at t in
     other (sym of ∙ ap kind_in same.0)
 reads_back role first next turns m (Err (receive.Section e)) a b ordered texts (p, t, bad, memory) rest allowed small is =
     let at : front a.ahead ≡ Framed (HeadersOf (payload m)) rest = ap front is ∙ front-wire (HeadersOf (payload m)) rest small in
-    let same = found role first next (HeadersOf p) (HeadersOf (payload m)) rest a b at t in
+    let same = found role first next turns (HeadersOf p) (HeadersOf (payload m)) rest a b at t in
     let one : p ≡ payload m = let e = same.0 in cc in
     section_good p m rest turns e a b (ap headers_at one ∙ ap or_decompression (payload_again m ordered texts)) bad
 reads_back role first next turns m (Err receive.Memory) a b ordered texts did rest allowed small is = tt
@@ -260,15 +270,15 @@ told_back s t role first next turns m result ordered texts p = telling_map s t (
 
 pub told_read : (s t : Option Source) (role : Role) (first next : Bool) (turns : ℕ) (f : Content) (n : List Field) → kind_in f ≡ Headers → headers_at (payload_in f) ≡ Ok n
     → HasModel s t (FrameDid role first next turns (Ok f)) → HasModel s t (MapDid role first next turns (Ok n))
-told_read s t role first next turns f n kind read p = telling_map s t (Takes role first next f) (MapDid role first next turns (Ok n)) (λ a b k. (payload_in f, rw (← is_headers f kind) k, read)) p
+told_read s t role first next turns f n kind read p = telling_map s t (Takes role first next turns f) (MapDid role first next turns (Ok n)) (λ a b k. (payload_in f, rw (← is_headers f kind) k, read)) p
 
 pub told_section : (s t : Option Source) (role : Role) (first next : Bool) (turns : ℕ) (f : Content) (e : Refused) → kind_in f ≡ Headers → (e ≢ refused.Memory → headers_at (payload_in f) ≡ Err e) → (e ≡ refused.Memory → PayloadNeedsMemory (payload_in f))
     → HasModel s t (FrameDid role first next turns (Ok f)) → HasModel s t (MapDid role first next turns (Err (receive.Section e)))
-told_section s t role first next turns f e kind bad memory p = telling_map s t (Takes role first next f) (MapDid role first next turns (Err (receive.Section e))) (λ a b k. (payload_in f, rw (← is_headers f kind) k, bad, memory)) p
+told_section s t role first next turns f e kind bad memory p = telling_map s t (Takes role first next turns f) (MapDid role first next turns (Err (receive.Section e))) (λ a b k. (payload_in f, rw (← is_headers f kind) k, bad, memory)) p
 
 pub told_other : (s t : Option Source) (role : Role) (first next : Bool) (turns : ℕ) (f : Content) (kind : FrameKind) → kind ≡ kind_in f → kind ≢ Headers
     → HasModel s t (FrameDid role first next turns (Ok f)) → HasModel s t (MapDid role first next turns (Err (receive.OtherKind kind)))
-told_other s t role first next turns f kind of other p = telling_map s t (Takes role first next f) (MapDid role first next turns (Err (receive.OtherKind kind))) (λ a b k. (f, k, sym of, other)) p
+told_other s t role first next turns f kind of other p = telling_map s t (Takes role first next turns f) (MapDid role first next turns (Err (receive.OtherKind kind))) (λ a b k. (f, k, sym of, other)) p
 
 pub told_failed : (s t : Option Source) (role : Role) (first next : Bool) (turns : ℕ) (e : ReceiveError) → HasModel s t (FrameDid role first next turns (Err e)) → HasModel s t (MapDid role first next turns (Err e))
 told_failed s t role first next turns receive.Waiting p = p

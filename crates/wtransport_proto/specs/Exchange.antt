@@ -1,7 +1,8 @@
 -- What repeated polls that send a frame, or receive a header map, do together.
 use Rattle.std.specs.Prelude.{◌≡◌, ◌≢◌, ℕ, ◌+◌, ◌<◌, ◌≤◌, Bool, false, List, [], ◌∷◌, ◌++◌, length, take, None, Result, Ok, Err}
 use Rattle.wtp_core.specs.declared.bytes.error.IoWriteError.TheVariants as fault
-use Rattle.wtp_core.specs.declared.bytes.poll.Polled.TheVariants.{NoMemory}
+use Rattle.wtp_core.specs.declared.bytes.poll.Polled.{Polled}
+use Rattle.wtp_core.specs.declared.bytes.poll.Polled.TheVariants.{Ready, NoMemory}
 use Rattle.wtp_core.specs.declared.error.Refused.TheVariants as refused
 use Rattle.wtp_core.specs.Source.{Source}
 use Rattle.wtp_core.specs.Sink.{Sink, Took}
@@ -98,12 +99,23 @@ pub record Lacked (role : Role) (first next : Bool) (turns : ℕ) (held : Held) 
   pub fewer : before < turns
   pub series : Series GivesNone role [] before (NoMemory ∷ []) first next new_held held a b
 
+-- Fewer than this many turns waited or skipped some of an unknown frame, and the next one, the last,
+-- had this result.
+pub record EndsWith (role : Role) (first next : Bool) (turns : ℕ)
+    (last : Polled (Result Content IoReadError)) (a b : Source) : Type 0 where
+  pub before : ℕ
+  pub fewer : before < turns
+  pub held : Held
+  pub series : Series GivesNone role [] before (last ∷ []) first next new_held held a b
+
 -- This frame follows the unknown frames at the start, the stream allows it, and it was taken, and
--- no byte after it.
-pub record Takes (role : Role) (first next : Bool) (f : Content) (a b : Source) : Type 0 where
-  pub known : front (skip_unknown a.ahead) ≡ Framed f b.ahead
-  pub allowed : rule role first (kind_in f) ≡ None
-  pub flag : next ≡ false
+-- no byte after it, by at most this many turns.
+pub record Takes (role : Role) (first next : Bool) (turns : ℕ) (f : Content) (a b : Source) : Type 0
+  where
+    pub known : front (skip_unknown a.ahead) ≡ Framed f b.ahead
+    pub allowed : rule role first (kind_in f) ≡ None
+    pub flag : next ≡ false
+    pub turned : EndsWith role first next turns (Ready (Ok f)) a b
 
 -- what decided is taken completely, and no byte after it; if the bytes are too few, nothing is
 -- ahead
@@ -114,20 +126,22 @@ LeftIsAfter (BadId rest) left = left ≡ rest
 LeftIsAfter (TooBig rest) left = left ≡ rest
 LeftIsAfter Short left = left ≡ []
 
--- the stream gives no more frames, and ends with this fault
-pub record Breaks (role : Role) (first next : Bool) (x : IoReadError) (a b : Source) : Type 0 where
+-- the stream gives no more frames, and ends with this fault, found by at most this many turns
+pub record Breaks (role : Role) (first next : Bool) (turns : ℕ) (x : IoReadError) (a b : Source) :
+    Type 0 where
   pub ends : EndsWithFault (run role first a.ahead (tail_of a.ending)) [] x
   pub flag : FirstAfter role first (front (skip_unknown a.ahead)) next
   pub place : LeftIsAfter (front (skip_unknown a.ahead)) b.ahead
   pub dry : Exhausted x b
+  pub turned : EndsWith role first next turns (Ready (Err x)) a b
 
 -- what reading a frame did
 abbrev pub FrameDid :
     Role → Bool → Bool → ℕ → Result Content ReceiveError → Source → Source → Type 0
-FrameDid role first next turns (Ok f) a b = Takes role first next f a b
+FrameDid role first next turns (Ok f) a b = Takes role first next turns f a b
 FrameDid role first next turns (Err receive.Waiting) a b =
     (held : Held) × IsUnfinished held × Turned role first next turns held a b
-FrameDid role first next turns (Err (receive.Stream x)) a b = Breaks role first next x a b
+FrameDid role first next turns (Err (receive.Stream x)) a b = Breaks role first next turns x a b
 FrameDid role first next turns (Err (receive.OtherKind kind)) a b = ⊥
 FrameDid role first next turns (Err (receive.Section e)) a b = ⊥
 FrameDid role first next turns (Err receive.Memory) a b =
@@ -137,16 +151,16 @@ FrameDid role first next turns (Err receive.Memory) a b =
 abbrev pub MapDid :
     Role → Bool → Bool → ℕ → Result (List Field) ReceiveError → Source → Source → Type 0
 MapDid role first next turns (Ok m) a b =
-    (p : List ℕ) × Takes role first next (HeadersOf p) a b × (headers_at p ≡ Ok m)
+    (p : List ℕ) × Takes role first next turns (HeadersOf p) a b × (headers_at p ≡ Ok m)
 MapDid role first next turns (Err receive.Waiting) a b =
     FrameDid role first next turns (Err receive.Waiting) a b
 MapDid role first next turns (Err (receive.Stream x)) a b =
     FrameDid role first next turns (Err (receive.Stream x)) a b
 MapDid role first next turns (Err (receive.OtherKind kind)) a b =
-    (f : Content) × Takes role first next f a b × (kind_in f ≡ kind) × (kind ≢ Headers)
+    (f : Content) × Takes role first next turns f a b × (kind_in f ≡ kind) × (kind ≢ Headers)
 MapDid role first next turns (Err (receive.Section e)) a b =
     (p : List ℕ)
-    × Takes role first next (HeadersOf p) a b
+    × Takes role first next turns (HeadersOf p) a b
     × (e ≢ refused.Memory → headers_at p ≡ Err e)
     × (e ≡ refused.Memory → PayloadNeedsMemory p)
 MapDid role first next turns (Err receive.Memory) a b =

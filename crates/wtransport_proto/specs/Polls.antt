@@ -4,6 +4,7 @@ use Rattle.std.specs.List.{All}
 use Rattle.wtp_core.specs.declared.bytes.poll.Polled.{Polled}
 use Rattle.wtp_core.specs.declared.bytes.poll.Polled.TheVariants.{Ready, Pending, Again, NoMemory}
 use Rattle.wtp_core.specs.Source.{Source}
+use Rattle.wtp_core.specs.Polled.{PollsAtMost, WaitsAs}
 use Rattle.wtp_wire.specs.Content.{Content}
 use Rattle.wtp_wire.specs.Held.{Held}
 use Rattle.wtp_wire.specs.Rule.{Role}
@@ -14,6 +15,13 @@ use Rattle.wtransport_proto.specs.StreamPolling.{StreamPolled}
 -- state after them: whether the next frame is the first one of its stream, the reading state, and
 -- the source.
 
+-- one poll had this result, counted a wait exactly if it waited, and made at most 4112 calls
+abbrev pub PollDid :
+    Role → Polled (Result Content IoReadError) → Bool → Bool → Held → Held → Source → Source
+    → Type 0
+PollDid role x first next old new a b =
+    StreamPolled role x first next old new a b × WaitsAs x a b × PollsAtMost 4112 a b
+
 -- consecutive polls had these results, in order; without polls, nothing changes
 abbrev pub Polls :
     Role → List (Polled (Result Content IoReadError)) → Bool → Bool → Held → Held → Source → Source
@@ -23,7 +31,7 @@ Polls role (x ∷ xs) first next old new a b =
     (flag : Bool)
     × (held : Held)
     × (source : Source)
-    × StreamPolled role x first flag old held a source
+    × PollDid role x first flag old held a source
     × Polls role xs flag next held new source b
 
 -- the frames that the polls returned

@@ -21,12 +21,12 @@ pub struct UniAccepting {
 
 impl UniAccepting {
     ghost use Rattle.wtp_core.specs.Source.{HasModel};
-    ghost use Rattle.wtp_core.specs.Polled.{PollsAtMost};
+    ghost use Rattle.wtp_core.specs.Polled.{IsPaced, PollsAtMost};
     ghost use Rattle.wtransport_proto.specs.UpgradeSteps.{AcceptPolled, AcceptWaits, AcceptGiven};
 
     /// Reads until the header is complete or the source gives no more. Calls the source at most 16
-    /// times, and does not allocate. Returns `Done` once the header is read; the source is then
-    /// positioned right after it.
+    /// times, and at most once more than it gives bytes; does not allocate. Returns `Done` once the
+    /// header is read; the source is then positioned right after it.
     ///
     /// Every other result returns the state. After `Pending`, or if the source gave no more bytes,
     /// it holds the bytes received; after an invalid header it is reset. `Failed` contains:
@@ -47,6 +47,7 @@ impl UniAccepting {
             (AcceptPolled result self.reading) }
         ensures waits { HasModel (S.model source.old) (S.model source.new) (AcceptWaits result) }
         ensures asks { HasModel (S.model source.old) (S.model source.new) (PollsAtMost 16) }
+        ensures paced { HasModel (S.model source.old) (S.model source.new) IsPaced }
     {
         match self.reading.poll(source) {
             Polled::Ready(Ok(header)) => Stepped::Done(Stream {

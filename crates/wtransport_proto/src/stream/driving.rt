@@ -209,11 +209,11 @@ pub enum Driven {
 /// - `Waiting`: the source was not ready.
 /// - `Spent`: all polls were made, and each took a frame, or skipped an unknown one or 4096 bytes
 ///   of its payload.
-/// - `NoMemory`: allocation failed, for a payload of which no byte is held, or for a place in `out`,
-///   which is full.
-///   `out` never loses room, so with places for `polls` more frames it is a payload.
+/// - `NoMemory`: allocation failed for a payload of which no byte is held, or for a place in `out`,
+///   which is full. The first is the case if `out` has places for `polls` more frames: it never
+///   loses room.
 ///
-/// It polls until the first result other than these two, and not once more.
+/// After a poll that gave no frame and skipped nothing it does not poll again.
 ///
 /// It is for a stream whose bytes are frames to its end: the stream of a request after its first
 /// frame, of a response, or a control stream. It is not for a bidirectional stream that the peer

@@ -1,6 +1,8 @@
-use Rattle.std.proofs.Common.{◌≡◌, inl, inr, arith}
+use Rattle.std.proofs.Common.{◌≡◌, inl, inr, arith, Ok, Err}
+use Rattle.wtp_core.specs.declared.bytes.poll.Polled.TheVariants.{Ready, Pending, Again, NoMemory}
 use Rattle.wtransport_proto.proofs.DriveLemmas.{first_same, first_on}
 use Rattle.wtransport_proto.proofs.ExchangeLemmas.{told_start, told_waiting, told_unknown, told_memory, told_taken, told_broken, told_waited, nothing_held, asks_start, asks_on, asks_end, waits_start, waits_on, waits_end}
+use Rattle.wtransport_proto.proofs.PollsLemmas.{poll_did}
 use Rattle.wtransport_proto.proofs.exchange.next_frame.Goals as goal
 
 pub loop-turn-init : goal.loop-turn-init
@@ -21,10 +23,10 @@ loop-turn-preserved g c = record {
   model = elim c.in-Pending.is [
     | inl e ↦ told_waiting (g.S.AsyncRead.model c.args.source.now) (g.S.AsyncRead.model c.loop-turn.source) (g.S.AsyncRead.model c.read_frame_async.new.source)
         g.K.ReadsFrames.role (g.K.ReadsFrames.first c.args.stream.now) (g.K.ReadsFrames.first c.loop-turn.stream) (g.K.ReadsFrames.first c.read_frame_async.new.self)
-        c.loop-turn._turn c.loop-turn.reading c.read_frame_async.new.reading c.loop-turn.invariant.model (rw e at c.read_frame_async.ensures.polled) c.read_frame_async.ensures.asks
+        c.loop-turn._turn c.loop-turn.reading c.read_frame_async.new.reading c.loop-turn.invariant.model (poll_did (g.S.AsyncRead.model c.loop-turn.source) (g.S.AsyncRead.model c.read_frame_async.new.source) g.K.ReadsFrames.role Pending (g.K.ReadsFrames.first c.loop-turn.stream) (g.K.ReadsFrames.first c.read_frame_async.new.self) c.loop-turn.reading c.read_frame_async.new.reading (rw e at c.read_frame_async.ensures.polled) (rw e at c.read_frame_async.ensures.waits) c.read_frame_async.ensures.asks)
     | inr e ↦ told_unknown (g.S.AsyncRead.model c.args.source.now) (g.S.AsyncRead.model c.loop-turn.source) (g.S.AsyncRead.model c.read_frame_async.new.source)
         g.K.ReadsFrames.role (g.K.ReadsFrames.first c.args.stream.now) (g.K.ReadsFrames.first c.loop-turn.stream) (g.K.ReadsFrames.first c.read_frame_async.new.self)
-        c.loop-turn._turn c.loop-turn.reading c.read_frame_async.new.reading c.loop-turn.invariant.model (rw e at c.read_frame_async.ensures.polled) c.read_frame_async.ensures.asks
+        c.loop-turn._turn c.loop-turn.reading c.read_frame_async.new.reading c.loop-turn.invariant.model (poll_did (g.S.AsyncRead.model c.loop-turn.source) (g.S.AsyncRead.model c.read_frame_async.new.source) g.K.ReadsFrames.role Again (g.K.ReadsFrames.first c.loop-turn.stream) (g.K.ReadsFrames.first c.read_frame_async.new.self) c.loop-turn.reading c.read_frame_async.new.reading (rw e at c.read_frame_async.ensures.polled) (rw e at c.read_frame_async.ensures.waits) c.read_frame_async.ensures.asks)
   ];
   asks = asks_on (g.S.AsyncRead.model c.args.source.now) (g.S.AsyncRead.model c.loop-turn.source) (g.S.AsyncRead.model c.read_frame_async.new.source) c.loop-turn._turn c.loop-turn.invariant.asks c.read_frame_async.ensures.asks;
   waits = waits_on _ (g.S.AsyncRead.model c.args.source.now) (g.S.AsyncRead.model c.loop-turn.source) (g.S.AsyncRead.model c.read_frame_async.new.source) c.loop-turn._turn c.loop-turn.invariant.waits c.read_frame_async.ensures.waits;
@@ -41,7 +43,7 @@ returns-in-Ready-Ok g c =
     record {
       can = c.read_frame_async.ensures.can;
       changes = first_on g.K.ReadsFrames.first _ _ _ c.loop-turn.invariant.changes c.read_frame_async.ensures.changes;
-      read = told_taken s t u g.K.ReadsFrames.role f0 f1 f2 c.loop-turn._turn c.args.turns c.loop-turn.reading c.read_frame_async.new.reading c.in-Ready-Ok.frame c.loop-turn.invariant.model (rw c.in-Ready-Ok.field-0-is at c.in-Ready-Ok.ensures.polled);
+      read = told_taken s t u g.K.ReadsFrames.role f0 f1 f2 c.loop-turn._turn c.args.turns c.loop-turn.reading c.read_frame_async.new.reading c.in-Ready-Ok.frame c.loop-turn-test.true c.loop-turn.invariant.model (poll_did t u g.K.ReadsFrames.role (Ready (Ok c.in-Ready-Ok.frame)) f1 f2 c.loop-turn.reading c.read_frame_async.new.reading (rw c.in-Ready-Ok.field-0-is at c.in-Ready-Ok.ensures.polled) c.in-Ready-Ok.ensures.waits c.read_frame_async.ensures.asks);
       asks = asks_end s t u c.loop-turn._turn c.args.turns c.loop-turn-test.true c.loop-turn.invariant.asks c.read_frame_async.ensures.asks;
       waits = waits_end s t u c.loop-turn._turn c.args.turns c.loop-turn-test.true c.loop-turn.invariant.waits c.in-Ready-Ok.ensures.waits;
     }
@@ -57,7 +59,7 @@ returns-in-Ready-Err g c =
     record {
       can = c.read_frame_async.ensures.can;
       changes = first_on g.K.ReadsFrames.first _ _ _ c.loop-turn.invariant.changes c.read_frame_async.ensures.changes;
-      read = told_broken s t u g.K.ReadsFrames.role f0 f1 f2 c.loop-turn._turn c.args.turns c.loop-turn.reading c.read_frame_async.new.reading c.in-Ready-Err.fault c.loop-turn.invariant.model (rw c.in-Ready-Err.field-0-is at c.in-Ready-Err.ensures.polled);
+      read = told_broken s t u g.K.ReadsFrames.role f0 f1 f2 c.loop-turn._turn c.args.turns c.loop-turn.reading c.read_frame_async.new.reading c.in-Ready-Err.fault c.loop-turn-test.true c.loop-turn.invariant.model (poll_did t u g.K.ReadsFrames.role (Ready (Err c.in-Ready-Err.fault)) f1 f2 c.loop-turn.reading c.read_frame_async.new.reading (rw c.in-Ready-Err.field-0-is at c.in-Ready-Err.ensures.polled) c.in-Ready-Err.ensures.waits c.read_frame_async.ensures.asks);
       asks = asks_end s t u c.loop-turn._turn c.args.turns c.loop-turn-test.true c.loop-turn.invariant.asks c.read_frame_async.ensures.asks;
       waits = waits_end s t u c.loop-turn._turn c.args.turns c.loop-turn-test.true c.loop-turn.invariant.waits c.in-Ready-Err.ensures.waits;
     }
@@ -73,7 +75,7 @@ returns-in-NoMemory g c =
     record {
       can = c.read_frame_async.ensures.can;
       changes = first_on g.K.ReadsFrames.first _ _ _ c.loop-turn.invariant.changes c.read_frame_async.ensures.changes;
-      read = told_memory s t u g.K.ReadsFrames.role f0 f1 f2 c.loop-turn._turn c.args.turns c.loop-turn.reading c.read_frame_async.new.reading c.loop-turn-test.true c.read_frame_async.ensures.unfinished c.loop-turn.invariant.model c.in-NoMemory.ensures.polled c.read_frame_async.ensures.asks;
+      read = told_memory s t u g.K.ReadsFrames.role f0 f1 f2 c.loop-turn._turn c.args.turns c.loop-turn.reading c.read_frame_async.new.reading c.loop-turn-test.true c.read_frame_async.ensures.unfinished c.loop-turn.invariant.model (poll_did t u g.K.ReadsFrames.role NoMemory f1 f2 c.loop-turn.reading c.read_frame_async.new.reading c.in-NoMemory.ensures.polled c.in-NoMemory.ensures.waits c.read_frame_async.ensures.asks);
       asks = asks_end s t u c.loop-turn._turn c.args.turns c.loop-turn-test.true c.loop-turn.invariant.asks c.read_frame_async.ensures.asks;
       waits = waits_end s t u c.loop-turn._turn c.args.turns c.loop-turn-test.true c.loop-turn.invariant.waits c.in-NoMemory.ensures.waits;
     }

@@ -1,5 +1,7 @@
-use Rattle.std.proofs.Common.{◌≡◌, [], ◌∷◌, ◌++◌, length, drop, refl, sym, ap, ◌∙◌, arith, append-nil, inl, inr}
+use Rattle.std.proofs.Common.{◌≡◌, [], ◌∷◌, ◌++◌, length, drop, refl, sym, ap, ◌∙◌, arith, append-nil, inl, inr, Ok, Err}
+use Rattle.wtp_core.specs.declared.bytes.poll.Polled.TheVariants.{Ready, Pending, Again, NoMemory}
 use Rattle.wtransport_proto.proofs.DriveLemmas.{first_same, first_on, none_yet, pushed, pushed_appends, pushed_most, told_start, still_start, still_then, told_full, told_spent, told_still, told_waiting, told_ended, told_frame, told_unknown}
+use Rattle.wtransport_proto.proofs.PollsLemmas.{poll_did}
 use Rattle.wtransport_proto.proofs.stream.driving.drive.Goals as goal
 use Rattle.wtransport_proto.proofs.stream.driving.drive.Goals.{in-Ready-Ok, in-Again}
 
@@ -30,7 +32,7 @@ loop-turn-preserved g c =
             model = told_frame (g.S.AsyncRead.model c.args.source.now) (g.S.AsyncRead.model c.loop-turn.source) (g.S.AsyncRead.model c.read_frame_async.new.source)
                 g.K.ReadsFrames.role (g.K.ReadsFrames.first c.args.stream.now) (g.K.ReadsFrames.first c.loop-turn.stream) (g.K.ReadsFrames.first c.read_frame_async.new.self)
                 c.args.reading.now c.loop-turn.reading c.read_frame_async.new.reading (drop (length c.args.out.now.items) c.loop-turn.out.items)
-                _ w.in-Ready-Ok.frame c.loop-turn._turn (pushed _ c.loop-turn.out.items _ w.in-Ready-Ok.frame c.loop-turn.invariant.appends p) c.loop-turn.invariant.model (rw w.in-Ready-Ok.field-0-is at w.in-Ready-Ok.ensures.polled) c.read_frame_async.ensures.asks;
+                _ w.in-Ready-Ok.frame c.loop-turn._turn (pushed _ c.loop-turn.out.items _ w.in-Ready-Ok.frame c.loop-turn.invariant.appends p) c.loop-turn.invariant.model (poll_did (g.S.AsyncRead.model c.loop-turn.source) (g.S.AsyncRead.model c.read_frame_async.new.source) g.K.ReadsFrames.role (Ready (Ok w.in-Ready-Ok.frame)) (g.K.ReadsFrames.first c.loop-turn.stream) (g.K.ReadsFrames.first c.read_frame_async.new.self) c.loop-turn.reading c.read_frame_async.new.reading (rw w.in-Ready-Ok.field-0-is at w.in-Ready-Ok.ensures.polled) w.in-Ready-Ok.ensures.waits c.read_frame_async.ensures.asks);
             waits = still_then (g.S.AsyncRead.model c.args.source.now) (g.S.AsyncRead.model c.loop-turn.source) (g.S.AsyncRead.model c.read_frame_async.new.source) 0 c.loop-turn.invariant.waits w.in-Ready-Ok.ensures.waits;
             capacity = rw w.out-is (let pushed = w.push_reserved.ensures.capacity in let room = c.reserve.ensures.capacity in let kept = c.loop-turn.invariant.capacity in omega arith);
             none = λ z. absurd (omega arith);
@@ -44,7 +46,7 @@ loop-turn-preserved g c =
         model = rw (w.out-is, c.reserve.ensures.items) (told_unknown (g.S.AsyncRead.model c.args.source.now) (g.S.AsyncRead.model c.loop-turn.source) (g.S.AsyncRead.model c.read_frame_async.new.source)
             g.K.ReadsFrames.role (g.K.ReadsFrames.first c.args.stream.now) (g.K.ReadsFrames.first c.loop-turn.stream) (g.K.ReadsFrames.first c.read_frame_async.new.self)
             c.args.reading.now c.loop-turn.reading c.read_frame_async.new.reading (drop (length c.args.out.now.items) c.loop-turn.out.items)
-            c.loop-turn._turn c.read_frame_async.ensures.was_unfinished c.loop-turn.invariant.model w.in-Again.ensures.polled c.read_frame_async.ensures.asks);
+            c.loop-turn._turn c.read_frame_async.ensures.was_unfinished c.loop-turn.invariant.model (poll_did (g.S.AsyncRead.model c.loop-turn.source) (g.S.AsyncRead.model c.read_frame_async.new.source) g.K.ReadsFrames.role Again (g.K.ReadsFrames.first c.loop-turn.stream) (g.K.ReadsFrames.first c.read_frame_async.new.self) c.loop-turn.reading c.read_frame_async.new.reading w.in-Again.ensures.polled w.in-Again.ensures.waits c.read_frame_async.ensures.asks));
         waits = still_then (g.S.AsyncRead.model c.args.source.now) (g.S.AsyncRead.model c.loop-turn.source) (g.S.AsyncRead.model c.read_frame_async.new.source) 0 c.loop-turn.invariant.waits w.in-Again.ensures.waits;
         capacity = rw w.out-is (let room = c.reserve.ensures.capacity in let kept = c.loop-turn.invariant.capacity in omega arith);
         none = λ z. absurd (omega arith);
@@ -82,7 +84,7 @@ returns-in-Pending g c =
       unfinished = λ _. c.read_frame_async.ensures.unfinished;
       appends = rw c.reserve.ensures.items c.loop-turn.invariant.appends;
       most = rw c.reserve.ensures.items (omega arith);
-      did = rw c.reserve.ensures.items (told_waiting s t u g.K.ReadsFrames.role f0 f1 f2 c.args.reading.now c.loop-turn.reading c.read_frame_async.new.reading xs c.loop-turn._turn c.args.polls c.loop-turn-test.true c.read_frame_async.ensures.was_unfinished c.loop-turn.invariant.model c.in-Pending.ensures.polled c.read_frame_async.ensures.asks);
+      did = rw c.reserve.ensures.items (told_waiting s t u g.K.ReadsFrames.role f0 f1 f2 c.args.reading.now c.loop-turn.reading c.read_frame_async.new.reading xs c.loop-turn._turn c.args.polls c.loop-turn-test.true c.read_frame_async.ensures.was_unfinished c.loop-turn.invariant.model (poll_did t u g.K.ReadsFrames.role Pending f1 f2 c.loop-turn.reading c.read_frame_async.new.reading c.in-Pending.ensures.polled c.in-Pending.ensures.waits c.read_frame_async.ensures.asks));
       waits = still_then s t u 1 c.loop-turn.invariant.waits c.in-Pending.ensures.waits;
       fewer = λ _. rw c.reserve.ensures.items (let most = c.loop-turn.invariant.most in omega arith);
       capacity = let room = c.reserve.ensures.capacity in let kept = c.loop-turn.invariant.capacity in omega arith;
@@ -105,7 +107,7 @@ returns-in-NoMemory g c =
       unfinished = λ _. c.read_frame_async.ensures.unfinished;
       appends = rw c.reserve.ensures.items c.loop-turn.invariant.appends;
       most = rw c.reserve.ensures.items (omega arith);
-      did = rw c.reserve.ensures.items (told_still s t u g.K.ReadsFrames.role f0 f1 f2 c.args.reading.now c.loop-turn.reading c.read_frame_async.new.reading xs c.loop-turn._turn c.args.polls c.loop-turn-test.true c.read_frame_async.ensures.was_unfinished c.loop-turn.invariant.model c.in-NoMemory.ensures.polled c.read_frame_async.ensures.asks);
+      did = rw c.reserve.ensures.items (told_still s t u g.K.ReadsFrames.role f0 f1 f2 c.args.reading.now c.loop-turn.reading c.read_frame_async.new.reading xs c.loop-turn._turn c.args.polls c.loop-turn-test.true c.read_frame_async.ensures.was_unfinished c.loop-turn.invariant.model (poll_did t u g.K.ReadsFrames.role NoMemory f1 f2 c.loop-turn.reading c.read_frame_async.new.reading c.in-NoMemory.ensures.polled c.in-NoMemory.ensures.waits c.read_frame_async.ensures.asks));
       waits = still_then s t u 0 c.loop-turn.invariant.waits c.in-NoMemory.ensures.waits;
       fewer = λ _. rw c.reserve.ensures.items (let most = c.loop-turn.invariant.most in omega arith);
       capacity = let room = c.reserve.ensures.capacity in let kept = c.loop-turn.invariant.capacity in omega arith;
@@ -128,7 +130,7 @@ returns-in-Ready-Err g c =
       unfinished = λ _. c.read_frame_async.ensures.unfinished;
       appends = rw c.reserve.ensures.items c.loop-turn.invariant.appends;
       most = rw c.reserve.ensures.items (omega arith);
-      did = rw c.reserve.ensures.items (told_ended s t u g.K.ReadsFrames.role f0 f1 f2 c.args.reading.now c.loop-turn.reading c.read_frame_async.new.reading xs c.in-Ready-Err.fault c.loop-turn._turn c.args.polls c.loop-turn-test.true c.read_frame_async.ensures.was_unfinished c.loop-turn.invariant.model (rw c.in-Ready-Err.field-0-is at c.in-Ready-Err.ensures.polled) c.read_frame_async.ensures.asks);
+      did = rw c.reserve.ensures.items (told_ended s t u g.K.ReadsFrames.role f0 f1 f2 c.args.reading.now c.loop-turn.reading c.read_frame_async.new.reading xs c.in-Ready-Err.fault c.loop-turn._turn c.args.polls c.loop-turn-test.true c.read_frame_async.ensures.was_unfinished c.loop-turn.invariant.model (poll_did t u g.K.ReadsFrames.role (Ready (Err c.in-Ready-Err.fault)) f1 f2 c.loop-turn.reading c.read_frame_async.new.reading (rw c.in-Ready-Err.field-0-is at c.in-Ready-Err.ensures.polled) c.in-Ready-Err.ensures.waits c.read_frame_async.ensures.asks));
       waits = still_then s t u 0 c.loop-turn.invariant.waits c.in-Ready-Err.ensures.waits;
       fewer = λ _. rw c.reserve.ensures.items (let most = c.loop-turn.invariant.most in omega arith);
       capacity = let room = c.reserve.ensures.capacity in let kept = c.loop-turn.invariant.capacity in omega arith;
