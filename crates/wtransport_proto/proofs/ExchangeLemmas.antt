@@ -13,6 +13,7 @@ use Rattle.wtp_core.specs.declared.error.Refused.{Refused}
 use Rattle.wtp_core.specs.declared.error.Refused.TheVariants as refused
 use Rattle.wtp_wire.specs.Content.{Content, PlainOf, HeadersOf, WebTransportOf, kind_in, payload_in}
 use Rattle.wtp_wire.specs.Front.{Front, Framed, Unknown, BadId, TooBig, Short, front}
+use Rattle.wtp_wire.specs.FramePolling.{HoldsHead}
 use Rattle.wtp_wire.specs.Held.{Held, new_held, front_held, IsUnfinished, Leaves}
 use Rattle.wtp_wire.proofs.FrontLemmas.{front-empty}
 use Rattle.wtp_wire.specs.Wire.{wire}
@@ -127,8 +128,9 @@ pub told_unknown : (s t u : Option Source) (role : Role) (f0 f1 f2 : Bool) (n : 
 told_unknown s t u role f0 f1 f2 n mid new p q =
     telling_then s t u (Turned role f0 f1 n mid) (PollDid role Again f1 f2 mid new) (Turned role f0 f2 (n + 1) new) (λ a b c g h. turned_unknown role f0 f1 f2 n mid new a b c g h) p q
 
-lacked : (role : Role) (f0 f1 f2 : Bool) (n turns : ℕ) (mid new : Held) (a b c : Source) → n < turns → Turned role f0 f1 n mid a b → PollDid role NoMemory f1 f2 mid new b c → Lacked role f0 f2 turns new a c
-lacked role f0 f1 f2 n turns mid new a b c fewer g h = record {
+lacked : (role : Role) (f0 f1 f2 : Bool) (n turns : ℕ) (mid new : Held) (a b c : Source) → n < turns → HoldsHead new.taken → Turned role f0 f1 n mid a b → PollDid role NoMemory f1 f2 mid new b c → Lacked role f0 f2 turns new a c
+lacked role f0 f1 f2 n turns mid new a b c fewer head g h = record {
+  head = head;
   kept = kept_still role f0 f1 f2 mid new a b c g.kept h.0.leaves h.0.flag h.2.ending;
   before = n;
   fewer = fewer;
@@ -136,10 +138,10 @@ lacked role f0 f1 f2 n turns mid new a b c fewer g h = record {
 }
 
 pub told_memory : (s t u : Option Source) (role : Role) (f0 f1 f2 : Bool) (n turns : ℕ) (mid new : Held)
-    → n < turns → IsUnfinished new → HasModel s t (Turned role f0 f1 n mid) → HasModel t u (PollDid role NoMemory f1 f2 mid new) → HasModel s u (FrameDid role f0 f2 turns (Err receive.Memory))
-told_memory s t u role f0 f1 f2 n turns mid new fewer unfinished p q =
+    → n < turns → IsUnfinished new → HoldsHead new.taken → HasModel s t (Turned role f0 f1 n mid) → HasModel t u (PollDid role NoMemory f1 f2 mid new) → HasModel s u (FrameDid role f0 f2 turns (Err receive.Memory))
+told_memory s t u role f0 f1 f2 n turns mid new fewer unfinished head p q =
     telling_then s t u (Turned role f0 f1 n mid) (PollDid role NoMemory f1 f2 mid new) (FrameDid role f0 f2 turns (Err receive.Memory))
-    (λ a b c g h. (new, unfinished, lacked role f0 f1 f2 n turns mid new a b c fewer g h)) p q
+    (λ a b c g h. (new, unfinished, lacked role f0 f1 f2 n turns mid new a b c fewer head g h)) p q
 
 ended : (role : Role) (f0 f1 f2 : Bool) (n turns : ℕ) (mid new : Held) (last : Polled (Result Content IoReadError)) (a b c : Source) → n < turns → Turned role f0 f1 n mid a b → PollDid role last f1 f2 mid new b c → EndsWith role f0 f2 turns last a c
 ended role f0 f1 f2 n turns mid new last a b c fewer g h = record {

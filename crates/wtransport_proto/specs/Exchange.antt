@@ -9,6 +9,7 @@ use Rattle.wtp_core.specs.Sink.{Sink, Took}
 use Rattle.wtp_wire.specs.declared.frame.kind.FrameKind.TheVariants.{Headers}
 use Rattle.wtp_wire.specs.Content.{Content, HeadersOf, kind_in}
 use Rattle.wtp_wire.specs.Front.{Front, Framed, Unknown, BadId, TooBig, Short, front}
+use Rattle.wtp_wire.specs.FramePolling.{HoldsHead}
 use Rattle.wtp_wire.specs.Held.{Held, new_held, front_held, IsUnfinished}
 use Rattle.wtp_wire.specs.Wire.{wire}
 use Rattle.wtp_fields.specs.Field.{Field}
@@ -91,13 +92,14 @@ pub record Turned (role : Role) (first next : Bool) (turns : ℕ) (held : Held) 
       → (front_held held b.ahead ≡ Framed f rest) × (a.waits + turns ≤ b.waits)
 
 -- Fewer than this many turns waited or skipped some of an unknown frame, and then allocation failed
--- for the payload of a frame.
+-- for the payload of a frame, of which the head alone is held.
 pub record Lacked (role : Role) (first next : Bool) (turns : ℕ) (held : Held) (a b : Source) : Type
     0 where
   pub kept : KeptPlace role first next held a b
   pub before : ℕ
   pub fewer : before < turns
   pub series : Series GivesNone role [] before (NoMemory ∷ []) first next new_held held a b
+  pub head : HoldsHead held.taken
 
 -- Fewer than this many turns waited or skipped some of an unknown frame, and the next one, the last,
 -- had this result.

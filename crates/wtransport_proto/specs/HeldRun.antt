@@ -1,8 +1,8 @@
 -- The run of a reading state and of the bytes ahead.
 --
--- It is the run of the bytes held followed by the bytes ahead. If payload bytes of an unknown frame
--- are left to skip, it is the run of the bytes after those. The law `run_held_by_bytes` states
--- exactly this.
+-- It is the run of the bytes held followed by the bytes ahead, where no more may follow. If payload
+-- bytes of an unknown frame are left to skip, it is the run of the bytes after those. The law
+-- `run_held_by_bytes` states exactly this.
 use Rattle.std.specs.Prelude.{ℕ, ◌+◌, ◌==◌, Bool, false, List, ◌++◌, length, if◌then◌else◌}
 use Rattle.wtp_core.specs.declared.error.ErrorCode.TheVariants.{Id, ExcessiveLoad, Frame}
 use Rattle.wtp_core.specs.Source.{Source, AtEnd, AtReset, AtDisconnection}

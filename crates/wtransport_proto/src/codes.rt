@@ -8,7 +8,7 @@ use wtp_core::error::ErrorCode;
 use wtp_wire::frame::FrameKind;
 
 impl IoReadError {
-    /// Returns the error code, or `None` if the source gave no more bytes.
+    /// Returns the error code, or `None` if the source gave no more bytes and cut off no frame.
     pub fn code(&self) -> Option<ErrorCode>
         ensures { result ≡ stream_code self.now }
     {
@@ -23,8 +23,8 @@ impl ReceiveError {
     /// Returns the error code if what was received is invalid. A DATA frame before the HEADERS
     /// frame of a message is not permitted (RFC 9114, section 4.1).
     ///
-    /// Returns `None` if nothing invalid was received: the source was not ready or gave no more
-    /// bytes, memory allocation failed, or the frame is of another kind.
+    /// Returns `None` if nothing invalid was received: the source was not ready, or gave no more
+    /// bytes and cut off no frame; memory allocation failed; or the frame is of another kind.
     pub fn code(&self) -> Option<ErrorCode>
         ensures { result ≡ receive_code self.now }
     {

@@ -1,4 +1,4 @@
-//! Sends and receives a header map, or any frame, in a bounded number of polls.
+//! Sends a frame, and sends or receives a header map, in a bounded number of polls.
 //!
 //! A caller that has nothing else to do meanwhile repeats a poll itself; these calls do that.
 ghost use Rattle.std.specs.Prelude.{◌≡◌, ◌≤◌, ◌*◌, ◌^◌, List, length, Err};

@@ -68,9 +68,9 @@ pub fn only_remote_bi_counts()
         → run role f bytes tail ≡ run role g bytes tail }
 {}
 
-/// The run of a reading state and the bytes ahead is that of the bytes held followed by the bytes
-/// ahead. If payload bytes of an unknown frame are left to skip, it is the run of the bytes after
-/// those. If there are fewer bytes ahead, it has no frame.
+/// The run of a reading state and the bytes ahead, where no more may follow, is that of the bytes
+/// held followed by the bytes ahead. If payload bytes of an unknown frame are left to skip, it is
+/// the run of the bytes after those. If there are fewer bytes ahead, it has no frame.
 pub fn run_held_by_bytes()
     ensures held { (role : Role) (first : Bool) (h : Held) (ahead : List ℕ) (tail : Tail)
         → tail ≢ MayGoOn → h.skip_remaining ≡ 0
@@ -92,9 +92,9 @@ pub fn buffered_and_polled_agree()
         → Agrees role first tail bytes (run role first bytes MayGoOn) (run role first bytes tail) }
 {}
 
-/// A header map that is sent completely is read back as the same map. On every bidirectional
-/// stream, the run of the bytes of its frame, followed by any bytes, starts with that frame, and
-/// decoding the frame's section gives the map.
+/// A header map that is sent completely, in a frame with a payload of at most 4096 bytes, is read
+/// back as the same map. On every bidirectional stream, the run of the bytes of its frame, followed
+/// by any bytes, starts with that frame, and decoding the frame's section gives the map.
 pub fn header_run()
     ensures sent { (role : Role) (first : Bool) (m : List Field) (rest : List ℕ) (tail : Tail)
         → role ≢ RemoteUni → length (payload m) ≤ 4096

@@ -121,11 +121,11 @@ impl BiAccepting {
     ///   HEADERS frame (RFC 9114, section 4.1). The source is positioned right after the frame,
     ///   right after its head if that is invalid, or at the end.
     /// - `Failed(_, IO(error))`: the source gave no more bytes. The error is `ImmediateFin` if the
-    ///   source ended and no byte is held.
+    ///   source ended and no frame was begun.
     ///
-    /// Each returned state holds the bytes received of a partial frame, or skips them if they are
-    /// the payload of an unknown one, and loses none of them. It may be polled again, with the same
-    /// source or another one. `Failed` leaves the stream as `read_frame_async` does: a frame that
+    /// Each returned state holds the bytes received of a partial frame; those of an unknown one are
+    /// held until its head is complete, and skipped from then on. It may be polled again, with the
+    /// same source or another one. `Failed` leaves the stream as `read_frame_async` does: a frame that
     /// was not allowed counts as read.
     pub fn poll<S: AsyncRead>(mut self, source: &mut S) -> BiAccepted
         ensures was_unfinished { IsUnfinished self.reading }

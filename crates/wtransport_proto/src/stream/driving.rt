@@ -220,10 +220,11 @@ pub enum Driven {
 /// opened and that may be a session's, as it would read the bytes after the WebTransport frame,
 /// which are the application's, as frames: `StreamBiRemoteH3::accept_async` accepts that first.
 ///
-/// No result loses a byte: what was there is the frames that were appended and what is held and
-/// ahead now. So it may be called again after each of them, with the same stream, reading and list,
-/// and with the same source or another. With no polls it changes nothing. Requires that frames may
-/// be read, as `can_read` reports.
+/// No result but `Ended` loses a byte, except those of unknown frames: what was there is the frames
+/// that were appended and what is held and ahead now. After `Ended`, the frame or the head that was
+/// refused is gone. It may be called again after each of them, with the same stream, reading and
+/// list, and with the same source or another. With no polls it changes nothing. Requires that
+/// frames may be read, as `can_read` reports.
 pub fn drive<K: ReadsFrames, S: AsyncRead>(
     stream: &mut K,
     reading: &mut FrameReading,

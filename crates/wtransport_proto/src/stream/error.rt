@@ -12,7 +12,8 @@ use wtp_core::error::ErrorCode;
 /// header by name, and `bytes::IoReadError` the fault of the source alone.
 #[derive(Debug, Drop, PartialEq, Eq, thiserror::Error)]
 pub enum IoReadError {
-    /// The bytes violate a rule of HTTP/3; an end inside a frame or a header does.
+    /// The bytes violate a rule of HTTP/3; an end inside a frame does. An end inside the header of a
+    /// unidirectional stream has the same code, and must be tolerated (RFC 9114, section 6.2).
     #[error("{0}")]
     H3(ErrorCode),
     /// The source gave no more bytes.

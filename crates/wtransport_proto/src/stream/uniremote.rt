@@ -154,13 +154,14 @@ impl StreamUniRemoteH3 {
     /// - `Ready(Ok(frame))`: the next frame. The source is positioned right after it.
     /// - `Ready(Err(H3(code)))`: the code that `read_frame` returns, after the bytes that decided;
     ///   or `Frame` if the source ended inside a frame.
-    /// - `Ready(Err(IO(fault)))`: the source gave no more bytes; `ImmediateFin` if nothing is held.
+    /// - `Ready(Err(IO(fault)))`: the source gave no more bytes; `ImmediateFin` if it ended and no
+    ///   frame was begun.
     /// - `Pending`: the source was not ready. `NoMemory`: allocation failed for a payload.
     /// - `Again`: an unknown frame was skipped, or 4096 bytes of its payload.
     ///
-    /// The reading holds the bytes received of a frame, or skips them if they are the payload of an
-    /// unknown one, and loses nothing. It may be polled again after each of these, with the same
-    /// source or another.
+    /// The reading holds the bytes received of a partial frame; those of an unknown one are held
+    /// until its head is complete, and skipped from then on. It may be polled again after each of
+    /// these, with the same source or another.
     pub fn read_frame_async<S: AsyncRead>(
         &mut self,
         reading: &mut FrameReading,

@@ -75,7 +75,7 @@ returns-in-NoMemory g c =
     record {
       can = c.read_frame_async.ensures.can;
       changes = first_on g.K.ReadsFrames.first _ _ _ c.loop-turn.invariant.changes c.read_frame_async.ensures.changes;
-      read = told_memory s t u g.K.ReadsFrames.role f0 f1 f2 c.loop-turn._turn c.args.turns c.loop-turn.reading c.read_frame_async.new.reading c.loop-turn-test.true c.read_frame_async.ensures.unfinished c.loop-turn.invariant.model (poll_did t u g.K.ReadsFrames.role NoMemory f1 f2 c.loop-turn.reading c.read_frame_async.new.reading c.in-NoMemory.ensures.polled c.in-NoMemory.ensures.waits c.read_frame_async.ensures.asks);
+      read = told_memory s t u g.K.ReadsFrames.role f0 f1 f2 c.loop-turn._turn c.args.turns c.loop-turn.reading c.read_frame_async.new.reading c.loop-turn-test.true c.read_frame_async.ensures.unfinished c.in-NoMemory.ensures.given.2 c.loop-turn.invariant.model (poll_did t u g.K.ReadsFrames.role NoMemory f1 f2 c.loop-turn.reading c.read_frame_async.new.reading c.in-NoMemory.ensures.polled c.in-NoMemory.ensures.waits c.read_frame_async.ensures.asks);
       asks = asks_end s t u c.loop-turn._turn c.args.turns c.loop-turn-test.true c.loop-turn.invariant.asks c.read_frame_async.ensures.asks;
       waits = waits_end s t u c.loop-turn._turn c.args.turns c.loop-turn-test.true c.loop-turn.invariant.waits c.in-NoMemory.ensures.waits;
     }
