@@ -173,6 +173,7 @@ abbrev pub IsFirstUnlessMore :
 IsFirstUnlessMore (found.More n) x c s bytes chunk k d t = Unit {0}
 IsFirstUnlessMore other x c s bytes chunk k d t = IsFirstFound x c s bytes chunk k d t
 
+-- what a call found, if it found something, is what is found first in the bytes of its source
 abbrev pub FindsFirst :
     Result Received NotHeld → Connection → Stream → List ℕ → List ℕ → Hold → Connection → Stream → Type 0
 FindsFirst (Ok x) c s bytes chunk k d t = IsFirstUnlessMore x.found x c s bytes chunk k d t
