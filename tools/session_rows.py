@@ -156,6 +156,7 @@ SESSION_ROWS = [
     malformed("user information (4.3.1)", *without(GET, b":authority"), (b"host", b"a@b")),
     malformed("CONNECT with a path (4.4)", *CONNECT, (b":path", b"/")),
     malformed("CONNECT without an authority (4.4)", CONNECT[0]),
+    malformed("CONNECT with a host alone (4.4)", CONNECT[0], (b"host", b"a")),
     malformed("a protocol without CONNECT (RFC 8441, 4)", *GET, SESSION[-1]),
     malformed("a session without a scheme (RFC 8441, 4)", *without(SESSION, b":scheme")),
     malformed("a session without a path (RFC 8441, 4)", *without(SESSION, b":path")),
@@ -181,6 +182,19 @@ SESSION_ROWS = [
         data(b"abc"),
         data(b"d"),
         code=MESSAGE,
+    ),
+    message(
+        "the head alone of content that is too long, and the end (7.1)",
+        headers(*GET, (b"content-length", b"3")),
+        b"\0\4",
+        code=FRAME,
+    ),
+    message(
+        "the head alone of content that is too long, and a reset",
+        headers(*GET, (b"content-length", b"3")),
+        b"\0\4",
+        end=False,
+        after="reset 0",
     ),
     message(
         "content that is too short",
@@ -216,6 +230,7 @@ SESSION_ROWS = [
     answer("its length without content", status(b"200", (b"content-length", b"9")), asked="head"),
     answer("content of 204 (RFC 9110, 6.4.1)", status(b"204"), data(b"x"), code=MESSAGE),
     answer("content of 304", status(b"304", (b"content-length", b"1")), data(b"x"), code=MESSAGE),
+    answer("the head alone of content of 304, and the end", status(b"304"), b"\0\1", code=FRAME),
     answer("304 with a length", status(b"304", (b"content-length", b"9"))),
     answer(
         "content that is too short",
