@@ -32,7 +32,7 @@ last_byte h b n v (x ∷ rest) none e =
     absurd (not_none ((n, v), drop (length p.s) h) (pair_at h) none (ap pair_at whole ∙ pair_at-encoded n v p.s (drop (length p.s) h) p.encoded))
 
 -- the end of bytes that follow others is the end of them all
-tail_of : (h a g b : List ℕ)
+pub tail_of : (h a g b : List ℕ)
     → g ++ b ≡ h ++ a
     → length b ≤ length a
     → b ≡ drop (length a - length b) a

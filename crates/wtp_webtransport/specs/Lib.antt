@@ -12,3 +12,4 @@ pub mod Joining
 pub mod Endings
 pub mod Words
 pub mod Places
+pub mod Said

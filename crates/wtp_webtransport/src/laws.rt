@@ -5,9 +5,10 @@ ghost use Rattle.wtp_webtransport.specs.declared.connection.Connection.{Connecti
 ghost use Rattle.wtp_webtransport.specs.declared.stream.Stream.{Stream};
 ghost use Rattle.wtp_webtransport.specs.Receiving.{Outcome, Receives};
 ghost use Rattle.wtp_webtransport.specs.Calls.{Stops, Finishes, Reads, SaysTo, left_of, told_before, told_all, course_of, plain, moved, IsSession, IsPiece, HasMemory, HasFrames, Grown};
+ghost use Rattle.wtp_webtransport.specs.Said.{of_session, said, Says, Follow, IsOpen, SessionReads, session_told, AreAlike};
 ghost use Rattle.wtp_connection.specs.Opening.{is_critical};
 ghost use Rattle.wtp_webtransport.specs.Endings.{KeepsSession, KeepsAfter, accepts_session};
-ghost use Rattle.wtp_webtransport.specs.Joining.{resets, stops_half, abandons, joins, overflows};
+ghost use Rattle.wtp_webtransport.specs.Joining.{resets, stops_half, abandons, joins, overflows, rejects};
 ghost use Rattle.wtp_webtransport.specs.Streams.{is_held, answered};
 ghost use Rattle.wtp_connection.specs.declared.connection.Known.{Known};
 ghost use Rattle.wtp_messages.specs.Content.{fits, left_after};
@@ -32,6 +33,8 @@ pub fn sessions_end_once()
     ensures abandon { (c : Connection) (s : Stream) → KeepsAfter s (abandons c s) }
     ensures join { (c : Connection) (s : Stream) (k : Known) → KeepsAfter s (joins c s k) }
     ensures overflow { (c : Connection) (s : Stream) → KeepsAfter s (overflows c s) }
+    ensures reject { (c : Connection) (s : Stream) (id : ℕ) (goaway : Option ℕ)
+        → KeepsAfter s (rejects c s id goaway) }
     ensures answer { (s : Stream) (status : ℕ) → is_held (answered s status).part
         ≡ (is_held s.part || accepts_session s.part status) }
 {}
@@ -77,6 +80,39 @@ pub fn streams_may_be_cut()
     ensures ends { (limit : ℕ) (os gs : List Outcome) (z y : Outcome) (c : Connection) (s : Stream)
         (a b : List ℕ) (fin : Bool) → Reads limit os z c s a false → course_of z.1 ≡ Finishes
         → Reads limit gs y c s (a ++ b) fin → SaysTo (told_all os z) z gs y }
+{}
+
+/// However the bytes of the own stream of an open session are cut, its calls say the same of the session,
+/// as long as it is open. With memory:
+///
+/// - `call`: what is said of all bytes is what a call on the first of them says, and then what is said of
+///   those that it leaves and those that follow; or what it says alone, if the session ends with it.
+/// - `stays`: after it the session is open, or it ended with the call.
+/// - `stops`: the calls on the bytes `a`, and then those on what they left and `b`, say together what the
+///   calls on `a` and `b` say.
+/// - `alike`: and if the session is still open then, it is equally far.
+/// - `ends`: if the session ends in the bytes `a`, what follows them makes no difference.
+pub fn sessions_may_be_cut()
+    ensures call { (limit : ℕ) (c : Connection) (s : Stream) (a b : List ℕ) (fin end : Bool) (o : Outcome)
+        (h : IsOpen c s a) → Follow fin b end → HasMemory o → Receives limit c s a fin o
+        → Says end (drop o.0 a ++ b) (of_session o.1) o (said end h.size c s (a ++ b)) }
+    ensures stays { (limit : ℕ) (c : Connection) (s : Stream) (a : List ℕ) (fin : Bool) (o : Outcome)
+        → IsOpen c s a → HasMemory o → Receives limit c s a fin o → IsSession o.3.part
+        → IsOpen o.2 o.3 (drop o.0 a) }
+    ensures stops { (limit : ℕ) (os fs gs : List Outcome) (z w y : Outcome) (c : Connection) (s : Stream)
+        (a b : List ℕ) (fin : Bool) → IsOpen c s a → SessionReads limit os z c s a false
+        → IsSession z.3.part → SessionReads limit fs w z.2 z.3 (left_of os z a ++ b) fin
+        → SessionReads limit gs y c s (a ++ b) fin
+        → session_told gs y ≡ session_told os z ++ session_told fs w }
+    ensures alike { (limit : ℕ) (os fs gs : List Outcome) (z w y : Outcome) (c : Connection) (s : Stream)
+        (a b : List ℕ) (fin : Bool) → IsOpen c s a → SessionReads limit os z c s a false
+        → IsSession z.3.part → SessionReads limit fs w z.2 z.3 (left_of os z a ++ b) fin
+        → SessionReads limit gs y c s (a ++ b) fin → IsSession w.3.part → IsSession y.3.part
+        → AreAlike w y (left_of fs w (left_of os z a ++ b)) (left_of gs y (a ++ b)) }
+    ensures ends { (limit : ℕ) (os gs : List Outcome) (z y : Outcome) (c : Connection) (s : Stream)
+        (a b : List ℕ) (fin : Bool) → IsOpen c s a → SessionReads limit os z c s a false
+        → (IsSession z.3.part → ⊥) → SessionReads limit gs y c s (a ++ b) fin
+        → session_told gs y ≡ session_told os z }
 {}
 
 /// The content of a session may be cut anywhere, also where allocation failed: whatever follows the
