@@ -19,13 +19,13 @@ use Rattle.wtp_webtransport.specs.declared.stream.Part.{Part}
 use Rattle.wtp_webtransport.specs.declared.stream.Part.TheVariants as part
 use Rattle.wtp_webtransport.specs.declared.stream.Stream.{Stream}
 use Rattle.wtp_webtransport.specs.declared.stream.Unread.TheVariants as unread
-use Rattle.wtp_webtransport.specs.Capsules.{Found, Place, Head, Value, Skipping, skipping, value_taken, starts, sort_of, head_by, Taken, taken_of, CapsuleIs}
-use Rattle.wtp_webtransport.specs.Cuts.{Run, rests, breaks, followed as capsule_followed, run, IsProper}
-use Rattle.wtp_webtransport.specs.Events.{Told, Datagram, Draining, Skipped, SessionClosed, StreamError}
+use Rattle.wtp_webtransport.specs.Capsules.{Found, Place, Head, Value, Skipping, skipping, value_taken, starts, sort_of, head_by, Taken, taken_of, CapsuleIs, IsWithin}
+use Rattle.wtp_webtransport.specs.Cuts.{Run, rests, breaks, followed as capsule_followed, after_found, run, IsProper}
+use Rattle.wtp_webtransport.specs.Events.{Told, Datagram, Draining, Skipped, SessionClosed, StreamError, NoMemory}
 use Rattle.wtp_webtransport.specs.Streams.{with_part, GivesNext, after_error}
 use Rattle.wtp_webtransport.specs.Receiving.{Outcome, spoiled, closed_if, complete, capsule_found, goes_on, CapsulesGive}
-use Rattle.wtp_webtransport.specs.Calls.{IsSession, Stops, course_of, HasMemory}
-use Rattle.wtp_webtransport.specs.Said.{of_session, content_in, ending_in, place_told, close_told, capsules_told, Said, said_by, said_from, run_to, said, preceded, IsWithin, IsOpen, SaysBy, Says}
+use Rattle.wtp_webtransport.specs.Calls.{IsSession, Stops, course_of}
+use Rattle.wtp_webtransport.specs.Said.{of_session, content_in, ending_in, place_told, close_told, capsules_told, Said, said_by, said_from, run_to, said, preceded, IsOpen, SaysBy, Says}
 use Rattle.wtp_webtransport.proofs.CapsuleLemmas.{no_pair, tail_of}
 use Rattle.wtp_webtransport.proofs.CutLemmas.{longer, still, may_be_cut}
 
@@ -89,6 +89,12 @@ place_rests (Skipping n) w =
 pub run_rests : (p : Place) → IsWithin p → run p [] ≡ rests p
 unfolding run
 run_rests p w = still 2 p (place_rests p w)
+
+-- the place after a capsule need not be known
+pub content_cut : (r : Found) (p q : Place) (a b more : List ℕ) → IsProper p → CapsuleIs r p a q b → run p (a ++ more) ≡ after_found r (run q (b ++ more))
+content_cut (Err capsule_error.Memory) p q a b more u k = may_be_cut (Err capsule_error.Memory) p q a b more u (proper q k.within) k
+content_cut (Err capsule_error.TooLong) p q a b more u k = may_be_cut (Err capsule_error.TooLong) p q a b more u (proper q (subst (λ (t : Taken). IsWithin t.1) (sym k) (taken_within p a))) k
+content_cut (Ok x) p q a b more u k = may_be_cut (Ok x) p q a b more u (proper q (subst (λ (t : Taken). IsWithin t.1) (sym k) (taken_within p a))) k
 
 -- ---- the bytes that a capsule leaves are the last ones
 
@@ -283,14 +289,14 @@ closing_says (Some close) fin end c s size last later bytes more o all is h g =
     subst (λ (z : Outcome). CallSays fin end bytes more z all) (sym g)
     (over_says (part.Closed later) fin end bytes more (last, SessionClosed close, c, with_part s (part.Closed later)) all refl (λ i. i) (λ st. cc st) h)
 
-capsule_says : (r : Found) (fin end : Bool) (c : Connection) (s : Stream) (size : ℕ) (p q : Place) (bytes more piece b : List ℕ) (last : ℕ) (o : Outcome) (all : Said) → c.over ≡ false → s.unread ≡ unread.Nothing → s.part ≡ part.Session size → IsWithin p → last ≤ length bytes → Located bytes piece last → HasMemory o → all ≡ said_from (Some p) piece (run_to end c.streams s.frames (drop last bytes ++ more)) → CapsuleIs r p piece q b → o ≡ capsule_found r c (record s { capsules = Some q }) (length b) last (length bytes) → CallSays fin end bytes more o all
-capsule_says (Ok None) fin end c s size p q bytes more piece b last o all intact none is w inside at m h k g =
+capsule_says : (r : Found) (fin end : Bool) (c : Connection) (s : Stream) (size : ℕ) (p q : Place) (bytes more piece b : List ℕ) (last : ℕ) (o : Outcome) (all : Said) → c.over ≡ false → s.unread ≡ unread.Nothing → s.part ≡ part.Session size → IsWithin p → last ≤ length bytes → Located bytes piece last → all ≡ said_from (Some p) piece (run_to end c.streams s.frames (drop last bytes ++ more)) → CapsuleIs r p piece q b → o ≡ capsule_found r c (record s { capsules = Some q }) (length b) last (length bytes) → CallSays fin end bytes more o all
+capsule_says (Ok None) fin end c s size p q bytes more piece b last o all intact none is w inside at h k g =
     let z : StreamRun = run_to end c.streams s.frames (drop last bytes ++ more) in
     let inner : IsWithin q = subst (λ (t : Taken). IsWithin t.1) (sym k) (taken_within p piece) in
     let tail : Tail b piece = subst (λ (t : Taken). Tail t.2 piece) (sym k) (taken_tail p piece w) in
     let cut : run p (piece ++ content_in z.seen) ≡ run q (b ++ content_in z.seen) = may_be_cut (Ok None) p q piece b (content_in z.seen) (proper p w) (proper q inner) k in
     goes_says fin end c (record s { capsules = Some q }) q bytes more b last Skipped o all intact none refl inner inside (at b tail) (λ st. cc st) (h ∙ ap (λ (x : Run). said_by x z) cut) g
-capsule_says (Ok (Some (kind, value))) fin end c s size p q bytes more piece b last o all intact none is w inside at m h k g =
+capsule_says (Ok (Some (kind, value))) fin end c s size p q bytes more piece b last o all intact none is w inside at h k g =
     let z : StreamRun = run_to end c.streams s.frames (drop last bytes ++ more) in
     let inner : IsWithin q = subst (λ (t : Taken). IsWithin t.1) (sym k) (taken_within p piece) in
     let tail : Tail b piece = subst (λ (t : Taken). Tail t.2 piece) (sym k) (taken_tail p piece w) in
@@ -301,17 +307,20 @@ capsule_says (Ok (Some (kind, value))) fin end c s size p q bytes more piece b l
     meant capsule.Close at inner h g = closing_says (close_in value) fin end c (record s { capsules = Some q }) size last (nat_lt 0 (length b)) bytes more o all is (ap (λ (x : Said). x.told) h) g
     meant capsule.Datagram at inner h g = goes_says fin end c (record s { capsules = Some q }) q bytes more b last (Datagram value) o all intact none refl inner inside at (λ st. cc st) h g
     meant capsule.Drain at inner h g = goes_says fin end c (record s { capsules = Some q }) q bytes more b last Draining o all intact none refl inner inside at (λ st. cc st) h g
-capsule_says (Err capsule_error.TooLong) fin end c s size p q bytes more piece b last o all intact none is w inside at m h k g =
+capsule_says (Err capsule_error.TooLong) fin end c s size p q bytes more piece b last o all intact none is w inside at h k g =
     let z : StreamRun = run_to end c.streams s.frames (drop last bytes ++ more) in
     let inner : IsWithin q = subst (λ (t : Taken). IsWithin t.1) (sym k) (taken_within p piece) in
     let cut : run p (piece ++ content_in z.seen) ≡ breaks = may_be_cut (Err capsule_error.TooLong) p q piece b (content_in z.seen) (proper p w) (proper q inner) k in
     spoiled_says fin end c (record s { capsules = Some q }) size bytes more o all is (ap (λ (x : Said). x.told) (h ∙ ap (λ (x : Run). said_by x z) cut)) g
-capsule_says (Err capsule_error.Memory) fin end c s size p q bytes more piece b last o all intact none is w inside at m h k g =
-    absurd (m (ap (λ (z : Outcome). course_of z.1) g))
+capsule_says (Err capsule_error.Memory) fin end c s size p q bytes more piece b last o all intact none is w inside at h k g =
+    let z : StreamRun = run_to end c.streams s.frames (drop last bytes ++ more) in
+    let tail : Tail b piece = subst (λ (l : List ℕ). Tail l piece) (sym k.last) (drop_tail (length piece - length b) piece) in
+    let cut : run p (piece ++ content_in z.seen) ≡ run q (b ++ content_in z.seen) = may_be_cut (Err capsule_error.Memory) p q piece b (content_in z.seen) (proper p w) (proper q k.within) k in
+    goes_says fin end c (record s { capsules = Some q }) q bytes more b last NoMemory o all intact none refl k.within inside (at b tail) (λ st. cc st) (h ∙ ap (λ (x : Run). said_by x z) cut) g
 
-pub capsules_say : (fin end : Bool) (c : Connection) (s : Stream) (size : ℕ) (p : Place) (bytes more piece : List ℕ) (last : ℕ) (o : Outcome) (all : Said) → c.over ≡ false → s.unread ≡ unread.Nothing → s.part ≡ part.Session size → s.capsules ≡ Some p → IsWithin p → last ≤ length bytes → Located bytes piece last → HasMemory o → all ≡ said_from (Some p) piece (run_to end c.streams s.frames (drop last bytes ++ more)) → CapsulesGive c s piece last (length bytes) o → CallSays fin end bytes more o all
-capsules_say fin end c s size p bytes more piece last o all intact none is cap w inside at m h (r, t, b, gives, g) =
+pub capsules_say : (fin end : Bool) (c : Connection) (s : Stream) (size : ℕ) (p : Place) (bytes more piece : List ℕ) (last : ℕ) (o : Outcome) (all : Said) → c.over ≡ false → s.unread ≡ unread.Nothing → s.part ≡ part.Session size → s.capsules ≡ Some p → IsWithin p → last ≤ length bytes → Located bytes piece last → all ≡ said_from (Some p) piece (run_to end c.streams s.frames (drop last bytes ++ more)) → CapsulesGive c s piece last (length bytes) o → CallSays fin end bytes more o all
+capsules_say fin end c s size p bytes more piece last o all intact none is cap w inside at h (r, t, b, gives, g) =
     next (subst (λ (k : Option Place). GivesNext k r s piece t b) cap gives)
   where
     next : GivesNext (Some p) r s piece t b → CallSays fin end bytes more o all
-    next (q, k, e) = capsule_says r fin end c s size p q bytes more piece b last o all intact none is w inside at m h k (g ∙ ap (λ (u : Stream). capsule_found r c u (length b) last (length bytes)) e)
+    next (q, k, e) = capsule_says r fin end c s size p q bytes more piece b last o all intact none is w inside at h k (g ∙ ap (λ (u : Stream). capsule_found r c u (length b) last (length bytes)) e)

@@ -28,15 +28,15 @@ use Rattle.wtp_webtransport.specs.declared.stream.Unread.{Unread}
 use Rattle.wtp_webtransport.specs.declared.stream.Unread.TheVariants as unread
 use Rattle.wtp_webtransport.specs.declared.stream.Due.{Due}
 use Rattle.wtp_webtransport.specs.declared.stream.Due.TheVariants as due
-use Rattle.wtp_webtransport.specs.Capsules.{Place, Head, Value, Skipping, between}
+use Rattle.wtp_webtransport.specs.Capsules.{Place, Head, Value, Skipping, between, IsWithin}
 use Rattle.wtp_webtransport.specs.Cuts.{Run}
 use Rattle.wtp_webtransport.specs.Events.{Told, Joins, Opened, Settings, GoAway, Frame, SessionClosed, StreamError, TooLarge}
 use Rattle.wtp_webtransport.specs.Fault.{scope_of}
 use Rattle.wtp_messages.specs.declared.message.Role.TheVariants as role
 use Rattle.wtp_webtransport.specs.Streams.{with_streams, with_frames, with_part, with_head, head_if, with_session_id, member_if, due_by, content_due, EndsBetween}
 use Rattle.wtp_webtransport.specs.Receiving.{Outcome, closed_in, failed_by, CapsulesGive, ContentBy, DataBy, SessionEndGives, EndBy, SectionBy, found_opened, goaway_in, in_stream, told_more, too_large_by, FoundGives, GoesOn, DueGives, StreamGives, ReceivesIf, Receives}
-use Rattle.wtp_webtransport.specs.Calls.{IsSession, Stops, course_of, HasMemory, left_of}
-use Rattle.wtp_webtransport.specs.Said.{of_session, error_told, ending_told, place_told, capsules_told, Said, said_by, said_from, run_to, said, preceded, IsWithin, IsOpen, SaysBy, Says, Follow, SessionReads, session_told, AreAlike}
+use Rattle.wtp_webtransport.specs.Calls.{IsSession, Stops, course_of, left_of}
+use Rattle.wtp_webtransport.specs.Said.{of_session, error_told, ending_told, place_told, capsules_told, Said, said_by, said_from, run_to, said, preceded, IsOpen, SaysBy, Says, Follow, SessionReads, session_told, AreAlike}
 use Rattle.wtp_webtransport.proofs.SaidLemmas.{run_rests, located, front_located, said_piece, Rested, CallSays, over_says, quiet_says, lost_part, spoiled_says, capsules_say}
 
 -- ---- whatever was found
@@ -119,28 +119,28 @@ none_left : (fin : Bool) (n : ℕ) (bytes : List ℕ) (d : Streams) (t : Frames)
 none_left true n bytes d t w settled = settled refl
 none_left false n bytes d t w settled = w.1.idle
 
-found_says : (x : Finding) (limit : ℕ) (fin end : Bool) (c : Connection) (s : Stream) (p : Place) (bytes more : List ℕ) (o : Outcome) (all : Said) → c.over ≡ false → s.unread ≡ unread.Nothing → s.part ≡ part.Session 0 → s.capsules ≡ Some p → IsWithin p → HasMemory o → Fits x bytes c.streams s.frames → (fin ≡ true → Settled x bytes c.streams s.frames) → Rest x end c s p bytes more all → FoundGives limit x c s bytes o → CallSays fin end bytes more o all
-found_says (found.Opened q n) limit fin end c s p bytes more o all intact none is cap w m fit settled h g =
+found_says : (x : Finding) (limit : ℕ) (fin end : Bool) (c : Connection) (s : Stream) (p : Place) (bytes more : List ℕ) (o : Outcome) (all : Said) → c.over ≡ false → s.unread ≡ unread.Nothing → s.part ≡ part.Session 0 → s.capsules ≡ Some p → IsWithin p → Fits x bytes c.streams s.frames → (fin ≡ true → Settled x bytes c.streams s.frames) → Rest x end c s p bytes more all → FoundGives limit x c s bytes o → CallSays fin end bytes more o all
+found_says (found.Opened q n) limit fin end c s p bytes more o all intact none is cap w fit settled h g =
     opened_says q fin end c s p bytes more n o all (intact, none, is, cap, w, fit, h) g
-found_says (found.Settings v start last) limit fin end c s p bytes more o all intact none is cap w m fit settled h g =
+found_says (found.Settings v start last) limit fin end c s p bytes more o all intact none is cap w fit settled h g =
     silent_says fin end (record c { configured = true }) s p bytes more last (Settings v (slice start last bytes)) o all (intact, none, is, cap, w, fit.2, h) refl (λ st. cc st) g
-found_says (found.Frame k start last) limit fin end c s p bytes more o all intact none is cap w m fit settled h g =
+found_says (found.Frame k start last) limit fin end c s p bytes more o all intact none is cap w fit settled h g =
     frame_says k limit fin end c s p bytes more start last o all (intact, none, is, cap, w, fit.2, h) g
-found_says (found.Data start last) limit fin end c s p bytes more o all intact none is cap w m fit settled h g =
+found_says (found.Data start last) limit fin end c s p bytes more o all intact none is cap w fit settled h g =
     let piece : List ℕ = slice start last bytes in
-    capsules_say fin end c s 0 p bytes more piece last o all intact none is cap w fit.1 (located start last bytes (omega (arith, fit.0)) fit.1) m
+    capsules_say fin end c s 0 p bytes more piece last o all intact none is cap w fit.1 (located start last bytes (omega (arith, fit.0)) fit.1)
     (h ∙ said_piece p piece (run_to end c.streams s.frames (drop last bytes ++ more)))
     (subst (λ (k : Part). DataBy k c s start last bytes o) is g)
-found_says (found.TooLarge size n) limit fin end c s p bytes more o all intact none is cap w m fit settled h g =
+found_says (found.TooLarge size n) limit fin end c s p bytes more o all intact none is cap w fit settled h g =
     silent_says fin end c s p bytes more n (TooLarge (Some size)) o all (intact, none, is, cap, w, fit.1, h) refl (λ st. cc st)
     (g ∙ ap (λ (k : Part). too_large_by k c s (Some size) n) is)
-found_says (found.More n) limit fin end c s p bytes more o all intact none is cap w m fit settled h g =
+found_says (found.More n) limit fin end c s p bytes more o all intact none is cap w fit settled h g =
     quiet_says fin end c s p bytes more n (told_more s.frames) o all intact none is cap w fit.0 (more_silent s.frames) (λ st. none_left fin n bytes c.streams s.frames fit settled) h g
-found_says (found.Fault f) limit fin end c s p bytes more o all intact none is cap w m fit settled h g =
+found_says (found.Fault f) limit fin end c s p bytes more o all intact none is cap w fit settled h g =
     failed_says (scope_of (fault.Streams f)) fin end c s (fault.Streams f) bytes more o all is
     (ap (λ (x : Said). x.told) h
     ∙ ap (λ (x : Run). capsules_told x.capsules (place_told (Some (Broke f)) x.place)) (run_rests p w)) g
-found_says found.End limit fin end c s p bytes more o all intact none is cap w m fit settled h g =
+found_says found.End limit fin end c s p bytes more o all intact none is cap w fit settled h g =
     end_says fin end c s p bytes more o all is cap
     (ap (λ (x : Said). x.told) h
     ∙ ap (λ (x : Run). capsules_told x.capsules (place_told (Some Ended) x.place)) (run_rests p w))
@@ -170,8 +170,8 @@ some_due size some = rw (lt-ltb 0 size some) refl
 none_due : (size : ℕ) → size ≡ 0 → content_due size ≡ due.Nothing
 none_due size none = ap content_due none
 
-read_says : (limit : ℕ) (c : Connection) (s : Stream) (bytes more : List ℕ) (fin end : Bool) (o : Outcome) (h : IsOpen c s bytes) → Follow fin more end → HasMemory o → DueGives (due_by s.part (length bytes == 0)) limit c s bytes fin o → CallSays fin end bytes more o (said end h.size c s (bytes ++ more))
-read_says limit c s bytes more fin end o h follows m g = elim (cases_lt 0 h.size) [
+read_says : (limit : ℕ) (c : Connection) (s : Stream) (bytes more : List ℕ) (fin end : Bool) (o : Outcome) (h : IsOpen c s bytes) → Follow fin more end → DueGives (due_by s.part (length bytes == 0)) limit c s bytes fin o → CallSays fin end bytes more o (said end h.size c s (bytes ++ more))
+read_says limit c s bytes more fin end o h follows g = elim (cases_lt 0 h.size) [
   | inl some ↦
       let size : ℕ = h.size in
       let due_is : due_by s.part (length bytes == 0) ≡ due.Content size = ap (λ (k : Part). due_by k (length bytes == 0)) h.part ∙ some_due size some in
@@ -181,7 +181,7 @@ read_says limit c s bytes more fin end o h follows m g = elim (cases_lt 0 h.size
       ap (λ (k : Option Place). said_from k (take size (bytes ++ more)) (run_to end c.streams s.frames (drop size (bytes ++ more)))) h.capsules
       ∙ ap (λ (l : List ℕ). said_from (Some h.place) l (run_to end c.streams s.frames (drop size (bytes ++ more)))) (take-append-le size bytes more h.came)
       ∙ ap (λ (l : List ℕ). said_from (Some h.place) (take size bytes) (run_to end c.streams s.frames l)) (drop-append-le size bytes more h.came) in
-      capsules_say fin end c s size h.place bytes more (take size bytes) size o (said end size c s (bytes ++ more)) h.intact h.read h.part h.capsules h.within h.came (front_located size bytes h.came) m all gives
+      capsules_say fin end c s size h.place bytes more (take size bytes) size o (said end size c s (bytes ++ more)) h.intact h.read h.part h.capsules h.within h.came (front_located size bytes h.came) all gives
   | inr few ↦
       let zero_size : h.size ≡ 0 = omega (arith, few) in
       let is : s.part ≡ part.Session 0 = h.part ∙ ap (λ (n : ℕ). part.Session n) zero_size in
@@ -191,24 +191,24 @@ read_says limit c s bytes more fin end o h follows m g = elim (cases_lt 0 h.size
       ap (λ (n : ℕ). said end n c s (bytes ++ more)) zero_size
       ∙ ap (λ (k : Option Place). said_from k [] (run_to end c.streams s.frames (bytes ++ more))) h.capsules
       ∙ ap (λ (z : StreamRun). said_from (Some h.place) [] z) (rest_found fin end x.x c.streams x.d s.frames x.t bytes more follows x.found) in
-      found_says x.x limit fin end (with_streams c x.d) (with_frames s x.t) h.place bytes more o (said end h.size c s (bytes ++ more)) h.intact h.read is h.capsules h.within m x.found.fits x.found.settled all x.gives
+      found_says x.x limit fin end (with_streams c x.d) (with_frames s x.t) h.place bytes more o (said end h.size c s (bytes ++ more)) h.intact h.read is h.capsules h.within x.found.fits x.found.settled all x.gives
 ]
 
 none_follow : (fin : Bool) → Follow fin [] fin
 none_follow true = (refl, refl)
 none_follow false = tt
 
-call_says : (limit : ℕ) (c : Connection) (s : Stream) (bytes more : List ℕ) (fin end : Bool) (o : Outcome) (h : IsOpen c s bytes) → Follow fin more end → HasMemory o → Receives limit c s bytes fin o → CallSays fin end bytes more o (said end h.size c s (bytes ++ more))
-call_says limit c s bytes more fin end o h follows m g =
-    read_says limit c s bytes more fin end o h follows m (
+call_says : (limit : ℕ) (c : Connection) (s : Stream) (bytes more : List ℕ) (fin end : Bool) (o : Outcome) (h : IsOpen c s bytes) → Follow fin more end → Receives limit c s bytes fin o → CallSays fin end bytes more o (said end h.size c s (bytes ++ more))
+call_says limit c s bytes more fin end o h follows g =
+    read_says limit c s bytes more fin end o h follows (
     subst (λ (k : Unread). StreamGives k limit c s bytes fin o) h.read (
     subst (λ (k : Bool). ReceivesIf k limit c s bytes fin o) h.intact g))
 
-pub call_told : (limit : ℕ) (c : Connection) (s : Stream) (bytes more : List ℕ) (fin end : Bool) (o : Outcome) (h : IsOpen c s bytes) → Follow fin more end → HasMemory o → Receives limit c s bytes fin o → Says end (drop o.0 bytes ++ more) (of_session o.1) o (said end h.size c s (bytes ++ more))
-call_told limit c s bytes more fin end o h follows m g = (call_says limit c s bytes more fin end o h follows m g).says
+pub call_told : (limit : ℕ) (c : Connection) (s : Stream) (bytes more : List ℕ) (fin end : Bool) (o : Outcome) (h : IsOpen c s bytes) → Follow fin more end → Receives limit c s bytes fin o → Says end (drop o.0 bytes ++ more) (of_session o.1) o (said end h.size c s (bytes ++ more))
+call_told limit c s bytes more fin end o h follows g = (call_says limit c s bytes more fin end o h follows g).says
 
-pub call_stays : (limit : ℕ) (c : Connection) (s : Stream) (bytes : List ℕ) (fin : Bool) (o : Outcome) → IsOpen c s bytes → HasMemory o → Receives limit c s bytes fin o → IsSession o.3.part → IsOpen o.2 o.3 (drop o.0 bytes)
-call_stays limit c s bytes fin o h m g i = (call_says limit c s bytes [] fin fin o h (none_follow fin) m g).stays i
+pub call_stays : (limit : ℕ) (c : Connection) (s : Stream) (bytes : List ℕ) (fin : Bool) (o : Outcome) → IsOpen c s bytes → Receives limit c s bytes fin o → IsSession o.3.part → IsOpen o.2 o.3 (drop o.0 bytes)
+call_stays limit c s bytes fin o h g i = (call_says limit c s bytes [] fin fin o h (none_follow fin) g).stays i
 
 -- ---- one call after the other
 
@@ -220,14 +220,14 @@ says_then (part.Session size) end x first told o next all e h =
 says_then other end x first told o next all e h = ap (λ (y : Said). y.told) e ∙ ap (λ (l : List Told). first ++ l) h
 
 all_say : (limit : ℕ) (os : List Outcome) (z : Outcome) (c : Connection) (s : Stream) (bytes more : List ℕ) (fin end : Bool) (h : IsOpen c s bytes) → Follow fin more end → SessionReads limit os z c s bytes fin → Says end (left_of os z bytes ++ more) (session_told os z) z (said end h.size c s (bytes ++ more))
-all_say limit [] z c s bytes more fin end h follows r = call_told limit c s bytes more fin end z h follows r.1 r.0
+all_say limit [] z c s bytes more fin end h follows r = call_told limit c s bytes more fin end z h follows r.0
 all_say limit (o ∷ os) z c s bytes more fin end h follows r =
-    let one : CallSays fin end bytes more o (said end h.size c s (bytes ++ more)) = call_says limit c s bytes more fin end o h follows r.1 r.0 in
-    let after : IsOpen o.2 o.3 (drop o.0 bytes) = one.stays r.2 in
+    let one : CallSays fin end bytes more o (said end h.size c s (bytes ++ more)) = call_says limit c s bytes more fin end o h follows r.0 in
+    let after : IsOpen o.2 o.3 (drop o.0 bytes) = one.stays r.1 in
     says_then z.3.part end (left_of os z (drop o.0 bytes) ++ more) (of_session o.1) (session_told os z) z
     (said end after.size o.2 o.3 (drop o.0 bytes ++ more)) (said end h.size c s (bytes ++ more))
     (subst (λ (k : Part). SaysBy k end (drop o.0 bytes ++ more) (of_session o.1) o (said end h.size c s (bytes ++ more))) after.part one.says)
-    (all_say limit os z o.2 o.3 (drop o.0 bytes) more fin end after follows r.3)
+    (all_say limit os z o.2 o.3 (drop o.0 bytes) more fin end after follows r.2)
 
 -- the session after them
 record LastSays (fin : Bool) (bytes : List ℕ) (z : Outcome) : Type 0 where
@@ -236,14 +236,14 @@ record LastSays (fin : Bool) (bytes : List ℕ) (z : Outcome) : Type 0 where
 
 last_says : (limit : ℕ) (os : List Outcome) (z : Outcome) (c : Connection) (s : Stream) (bytes : List ℕ) (fin : Bool) → IsOpen c s bytes → SessionReads limit os z c s bytes fin → LastSays fin (left_of os z bytes) z
 last_says limit [] z c s bytes fin h r =
-    let one : CallSays fin fin bytes [] z (said fin h.size c s (bytes ++ [])) = call_says limit c s bytes [] fin fin z h (none_follow fin) r.1 r.0 in
+    let one : CallSays fin fin bytes [] z (said fin h.size c s (bytes ++ [])) = call_says limit c s bytes [] fin fin z h (none_follow fin) r.0 in
     record { stays = one.stays; idle = one.idle }
 last_says limit (o ∷ os) z c s bytes fin h r =
-    last_says limit os z o.2 o.3 (drop o.0 bytes) fin ((call_says limit c s bytes [] fin fin o h (none_follow fin) r.1 r.0).stays r.2) r.3
+    last_says limit os z o.2 o.3 (drop o.0 bytes) fin ((call_says limit c s bytes [] fin fin o h (none_follow fin) r.0).stays r.1) r.2
 
 all_inside : (limit : ℕ) (os : List Outcome) (z : Outcome) (c : Connection) (s : Stream) (bytes : List ℕ) (fin : Bool) → SessionReads limit os z c s bytes fin → (course_of z.1 ≡ Stops) ⊎ (IsSession z.3.part → ⊥)
-all_inside limit [] z c s bytes fin r = r.2
-all_inside limit (o ∷ os) z c s bytes fin r = all_inside limit os z o.2 o.3 (drop o.0 bytes) fin r.3
+all_inside limit [] z c s bytes fin r = r.1
+all_inside limit (o ∷ os) z c s bytes fin r = all_inside limit os z o.2 o.3 (drop o.0 bytes) fin r.2
 
 -- an idle session says nothing more
 abbrev resting : Outcome → Place → List ℕ → Said

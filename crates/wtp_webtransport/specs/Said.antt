@@ -1,12 +1,11 @@
 -- What the own stream of an open session says of it, from all bytes of the stream, however they are cut
 -- into calls (RFC 9297, sections 3.2 and 3.3; draft-ietf-webtrans-http3-02, section 5;
 -- draft-ietf-webtrans-http3-07, section 4.6).
-use Rattle.std.specs.Prelude.{◌≡◌, ◌⊎◌, ◌≤◌, ◌<◌, ℕ, if◌then◌else◌, Bool, true, false, List, [], ◌∷◌, ◌++◌, length, take, drop, Option, Some, None}
+use Rattle.std.specs.Prelude.{◌≡◌, ◌⊎◌, ◌≤◌, ℕ, if◌then◌else◌, Bool, true, false, List, [], ◌∷◌, ◌++◌, length, take, drop, Option, Some, None}
 use Rattle.wtp_core.specs.declared.error.scope.ErrorScope.{ErrorScope}
 use Rattle.wtp_core.specs.declared.error.scope.ErrorScope.TheVariants as scope
 use Rattle.wtp_frames.specs.Item.{Byte}
 use Rattle.wtp_wire.specs.CloseSession.{close_in}
-use Rattle.wtp_wire.specs.Settings.{pair_at}
 use Rattle.wtp_connection.specs.declared.connection.Connection.{Connection as Streams}
 use Rattle.wtp_connection.specs.declared.stream.Stream.{Stream as Frames}
 use Rattle.wtp_connection.specs.Streams.{Seen, Gave, Broke, Ended, StreamRun, run_stream, ended as ended_run}
@@ -19,12 +18,12 @@ use Rattle.wtp_webtransport.specs.declared.stream.Part.{Part}
 use Rattle.wtp_webtransport.specs.declared.stream.Part.TheVariants as part
 use Rattle.wtp_webtransport.specs.declared.stream.Stream.{Stream}
 use Rattle.wtp_webtransport.specs.declared.stream.Unread.TheVariants as unread
-use Rattle.wtp_webtransport.specs.Capsules.{Place, Head, Value, Skipping}
+use Rattle.wtp_webtransport.specs.Capsules.{Place, Head, IsWithin}
 use Rattle.wtp_webtransport.specs.Cuts.{Run, run}
 use Rattle.wtp_webtransport.specs.Fault.{scope_of}
 use Rattle.wtp_webtransport.specs.Events.{Told, SessionClosed, Datagram, Draining, StreamError, ConnectionError}
 use Rattle.wtp_webtransport.specs.Receiving.{Outcome, Receives}
-use Rattle.wtp_webtransport.specs.Calls.{IsSession, Stops, course_of, HasMemory}
+use Rattle.wtp_webtransport.specs.Calls.{IsSession, Stops, course_of}
 
 -- ---- events
 
@@ -129,12 +128,6 @@ preceded told x = record {
 
 -- ---- calls
 
--- a type and a length are not complete, and bytes of a value are missing
-abbrev pub IsWithin : Place → Type 0
-IsWithin (Head head) = pair_at head ≡ None
-IsWithin (Value k value missing) = 0 < missing
-IsWithin (Skipping missing) = 0 < missing
-
 -- the own stream of an open session, where the bytes of content that are not read yet came
 pub record IsOpen (c : Connection) (s : Stream) (bytes : List ℕ) : Type 0 where
   pub intact : c.over ≡ false
@@ -161,16 +154,13 @@ abbrev pub Follow : Bool → List ℕ → Bool → Type 0
 Follow true more end = (more ≡ []) × (end ≡ true)
 Follow false more end = Unit {0}
 
--- Calls with memory, one after the other, as long as the session is open. The last one needs more bytes,
--- or the session is over after it.
+-- Calls one after the other, as long as the session is open. The last one needs more bytes, or the
+-- session is over after it.
 abbrev pub SessionReads : ℕ → List Outcome → Outcome → Connection → Stream → List ℕ → Bool → Type 0
 SessionReads limit [] z c s bytes fin =
-    Receives limit c s bytes fin z
-    × HasMemory z
-    × ((course_of z.1 ≡ Stops) ⊎ (IsSession z.3.part → ⊥))
+    Receives limit c s bytes fin z × ((course_of z.1 ≡ Stops) ⊎ (IsSession z.3.part → ⊥))
 SessionReads limit (o ∷ os) z c s bytes fin =
     Receives limit c s bytes fin o
-    × HasMemory o
     × IsSession o.3.part
     × SessionReads limit os z o.2 o.3 (drop o.0 bytes) fin
 

@@ -39,8 +39,8 @@ pub fn sessions_end_once()
         ≡ (is_held s.part || accepts_session s.part status) }
 {}
 
-/// The bytes of a stream may be cut anywhere, but for the content of a session (of that see
-/// [`content_of_sessions_may_be_cut`]). Wherever the calls have memory:
+/// The bytes of a stream may be cut anywhere, but for those of an open session (of that see
+/// [`sessions_may_be_cut`]). Wherever the calls have memory:
 ///
 /// - `stops`: after a call on the bytes `a` that needs more bytes, or waits, a call with what it left
 ///   and `b` returns what one on `a` and `b` returns.
@@ -70,8 +70,8 @@ pub fn calls_may_be_cut()
 /// However the bytes of a stream are cut, its calls say the same: the calls on the bytes `a`, up to one
 /// that needs more bytes or waits, and then those on what it left and `b`, say together what the calls on
 /// `a` and `b` say, byte by byte of pieces, and end with the same states; up to an error or the end they
-/// say so alone. This is with memory, before a session is open on the stream, and where each call consumes
-/// bytes that came.
+/// say so alone. This is with memory, and before a session is open on the stream (of that see
+/// [`sessions_may_be_cut`]).
 pub fn streams_may_be_cut()
     ensures stops { (limit : ℕ) (os fs gs : List Outcome) (z w y : Outcome) (c : Connection) (s : Stream)
         (a b : List ℕ) (fin : Bool) → Reads limit os z c s a false → course_of z.1 ≡ Stops
@@ -83,7 +83,7 @@ pub fn streams_may_be_cut()
 {}
 
 /// However the bytes of the own stream of an open session are cut, its calls say the same of the session,
-/// as long as it is open. With memory:
+/// as long as it is open, also where allocation failed:
 ///
 /// - `call`: what is said of all bytes is what a call on the first of them says, and then what is said of
 ///   those that it leaves and those that follow; or what it says alone, if the session ends with it.
@@ -94,10 +94,10 @@ pub fn streams_may_be_cut()
 /// - `ends`: if the session ends in the bytes `a`, what follows them makes no difference.
 pub fn sessions_may_be_cut()
     ensures call { (limit : ℕ) (c : Connection) (s : Stream) (a b : List ℕ) (fin end : Bool) (o : Outcome)
-        (h : IsOpen c s a) → Follow fin b end → HasMemory o → Receives limit c s a fin o
+        (h : IsOpen c s a) → Follow fin b end → Receives limit c s a fin o
         → Says end (drop o.0 a ++ b) (of_session o.1) o (said end h.size c s (a ++ b)) }
     ensures stays { (limit : ℕ) (c : Connection) (s : Stream) (a : List ℕ) (fin : Bool) (o : Outcome)
-        → IsOpen c s a → HasMemory o → Receives limit c s a fin o → IsSession o.3.part
+        → IsOpen c s a → Receives limit c s a fin o → IsSession o.3.part
         → IsOpen o.2 o.3 (drop o.0 a) }
     ensures stops { (limit : ℕ) (os fs gs : List Outcome) (z w y : Outcome) (c : Connection) (s : Stream)
         (a b : List ℕ) (fin : Bool) → IsOpen c s a → SessionReads limit os z c s a false
@@ -120,7 +120,7 @@ pub fn sessions_may_be_cut()
 /// it left.
 pub fn content_of_sessions_may_be_cut()
     ensures capsules { (found : Found) (p q : Place) (a b more : List ℕ)
-        → IsProper p → IsProper q → CapsuleIs found p a q b
+        → IsProper p → CapsuleIs found p a q b
         → run p (a ++ more) ≡ after_found found (run q (b ++ more)) }
     ensures places { (begun : Option CapsuleType) (missing : ℕ) (head value : List ℕ)
         → IsPlace begun missing head value → IsProper (place_by begun missing head value) }
@@ -159,9 +159,12 @@ pub fn prefixes_that_name_a_table_are_refused()
     ensures neither { (b : ℕ) (more : List ℕ) → b < 128 → names_table (0 ∷ b ∷ more) ≡ false }
 {}
 
-/// The bytes that an event refers to are the last of those that are consumed with it.
-#[tactic(auto, using(crate::proofs::PlaceLemmas::received_placed))]
+/// No call consumes more bytes than it was passed, and those that an event refers to are the last of
+/// them.
+#[tactic(auto, using(crate::proofs::PlaceLemmas::received_placed, crate::proofs::PlaceLemmas::received_within))]
 pub fn bytes_of_events_are_consumed_last()
-    ensures { (limit : ℕ) (c : Connection) (s : Stream) (bytes : List ℕ) (fin : Bool) (o : Outcome)
+    ensures within { (limit : ℕ) (c : Connection) (s : Stream) (bytes : List ℕ) (fin : Bool) (o : Outcome)
+        → Receives limit c s bytes fin o → o.0 ≤ length bytes }
+    ensures last { (limit : ℕ) (c : Connection) (s : Stream) (bytes : List ℕ) (fin : Bool) (o : Outcome)
         → Receives limit c s bytes fin o → IsPlaced o.1 o.0 bytes }
 {}
