@@ -14,3 +14,4 @@ pub mod PieceLemmas
 pub mod RunLemmas
 pub mod SaidLemmas
 pub mod SaidRunLemmas
+pub mod ProgressLemmas

@@ -13,3 +13,4 @@ pub mod Endings
 pub mod Words
 pub mod Places
 pub mod Said
+pub mod Progress

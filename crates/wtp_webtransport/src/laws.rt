@@ -4,7 +4,8 @@ ghost use Rattle.std.specs.Prelude.{◌≡◌, ◌||◌, ◌+◌, ◌<◌, ◌�
 ghost use Rattle.wtp_webtransport.specs.declared.connection.Connection.{Connection};
 ghost use Rattle.wtp_webtransport.specs.declared.stream.Stream.{Stream};
 ghost use Rattle.wtp_webtransport.specs.Receiving.{Outcome, Receives};
-ghost use Rattle.wtp_webtransport.specs.Calls.{Stops, Finishes, Reads, SaysTo, left_of, told_before, told_all, course_of, plain, moved, IsSession, IsPiece, HasMemory, HasFrames, Grown};
+ghost use Rattle.wtp_webtransport.specs.Calls.{Stops, Finishes, Continues, Reads, SaysTo, left_of, told_before, told_all, course_of, plain, moved, IsSession, IsPiece, HasMemory, HasFrames, Grown};
+ghost use Rattle.wtp_webtransport.specs.Progress.{IsSound, calls_left, GoOn};
 ghost use Rattle.wtp_webtransport.specs.Said.{of_session, said, Says, Follow, IsOpen, SessionReads, session_told, AreAlike};
 ghost use Rattle.wtp_connection.specs.Opening.{is_critical};
 ghost use Rattle.wtp_webtransport.specs.Endings.{KeepsSession, KeepsAfter, accepts_session};
@@ -167,4 +168,16 @@ pub fn bytes_of_events_are_consumed_last()
         → Receives limit c s bytes fin o → o.0 ≤ length bytes }
     ensures last { (limit : ℕ) (c : Connection) (s : Stream) (bytes : List ℕ) (fin : Bool) (o : Outcome)
         → Receives limit c s bytes fin o → IsPlaced o.1 o.0 bytes }
+{}
+
+/// A loop of calls ends: of `n` bytes at most `n + 3` calls return an event after which the caller goes on
+/// with the bytes that are left, before one needs more bytes, waits, lacks memory, or returns the last
+/// event of the stream.
+#[tactic(auto, using(crate::proofs::ProgressLemmas::call_nears, crate::proofs::ProgressLemmas::calls_few))]
+pub fn calls_end()
+    ensures call { (limit : ℕ) (c : Connection) (s : Stream) (bytes : List ℕ) (fin : Bool) (o : Outcome)
+        → IsSound s → Receives limit c s bytes fin o → course_of o.1 ≡ Continues
+        → calls_left o.3 (drop o.0 bytes) < calls_left s bytes }
+    ensures all { (limit : ℕ) (os : List Outcome) (c : Connection) (s : Stream) (bytes : List ℕ) (fin : Bool)
+        → GoOn limit os c s bytes fin → length os ≤ length bytes + 3 }
 {}
