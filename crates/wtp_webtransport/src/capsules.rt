@@ -173,7 +173,7 @@ impl Capsules {
             return Ok(None);
         }
         let (front, rest) = bytes.split_at(missing as usize);
-        if missing > 0 && value.extend_from_slice(front).is_err() {
+        if value.extend_from_slice(front).is_err() {
             self.begun = Some(kind);
             self.value = value;
             self.missing = missing;
