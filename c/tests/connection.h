@@ -22,7 +22,8 @@ typedef struct reading {
   wt_event event;
 } reading;
 
-/* Calls wt_receive with these bytes in memory of exactly their size, and checks what every call keeps. */
+/* Calls wt_receive with these bytes in memory of exactly their size, and checks what every call
+   keeps. */
 int receive(wt_connection *c, reading *r, const uint8_t *bytes, size_t size, int fin);
 
 /* Reads a control stream whole, as the peer's stream with this ID. */

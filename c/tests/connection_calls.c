@@ -1,5 +1,6 @@
-/* Streams that join sessions and end early, what is known of sessions, and datagrams: the tests of the crate
-   tests_webtransport (draft-ietf-webtrans-http3-02, section 4; RFC 9297, section 2; RFC 9114, 6.2.1). */
+/* Streams that join sessions and end early, what is known of sessions, and datagrams: the tests of
+   the crate tests_webtransport (draft-ietf-webtrans-http3-02, section 4; RFC 9297, section 2; RFC
+   9114, 6.2.1). */
 #include "connection.h"
 
 static const uint8_t bidi_of_0[] = {0x40, 0x41, 0x00, 0x61, 0x62};
@@ -29,8 +30,8 @@ static uint32_t known_of(const wt_connection *c, uint64_t session, const wt_stre
 }
 
 static int is_event(const wt_event *e, uint32_t kind, uint32_t detail, uint64_t number) {
-  return e->kind == kind && e->detail == detail && e->number == number && e->consumed == 0 && e->length == 0 &&
-         e->fields == 0 && e->used == 0;
+  return e->kind == kind && e->detail == detail && e->number == number && e->consumed == 0 &&
+         e->length == 0 && e->fields == 0 && e->used == 0;
 }
 
 static void joins(void) {
@@ -44,7 +45,8 @@ static void joins(void) {
   CHECK(known_of(&c, 0, NULL) == WT_KNOWN_COMING && known_of(&c, 1, NULL) == WT_KNOWN_IMPOSSIBLE);
   CHECK(wt_stream_join(&c, &r->stream, WT_KNOWN_COMING, &r->event) == WT_OK);
   CHECK(is_event(&r->event, WT_EVENT_WAITS, WT_WAITS_SESSION, 0));
-  CHECK(wt_stream_waits(&r->stream, &waits, &session) == WT_OK && waits == WT_WAITS_SESSION && session == 0);
+  CHECK(wt_stream_waits(&r->stream, &waits, &session) == WT_OK && waits == WT_WAITS_SESSION &&
+        session == 0);
   CHECK(wt_stream_belongs(&r->stream, &belongs, &session) == WT_OK && belongs == 1 && session == 0);
   receive(&c, r, bidi_of_0 + 3, 2, 1);
   CHECK(r->event.kind == WT_EVENT_WAITS && r->event.consumed == 0);
@@ -60,7 +62,8 @@ static void joins(void) {
   receive(&c, r, bidi_of_0, 5, 0);
   CHECK(wt_stream_join(&c, &r->stream, WT_KNOWN_OVER, &r->event) == WT_OK);
   CHECK(is_event(&r->event, WT_EVENT_STREAM_ERROR, 0, WT_WEBTRANSPORT_SESSION_GONE));
-  CHECK(wt_stream_reset(&c, &r->stream, &r->event) == WT_OK && is_event(&r->event, WT_EVENT_MORE, 0, 0));
+  CHECK(wt_stream_reset(&c, &r->stream, &r->event) == WT_OK &&
+        is_event(&r->event, WT_EVENT_MORE, 0, 0));
   free(r);
   /* an ID that no session has ends the connection */
   r = accept(&c, 12);
@@ -82,11 +85,15 @@ static void early_streams(void) {
     receive(&c, r[i], bidi_of_0, 5, 0);
     if (i == 17) {
       CHECK(wt_stream_overflow(&c, &r[0]->stream, &r[0]->event) == WT_OK);
-      CHECK(is_event(&r[0]->event, WT_EVENT_STREAM_ERROR, 0, WT_WEBTRANSPORT_BUFFERED_STREAM_REJECTED));
+      CHECK(is_event(&r[0]->event, WT_EVENT_STREAM_ERROR, 0,
+                     WT_WEBTRANSPORT_BUFFERED_STREAM_REJECTED));
     }
     CHECK(wt_stream_join(&c, &r[i]->stream, WT_KNOWN_COMING, &r[i]->event) == WT_OK);
-    if (i == 16) CHECK(is_event(&r[i]->event, WT_EVENT_STREAM_ERROR, 0, WT_WEBTRANSPORT_BUFFERED_STREAM_REJECTED));
-    else CHECK(is_event(&r[i]->event, WT_EVENT_WAITS, WT_WAITS_SESSION, 0));
+    if (i == 16)
+      CHECK(is_event(&r[i]->event, WT_EVENT_STREAM_ERROR, 0,
+                     WT_WEBTRANSPORT_BUFFERED_STREAM_REJECTED));
+    else
+      CHECK(is_event(&r[i]->event, WT_EVENT_WAITS, WT_WAITS_SESSION, 0));
   }
   for (i = 0; i < 18; i++) free(r[i]);
   r[0] = accept(&c, 80);
@@ -106,9 +113,12 @@ static void ends(void) {
     CHECK(wt_connection_allows_sessions(&c) == 1);
     r = request_session(&c, 0);
     CHECK(known_of(&c, 0, &r->stream) == WT_KNOWN_COMING);
-    CHECK(wt_stream_stop(&c, &r->stream, &r->event) == WT_OK && is_event(&r->event, WT_EVENT_MORE, 0, 0));
-    CHECK(wt_stream_answer(&r->stream, 100) == WT_OK && known_of(&c, 0, &r->stream) == WT_KNOWN_COMING);
-    CHECK(wt_stream_answer(&r->stream, 200) == WT_OK && known_of(&c, 0, &r->stream) == WT_KNOWN_OPEN);
+    CHECK(wt_stream_stop(&c, &r->stream, &r->event) == WT_OK &&
+          is_event(&r->event, WT_EVENT_MORE, 0, 0));
+    CHECK(wt_stream_answer(&r->stream, 100) == WT_OK &&
+          known_of(&c, 0, &r->stream) == WT_KNOWN_COMING);
+    CHECK(wt_stream_answer(&r->stream, 200) == WT_OK &&
+          known_of(&c, 0, &r->stream) == WT_KNOWN_OPEN);
     /* a datagram of a capsule that is cut is held: it is lost with the session */
     receive(&c, r, (const uint8_t *)"\x00\x09\x00\x05" "abc", 7, 0);
     CHECK(r->event.kind == WT_EVENT_SKIPPED && r->event.held == 3 && !memcmp(r->held, "abc", 3));
@@ -117,7 +127,8 @@ static void ends(void) {
     if (way == 2) CHECK(wt_stream_abandon(&c, &r->stream, &r->event) == WT_OK);
     CHECK(is_event(&r->event, WT_EVENT_SESSION_LOST, 0, 0) && r->event.held == 0);
     CHECK(known_of(&c, 0, &r->stream) == WT_KNOWN_OVER);
-    CHECK(wt_stream_reset(&c, &r->stream, &r->event) == WT_OK && is_event(&r->event, WT_EVENT_MORE, 0, 0));
+    CHECK(wt_stream_reset(&c, &r->stream, &r->event) == WT_OK &&
+          is_event(&r->event, WT_EVENT_MORE, 0, 0));
     free(r);
     /* a request that is reset before its HEADERS (RFC 9114, section 4.1.1) */
     r = accept(&c, 4);
@@ -128,7 +139,8 @@ static void ends(void) {
     /* the control stream */
     r = accept(&c, 6);
     receive(&c, r, (const uint8_t *)"\x00\x04\x00", 3, 0);
-    CHECK(r->event.kind == WT_EVENT_CONNECTION_ERROR && r->event.number == WT_H3_STREAM_CREATION_ERROR);
+    CHECK(r->event.kind == WT_EVENT_CONNECTION_ERROR &&
+          r->event.number == WT_H3_STREAM_CREATION_ERROR);
     free(r);
   }
 }
@@ -147,20 +159,26 @@ static void known(void) {
   r = accept(&c, 4);
   read_all(&c, r, tunnel, sizeof tunnel);
   CHECK(known_of(&c, 4, &r->stream) == WT_KNOWN_OTHER);
-  CHECK(wt_stream_answer(&r->stream, 200) == WT_OK && known_of(&c, 4, &r->stream) == WT_KNOWN_OTHER);
+  CHECK(wt_stream_answer(&r->stream, 200) == WT_OK &&
+        known_of(&c, 4, &r->stream) == WT_KNOWN_OTHER);
   free(r);
   r = request_session(&c, 8);
-  CHECK(wt_stream_answer(&r->stream, 404) == WT_OK && known_of(&c, 8, &r->stream) == WT_KNOWN_REFUSED);
+  CHECK(wt_stream_answer(&r->stream, 404) == WT_OK &&
+        known_of(&c, 8, &r->stream) == WT_KNOWN_REFUSED);
   free(r);
-  CHECK(wt_datagram_use(WT_KNOWN_COMING) == WT_DATAGRAM_EARLY && wt_datagram_use(WT_KNOWN_OPEN) == WT_DATAGRAM_DELIVER);
-  CHECK(wt_datagram_use(WT_KNOWN_OVER) == WT_DATAGRAM_DROP && wt_datagram_use(WT_KNOWN_REFUSED) == WT_DATAGRAM_DROP);
+  CHECK(wt_datagram_use(WT_KNOWN_COMING) == WT_DATAGRAM_EARLY &&
+        wt_datagram_use(WT_KNOWN_OPEN) == WT_DATAGRAM_DELIVER);
+  CHECK(wt_datagram_use(WT_KNOWN_OVER) == WT_DATAGRAM_DROP &&
+        wt_datagram_use(WT_KNOWN_REFUSED) == WT_DATAGRAM_DROP);
   CHECK(wt_datagram_use(WT_KNOWN_OTHER) == WT_DATAGRAM_END_STREAM);
-  CHECK(wt_datagram_use(WT_KNOWN_IMPOSSIBLE) == WT_DATAGRAM_DROP && wt_datagram_use(6) == WT_INVALID);
+  CHECK(wt_datagram_use(WT_KNOWN_IMPOSSIBLE) == WT_DATAGRAM_DROP &&
+        wt_datagram_use(6) == WT_INVALID);
 }
 
 /* A client opens a session, a stream in it, and reads GOAWAY. */
 static void client(void) {
-  static const uint8_t control[] = {0x00, 0x04, 0x09, 0xab, 0x60, 0x37, 0x42, 0x01, 0x33, 0x01, 0x08, 0x01, 0x07, 0x01, 0x04};
+  static const uint8_t control[] = {0x00, 0x04, 0x09, 0xab, 0x60, 0x37, 0x42, 0x01,
+                                    0x33, 0x01, 0x08, 0x01, 0x07, 0x01, 0x04};
   wt_connection c = connection_of(WT_SIDE_CLIENT, 1);
   reading *r = (reading *)calloc(1, sizeof *r);
   wt_stream own;
@@ -180,7 +198,8 @@ static void client(void) {
   receive(&c, r, (const uint8_t *)"hi", 2, 1);
   CHECK(r->event.kind == WT_EVENT_STREAM_DATA && r->event.length == 2);
   CHECK(wt_stream_of_request(&c, WT_ASKED_OTHER, &r->stream) == WT_OK);
-  CHECK(known_of(&c, 8, &r->stream) == WT_KNOWN_OTHER && known_of(&c, 8, NULL) == WT_KNOWN_IMPOSSIBLE);
+  CHECK(known_of(&c, 8, &r->stream) == WT_KNOWN_OTHER &&
+        known_of(&c, 8, NULL) == WT_KNOWN_IMPOSSIBLE);
   CHECK(wt_stream_of_request(&c, 4, &own) == WT_INVALID);
   free(r);
 }
@@ -191,17 +210,29 @@ static void datagrams(void) {
   wt_connection c = connection_of(WT_SIDE_SERVER, 1), without = connection_of(WT_SIDE_SERVER, 0);
   wt_event e;
   int i;
-  CHECK(wt_datagram_receive(&c, (const uint8_t *)"\x01" "ab", 3, &e) == WT_OK);
-  CHECK(e.kind == WT_EVENT_DATAGRAM && e.detail == 1 && e.number == 4 && e.offset == 1 && e.length == 2 && e.consumed == 3);
+  CHECK(wt_datagram_receive(&c,
+                            (const uint8_t *)"\x01"
+                                             "ab",
+                            3, &e) == WT_OK);
+  CHECK(e.kind == WT_EVENT_DATAGRAM && e.detail == 1 && e.number == 4 && e.offset == 1 &&
+        e.length == 2 && e.consumed == 3);
   CHECK(wt_datagram_receive(&c, (const uint8_t *)"\x40\x40", 2, &e) == WT_OK);
   CHECK(e.kind == WT_EVENT_DATAGRAM && e.number == 256 && e.offset == 2 && e.length == 0);
-  CHECK(wt_datagram_receive(&without, (const uint8_t *)"\x01" "ab", 3, &e) == WT_OK && e.kind == WT_EVENT_SKIPPED);
+  CHECK(wt_datagram_receive(&without,
+                            (const uint8_t *)"\x01"
+                                             "ab",
+                            3, &e) == WT_OK &&
+        e.kind == WT_EVENT_SKIPPED);
   for (i = 0; i < 3; i++) {
     wt_connection d = connection_of(WT_SIDE_SERVER, 1);
     uint8_t *bytes = exactly(broken[i], sizes[i]);
     CHECK(wt_datagram_receive(&d, bytes, sizes[i], &e) == WT_OK);
     CHECK(e.kind == WT_EVENT_CONNECTION_ERROR && e.number == WT_H3_DATAGRAM_ERROR);
-    CHECK(wt_datagram_receive(&d, (const uint8_t *)"\x01" "ab", 3, &e) == WT_OK && e.kind == WT_EVENT_SKIPPED);
+    CHECK(wt_datagram_receive(&d,
+                              (const uint8_t *)"\x01"
+                                               "ab",
+                              3, &e) == WT_OK &&
+          e.kind == WT_EVENT_SKIPPED);
     free(bytes);
   }
 }
@@ -219,11 +250,15 @@ static void stopped(void) {
   }
 }
 
-/* A datagram of a capsule longer than the limit is dropped, whole and cut, and no bytes of it are held. */
+/* A datagram of a capsule longer than the limit is dropped, whole and cut, and no bytes of it are
+   held. */
 static void long_datagrams(void) {
   static uint8_t bytes[8 + 1201 + 3] = {0x00, 0x44, 0xb7, 0x00, 0x44, 0xb1};
   size_t steps[3] = {sizeof bytes, 700, 1}, i;
-  memcpy(bytes + 6 + 1201, "\x00\x01" "a", 3);
+  memcpy(bytes + 6 + 1201,
+         "\x00\x01"
+         "a",
+         3);
   for (i = 0; i < 3; i++) {
     wt_connection c = connection_of(WT_SIDE_SERVER, 1);
     reading *r;
@@ -232,7 +267,8 @@ static void long_datagrams(void) {
     r = request_session(&c, 0);
     CHECK(wt_stream_answer(&r->stream, 200) == WT_OK);
     for (turn = 0; turn < 3000 && (end < size || r->event.kind != WT_EVENT_MORE); turn++) {
-      if (r->event.kind == WT_EVENT_MORE || end == 0) end = size - end < steps[i] ? size : end + steps[i];
+      if (r->event.kind == WT_EVENT_MORE || end == 0)
+        end = size - end < steps[i] ? size : end + steps[i];
       receive(&c, r, bytes + start, end - start, 0);
       start += r->event.consumed;
       CHECK(r->event.held <= 4);
