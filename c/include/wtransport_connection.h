@@ -85,16 +85,13 @@ enum {
   WT_EVENT_JOINED = 4,   /* that session is open: the bytes of the stream follow */
   WT_EVENT_SETTINGS = 5, /* its payload, for wt_settings_read, is in the bytes */
   WT_EVENT_GOAWAY = 6,   /* number is its ID */
-  WT_EVENT_FRAME =
-      7, /* another frame of the control stream: detail is its type; payload in the bytes */
-  WT_EVENT_HEADERS =
-      8, /* fields: detail is one of WT_HEADERS_.., number the status of a response */
-  WT_EVENT_SESSION_REQUESTED =
-      9, /* at a server, fields: a request for a session; see wt_stream_answer */
-  WT_EVENT_SESSION_READY =
-      10, /* at a client, fields: the response that accepts it; number is the status */
-  WT_EVENT_REJECTED =
-      11, /* at a client, fields: one that does not; the rest of a response follows */
+  WT_EVENT_FRAME = 7,    /* another frame of the control stream: detail is its type, and its payload
+                            is in the bytes */
+  WT_EVENT_HEADERS = 8,  /* fields: detail is one of WT_HEADERS_.., number a response's status */
+  WT_EVENT_SESSION_REQUESTED = 9, /* at a server, fields: a request for a session */
+  WT_EVENT_SESSION_READY = 10,    /* at a client, fields: the response that accepts it, with the
+                                     status `number` */
+  WT_EVENT_REJECTED = 11,       /* at a client, fields: one that does not; a response follows */
   WT_EVENT_SESSION_CLOSED = 12, /* number is the application's code; its reason is in out */
   WT_EVENT_SESSION_LOST = 13,   /* the session ended otherwise */
   WT_EVENT_DATAGRAM = 14, /* of a capsule: it is in out. Of wt_datagram_receive, with detail 1: it
@@ -103,14 +100,14 @@ enum {
   WT_EVENT_SKIPPED = 16,  /* nothing for the application */
   WT_EVENT_DATA = 17,     /* a piece of content, in the bytes */
   WT_EVENT_STREAM_DATA = 18, /* a piece of a stream of a session, in the bytes */
-  WT_EVENT_TOO_LARGE = 19, /* a field section above the limits; number is its size if detail is 1 */
-  WT_EVENT_MALFORMED = 20, /* the message is malformed by the rule `detail`, one of WT_RULE_..;
-                              number is WT_H3_MESSAGE_ERROR, for its stream */
+  WT_EVENT_TOO_LARGE = 19,   /* fields above the limits; number is their size if detail is 1 */
+  WT_EVENT_MALFORMED = 20,   /* the message is malformed by the rule `detail`, one of WT_RULE_..;
+                                number is WT_H3_MESSAGE_ERROR, for its stream */
   WT_EVENT_STREAM_ERROR = 21,     /* number is the error code, for the stream: reset and stop it */
   WT_EVENT_CONNECTION_ERROR = 22, /* number is the error code, for the connection: close it */
-  WT_EVENT_RESET =
-      23, /* the peer reset the stream: reset the own half too, with number if detail is 1 */
-  WT_EVENT_END = 24 /* the stream ended */
+  WT_EVENT_RESET = 23, /* the peer reset the stream: reset the own half too, with the code `number`
+                          if detail is 1 */
+  WT_EVENT_END = 24    /* the stream ended */
 };
 
 /* A session is over after WT_EVENT_SESSION_CLOSED and WT_EVENT_SESSION_LOST, on its own stream:
@@ -275,8 +272,8 @@ enum {
   WT_DATAGRAM_DELIVER = 0, /* it is the application's */
   WT_DATAGRAM_EARLY = 1,   /* its session is to come: keep it for about a round trip, or drop it */
   WT_DATAGRAM_DROP = 2,    /* drop it */
-  WT_DATAGRAM_END_STREAM =
-      3 /* drop it, and reset and stop the stream of that ID with WT_H3_DATAGRAM_ERROR */
+  WT_DATAGRAM_END_STREAM = 3 /* drop it, and reset and stop the stream of that ID with
+                                WT_H3_DATAGRAM_ERROR */
 };
 
 /* What to do with a datagram, by what is known of its session: one of WT_DATAGRAM_.., or
