@@ -26,10 +26,10 @@ use Rattle.wtp_sending.specs.Writing.{two_numbers}
 
 -- ---- a frame as it is written
 
-abbrev frame_of : ℕ → List ℕ → Frame
+abbrev pub frame_of : ℕ → List ℕ → Frame
 frame_of id payload = record { type_bytes = shortest id; length_bytes = shortest (length payload); payload = payload }
 
-frame_is : (id : ℕ) (payload : List ℕ) → id < 2 ^ 62 → length payload < 2 ^ 62 → IsFrame id (frame_of id payload)
+pub frame_is : (id : ℕ) (payload : List ℕ) → id < 2 ^ 62 → length payload < 2 ^ 62 → IsFrame id (frame_of id payload)
 frame_is id payload h l = record { typed = shortest-encodes id h; sized = shortest-encodes (length payload) l }
 
 headers_written : (payload : List ℕ) → wire (HeadersOf payload) ≡ written (frame_of 1 payload)

@@ -45,11 +45,11 @@ use Rattle.wtp_sending.proofs.ReadLemmas.{head_read, trailers_read, data_head_re
 
 -- ---- conditions of a verdict
 
-ok_then : {A E : Type 0} (b : Bool) (x : Result A E) (e : E) (y : A) → cond b x (Err e) ≡ Ok y → (b ≡ true) × (x ≡ Ok y)
+pub ok_then : {A E : Type 0} (b : Bool) (x : Result A E) (e : E) (y : A) → cond b x (Err e) ≡ Ok y → (b ≡ true) × (x ≡ Ok y)
 ok_then true x e y h = (refl, h)
 ok_then false x e y h = absurd cc
 
-ok_else : {A E : Type 0} (b : Bool) (x : Result A E) (e : E) (y : A) → cond b (Err e) x ≡ Ok y → (b ≡ false) × (x ≡ Ok y)
+pub ok_else : {A E : Type 0} (b : Bool) (x : Result A E) (e : E) (y : A) → cond b (Err e) x ≡ Ok y → (b ≡ false) × (x ≡ Ok y)
 ok_else true x e y h = absurd cc
 ok_else false x e y h = (refl, h)
 

@@ -1,9 +1,15 @@
 -- What may be sent on the control stream (RFC 9114, sections 5.2, 6.2.1, 7.2.4 and 7.2.6): SETTINGS
 -- first and once, and then GOAWAY, whose IDs never rise.
-use Rattle.std.specs.Prelude.{◌≡◌, ℕ, ◌%◌, ◌==◌, nat_lt, Bool, true, false, not, if◌then◌else◌, List, ◌++◌, length, Option, Some, None, Result, Ok, Err}
+use Rattle.std.specs.Prelude.{◌≡◌, ℕ, ◌%◌, ◌==◌, nat_lt, Bool, true, false, not, if◌then◌else◌, List, [], ◌∷◌, ◌++◌, length, Option, Some, None, Result, Ok, Err}
 use Rattle.wtp_core.specs.Varint.{shortest}
 use Rattle.wtp_frames.specs.declared.endpoint.Side.{Side}
 use Rattle.wtp_frames.specs.declared.endpoint.Side.TheVariants.{Client, Server}
+use Rattle.wtp_frames.specs.declared.endpoint.Endpoint.{Endpoint}
+use Rattle.wtp_frames.specs.declared.reader.Place.TheVariants.{AfterSettings}
+use Rattle.wtp_frames.specs.declared.reader.Reader.{Reader}
+use Rattle.wtp_frames.specs.Item.{Item}
+use Rattle.wtp_frames.specs.Run.{run, preceded}
+use Rattle.wtp_frames.specs.Start.{control_reader, between}
 use Rattle.wtp_wire.specs.Content.{SettingsOf}
 use Rattle.wtp_wire.specs.Settings.{settings_wire}
 use Rattle.wtp_wire.specs.Wire.{wire}
@@ -52,3 +58,19 @@ after_goaway c id =
     if not c.settled then Err error.Unexpected else
     if not (is_named c.to id) then Err error.InvalidId else
     if rises c.goaway id then Err error.IdRises else Ok (record c { goaway = Some id })
+
+-- ---- the other end
+
+-- The reader of the other end went as far as the sender: SETTINGS were sent or not, and the last
+-- GOAWAY had this ID.
+abbrev pub IsControlAt : Endpoint → Bool → Option ℕ → Reader → Type 0
+IsControlAt e false goaway r = (r ≡ control_reader e) × (goaway ≡ None)
+IsControlAt e true goaway r =
+    (streamed : Bool) × (idle : ℕ) × (r ≡ between e 0 (AfterSettings goaway None) streamed idle)
+
+-- The bytes are read as this frame, whatever follows, and the reader goes on with the sender.
+pub record IsControlRead (e : Endpoint) (bytes : List ℕ) (item : Item) (new : ControlSending) (r : Reader) :
+    Type 0 where
+  pub next : Reader
+  pub gives : (more : List ℕ) → run r (bytes ++ more) ≡ preceded (item ∷ []) (run next more)
+  pub at : IsControlAt e new.settled new.goaway next

@@ -1,8 +1,12 @@
 -- What is sent on the stream of a message, call by call, and what the other end reads of it.
-use Rattle.std.specs.Prelude.{◌≡◌, ℕ, ◌<◌, Bool, true, false, List, [], ◌∷◌, ◌++◌, map, length, Option, None, Ok}
+use Rattle.std.specs.Prelude.{◌≡◌, ℕ, ◌<◌, Bool, true, false, List, [], ◌∷◌, ◌++◌, map, length, Option, None, Result, Ok, IsOk}
 use Rattle.wtp_wire.specs.CloseSession.{close_wire}
 use Rattle.wtp_qpack.specs.Field.{Field}
 use Rattle.wtp_qpack.specs.FieldSection.{section_of}
+use Rattle.wtp_messages.specs.declared.malformed.Malformed.{Malformed}
+use Rattle.wtp_messages.specs.declared.message.Message.{Message}
+use Rattle.wtp_messages.specs.declared.message.Section.{Section}
+use Rattle.wtp_messages.specs.Message.{SectionComes}
 use Rattle.wtp_frames.specs.declared.endpoint.Endpoint.{Endpoint}
 use Rattle.wtp_frames.specs.declared.endpoint.Side.TheVariants.{Client}
 use Rattle.wtp_frames.specs.declared.reader.Place.{Place as Reading}
@@ -15,9 +19,10 @@ use Rattle.wtp_frames.specs.Reading.{by_end}
 use Rattle.wtp_frames.specs.Run.{run, preceded}
 use Rattle.wtp_frames.specs.Start.{awaiting}
 use Rattle.wtp_sending.specs.declared.message.Place.{Place}
-use Rattle.wtp_sending.specs.declared.message.Place.TheVariants.{Head, Content, Connecting, Tunnel, Session, Trailers, Ended}
+use Rattle.wtp_sending.specs.declared.message.Place.TheVariants.{Head, Content, Connecting, Tunnel, Trailers, Ended}
+use Rattle.wtp_sending.specs.declared.message.Place.TheVariants as sent
 use Rattle.wtp_sending.specs.declared.message.Sending.{Sending}
-use Rattle.wtp_sending.specs.Message.{headers_wire, data_head, SendsHead, SendsTrailers, after_data, after_bytes, after_end, opens, placed}
+use Rattle.wtp_sending.specs.Message.{is_head, headers_wire, data_head, SendsHead, SendsTrailers, after_data, after_bytes, after_end, opens, placed}
 use Rattle.wtp_sending.specs.Session.{in_session, drain_wire, close_data, after_close}
 use Rattle.wtp_sending.specs.Writing.{two_numbers}
 
@@ -91,7 +96,7 @@ IsAt e (Head k) owed r = (r ≡ awaiting e k) × (owed ≡ 0)
 IsAt e Content owed r = IsInBody e reading.Body owed r
 IsAt e (Connecting session) owed r = IsInBody e reading.Body owed r × (owed ≡ 0)
 IsAt e Tunnel owed r = IsInBody e reading.Body owed r
-IsAt e Session owed r = IsInBody e reading.Body owed r × (owed ≡ 0)
+IsAt e sent.Session owed r = IsInBody e reading.Body owed r × (owed ≡ 0)
 IsAt e Trailers owed r = IsInBody e reading.AfterTrailers owed r × (owed ≡ 0)
 IsAt e Ended owed r = (by_end e.side r.place r.remaining ≡ Ok tt) × (owed ≡ 0)
 
@@ -109,3 +114,37 @@ pub record IsRead (e : Endpoint) (x : Sent) (new : Sending) (r : Reader) : Type 
       (more : List ℕ)
       → run r (bytes_of x ++ more) ≡ preceded (items_of e.max_section x) (run next more)
   pub at : IsAfter e new.place new.owed next
+
+-- ---- many calls
+
+-- the calls lead from one state to another, and none of them sends an interim response
+abbrev pub LeadsAll : List Sent → Sending → Sending → Type 0
+LeadsAll [] old new = new ≡ old
+LeadsAll (x ∷ xs) old new =
+    (mid : Sending) × Leads x old mid × (is_head mid.place ≡ false) × LeadsAll xs mid new
+
+abbrev pub all_bytes : List Sent → List ℕ
+all_bytes [] = []
+all_bytes (x ∷ xs) = bytes_of x ++ all_bytes xs
+
+abbrev pub all_items : ℕ → List Sent → List Item
+all_items limit [] = []
+all_items limit (x ∷ xs) = items_of limit x ++ all_items limit xs
+
+-- All bytes, joined, give all items and nothing else, and leave nothing; the reader is where the
+-- sender is.
+pub record AreRead (e : Endpoint) (xs : List Sent) (new : Sending) (r : Reader) : Type 0 where
+  pub next : Reader
+  pub gives :
+      run r (all_bytes xs)
+      ≡ record { items = all_items e.max_section xs; reader = next; left = [] }
+  pub at : IsAt e new.place new.owed next
+
+-- ---- messages
+
+-- A message that is received as far as this one was sent accepts the section, and then is as far as
+-- the other.
+abbrev pub Takes : Message → List Field → Message → Type 0
+Takes m fields new =
+    (result : Result Section Malformed) (n : Message) → SectionComes m.stage m fields result n
+    → IsOk result × (n ≡ new)
