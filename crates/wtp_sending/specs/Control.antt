@@ -38,6 +38,7 @@ after_settings c settings =
 
 -- ---- GOAWAY
 
+-- the GOAWAY frame with this ID
 abbrev pub goaway_bytes : ℕ → List ℕ
 goaway_bytes id = three_numbers 0x07 (length (shortest id)) id
 

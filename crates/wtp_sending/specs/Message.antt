@@ -30,7 +30,7 @@ use Rattle.wtp_sending.specs.declared.message.Place.TheVariants.{Head, Content, 
 use Rattle.wtp_sending.specs.declared.message.Sending.{Sending}
 use Rattle.wtp_sending.specs.Writing.{two_numbers}
 
--- by the default values of the settings
+-- what a peer allows by the default values of its settings
 abbrev pub default_peer : Peer
 default_peer = record { extended_connect = false; sessions = false; max_section = 2 ^ 64 - 1 }
 
@@ -108,6 +108,7 @@ pub record IsHead (s : Sending) (k : ℕ) (fields : List Field) (m : Message) (p
   pub allowed : IsAllowed s.peer k fields found
   pub leads : after_head s.role k fields found ≡ place
 
+-- the section is sent as the head of the message, or as an interim response
 pub record SendsHead (old : Sending) (fields : List Field) (new : Sending) : Type 0 where
   pub at : old.place ≡ Head (interims_of old.place)
   pub fits : list_size fields ≤ old.peer.max_section
@@ -170,7 +171,7 @@ announces s n = record s { owed = n }
 abbrev pub with_content : Message → ℕ → Message
 with_content m n = record m { content = record { left = left_after m.content.left n } }
 
--- so many bytes of the content that content-length announced
+-- after so many bytes of the content that content-length announced, or why they are too many
 abbrev pub counts : Sending → ℕ → Result Sending SendError
 counts s n =
     if fits s.message.content.left n
@@ -183,6 +184,7 @@ with_data Content s n = counts s n
 with_data Tunnel s n = Ok (announces s n)
 with_data other s n = Err error.Unexpected
 
+-- the same for a length that a frame can have
 abbrev pub data_at : Sending → ℕ → Result Sending SendError
 data_at s n =
     if nat_lt 0 s.owed then Err error.DataMissing else
@@ -204,6 +206,7 @@ pub record AreTrailers (s : Sending) (fields : List Field) (m : Message) : Type 
   pub whole : end_of s.message.stage s.message.content.left ≡ Ok tt
   pub comes : SectionComes s.message.stage s.message fields (Ok found.Trailers) m
 
+-- the section is sent as the trailers of the message
 pub record SendsTrailers (old : Sending) (fields : List Field) (new : Sending) : Type 0 where
   pub at : old.place ≡ Content
   pub none : old.owed ≡ 0
@@ -223,7 +226,7 @@ abbrev pub is_content : Place → Bool
 is_content Content = true
 is_content other = false
 
--- why they are refused; allocation may fail
+-- why trailers are refused; allocation may fail
 abbrev pub RefusesTrailers : Sending → List Field → Option (List ℕ) → SendError → Type 0
 RefusesTrailers s fields room error.Unexpected =
     (is_content s.place && not (is_head_stage s.message.stage)) ≡ false
@@ -259,10 +262,12 @@ after_end s = if nat_lt 0 s.owed then Err error.DataMissing else end_at s.place 
 
 -- ---- a CONNECT that was answered with a 2xx status
 
+-- the tunnel or the session that opens
 abbrev pub opens : Place → Result Place SendError
 opens (Connecting session) = Ok (if session then Session else Tunnel)
 opens other = Err error.Unexpected
 
+-- the state at this place, or why there is none
 abbrev pub placed : Sending → Result Place SendError → Result Sending SendError
 placed s (Ok place) = Ok (record s { place = place })
 placed s (Err e) = Err e

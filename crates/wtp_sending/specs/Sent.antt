@@ -90,7 +90,8 @@ pub record IsInBody (e : Endpoint) (place : Reading) (owed : ℕ) (r : Reader) :
   pub is : r ≡ reads_data e interims place streamed owed
   pub given : 0 < owed → streamed ≡ true
 
--- The reader of the other end went as far as the sender, on a stream that has not ended.
+-- The reader of the other end went as far as the sender. After the end of the message its stream may
+-- end.
 abbrev pub IsAt : Endpoint → Place → ℕ → Reader → Type 0
 IsAt e (Head k) owed r = (r ≡ awaiting e k) × (owed ≡ 0)
 IsAt e Content owed r = IsInBody e reading.Body owed r

@@ -18,10 +18,11 @@ abbrev pub in_session : Place → Result (Unit {0}) SendError
 in_session Session = Ok tt
 in_session other = Err error.Unexpected
 
--- the first bytes of a stream of the session: unidirectional, and bidirectional
+-- the first bytes of a unidirectional stream of the session: its type and the session ID
 abbrev pub uni_head : ℕ → List ℕ
 uni_head session = two_numbers 0x54 session
 
+-- the first bytes of a bidirectional stream of the session
 abbrev pub bi_head : ℕ → List ℕ
 bi_head session = two_numbers 0x41 session
 
@@ -43,5 +44,6 @@ by_reason s reason (Ok u) =
     if nat_lt 1024 (length reason) then Err error.TooLarge else Ok (ended s)
 by_reason s reason (Err e) = Err e
 
+-- after the capsule that closes the session, or why it may not be sent
 abbrev pub after_close : Sending → List ℕ → Result Sending SendError
 after_close s reason = by_reason s reason (in_session s.place)

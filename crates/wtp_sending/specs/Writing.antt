@@ -7,7 +7,7 @@ use Rattle.wtp_core.specs.Writer.{room_after, HasRoom, LacksRoom}
 use Rattle.wtp_sending.specs.declared.error.SendError.{SendError}
 use Rattle.wtp_sending.specs.declared.error.SendError.TheVariants.{EndOfBuffer, Memory}
 
--- the same reason
+-- the same reason, as an error of sending
 abbrev pub error_of : PutError → SendError
 error_of put.EndOfBuffer = EndOfBuffer
 error_of put.Memory = Memory
@@ -27,7 +27,7 @@ Lacks grows room n EndOfBuffer = LacksRoom room n
 Lacks grows room n Memory = HasRoom room n × IsTrue grows
 Lacks grows room n other = ⊥
 
--- the same for a call that allocates itself
+-- the same for a call that allocates memory of its own
 abbrev pub LacksOrFails : Option (List ℕ) → ℕ → SendError → Type 0
 LacksOrFails room n EndOfBuffer = LacksRoom room n
 LacksOrFails room n Memory = Unit {0}
@@ -41,7 +41,7 @@ Fails verdict grows room n EndOfBuffer = IsOk verdict × LacksRoom room n
 Fails verdict grows room n Memory = IsOk verdict × HasRoom room n × IsTrue grows
 Fails verdict grows room n other = verdict ≡ Err other
 
--- the same for a call that allocates itself
+-- the same for a call that allocates memory of its own
 abbrev pub FailsAllocating :
     {S : Type 0} → Result S SendError → Option (List ℕ) → ℕ → SendError → Type 0
 FailsAllocating verdict room n EndOfBuffer = IsOk verdict × LacksRoom room n
@@ -52,5 +52,6 @@ FailsAllocating verdict room n other = verdict ≡ Err other
 abbrev pub two_numbers : ℕ → ℕ → List ℕ
 two_numbers a b = shortest a ++ shortest b
 
+-- three numbers in the same way
 abbrev pub three_numbers : ℕ → ℕ → ℕ → List ℕ
 three_numbers a b c = shortest a ++ (shortest b ++ shortest c)
