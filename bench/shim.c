@@ -52,6 +52,8 @@ int64_t bench_drive(const uint8_t *bytes, size_t len) { return wt_bench_drive(by
 
 int64_t bench_connection(const uint8_t *bytes, size_t len) { return wt_bench_connection(bytes, len, BENCH_PIECE); }
 
+int64_t bench_connection_whole(const uint8_t *bytes, size_t len) { return wt_bench_connection(bytes, len, len); }
+
 int64_t bench_message(const uint8_t *bytes, size_t len) { return wt_bench_message(bytes, len, BENCH_PIECE); }
 
 int64_t bench_qpack_decode(const uint8_t *section, size_t len) { return wt_bench_qpack_decode(section, len); }
