@@ -202,7 +202,10 @@ void on_event(h3_stream *s, const h3_event *e) {
     if (r->settings_due) r->settings_due = quic_now() + random_below(100000000);
     if (!r->allowed) quic_close(s->c->quic, WT_H3_NO_ERROR);
     break;
-  case WT_EVENT_SESSION_READY: of_it->ready = true; break;
+  case WT_EVENT_SESSION_READY:
+    of_it->ready = true;
+    if (of_it->order != END_FIRST) send_datagram(of_it);
+    break;
   case WT_EVENT_REJECTED: fail(of_it, "the answer was", e->wt.number); break;
   case WT_EVENT_SESSION_CLOSED:
   case WT_EVENT_SESSION_LOST:
@@ -240,7 +243,6 @@ void on_session_datagram(h3_stream *s, const uint8_t *bytes, size_t length) {
 }
 
 void on_stream_over(h3_stream *s) { free(s->user); }
-void on_h3_more_streams(h3_connection *c) { (void)c; }
 
 void on_h3_gone(h3_connection *c, uint64_t code) {
   run *r = c->user;

@@ -1,19 +1,8 @@
 /* A connection of HTTP/3 and WebTransport over QUIC (h3.h). */
-#include "h3.h"
+#include "h3_internal.h"
 #include <stdio.h>
 #include <stdlib.h>
 #include <string.h>
-
-enum {
-  MAX_FIELDS =
-      16384, /* of a decoded field section: what SETTINGS_MAX_FIELD_SECTION_SIZE announces */
-  MAX_SECTION = 16384, /* of an encoded one; it is whole before it is read, so the stream's window
-                          is larger */
-  MAX_DATAGRAM = 1200, /* of a capsule */
-  HELD = WT_MAX_CAPSULE_VALUE + MAX_DATAGRAM,
-  FIELDS = MAX_FIELDS / 32,
-  SESSIONS = 100
-};
 
 static const uint64_t no_session = UINT64_MAX;
 static uint8_t side;
@@ -21,9 +10,7 @@ static bool late_settings;
 static wt_field fields[FIELDS];
 static uint8_t out[MAX_FIELDS];
 
-static void act(h3_stream *s, const h3_event *e);
-
-static void *allocate(size_t size) {
+void *h3_allocate(size_t size) {
   void *memory = calloc(1, size);
   if (memory == NULL) {
     fputs("h3: out of memory\n", stderr);
@@ -39,8 +26,8 @@ void h3_begin(uint8_t own_side, bool late) {
 
 /* ---- Streams ---- */
 
-static h3_stream *add_stream(h3_connection *c, quic_stream *q) {
-  h3_stream *s = allocate(sizeof *s);
+h3_stream *h3_add_stream(h3_connection *c, quic_stream *q) {
+  h3_stream *s = h3_allocate(sizeof *s);
   s->c = c;
   s->quic = q;
   s->id = (uint64_t)quic_id(q);
@@ -79,13 +66,13 @@ static void sweep(h3_connection *c) {
   }
 }
 
-static void close_connection(h3_connection *c, uint64_t code) {
+void h3_close_connection(h3_connection *c, uint64_t code) {
   c->broken = true;
   quic_close(c->quic, code);
 }
 
 /* Ends both halves of a stream with an error code. */
-static void end_stream(h3_stream *s, uint64_t code) {
+void h3_end_stream(h3_stream *s, uint64_t code) {
   quic_stream *q = s->quic;
   if (q == NULL) return;
   quic_reset(q, code);
@@ -100,10 +87,25 @@ static void end_stream(h3_stream *s, uint64_t code) {
 static void end_session(h3_stream *session) {
   if (session->quic) quic_send(session->quic, NULL, 0, true);
   for (h3_stream *s = session->c->streams; s; s = s->next)
-    if (s->session == session->id && s != session) end_stream(s, WT_WEBTRANSPORT_SESSION_GONE);
+    if (s->session == session->id && s != session) h3_end_stream(s, WT_WEBTRANSPORT_SESSION_GONE);
 }
 
 /* ---- Reading ---- */
+
+bool h3_is(const uint8_t *text, size_t length, const char *other) {
+  return text && length == strlen(other) && !memcmp(text, other, length);
+}
+
+const uint8_t *h3_field(const h3_event *e, const char *name, size_t *length) {
+  *length = 0;
+  for (size_t i = 0; i < e->wt.fields; i++) {
+    const wt_field *f = &e->fields[i];
+    if (!h3_is(e->out + f->name_offset, f->name_length, name)) continue;
+    *length = f->value_length;
+    return e->out + f->value_offset;
+  }
+  return NULL;
+}
 
 /* Says what is known of the session of a stream. */
 static void join(h3_stream *s, uint64_t session) {
@@ -113,8 +115,8 @@ static void join(h3_stream *s, uint64_t session) {
   h3_event e = {0};
   if (wt_session_known(&c->wt, session, its ? &its->wt : NULL, its != NULL, &known) != WT_OK ||
       wt_stream_join(&c->wt, &s->wt, known, &e.wt) != WT_OK)
-    close_connection(c, WT_H3_INTERNAL_ERROR);
-  else act(s, &e);
+    h3_close_connection(c, WT_H3_INTERNAL_ERROR);
+  else h3_act(s, &e);
 }
 
 /* Answers a request whose fields are above the limits (RFC 6585, section 5), and reads it no
@@ -127,16 +129,16 @@ static void refuse_fields(h3_stream *s) {
 }
 
 /* Does what an event requires, and passes it on. */
-static void act(h3_stream *s, const h3_event *e) {
+void h3_act(h3_stream *s, const h3_event *e) {
   h3_connection *c = s->c;
   switch (e->wt.kind) {
   case WT_EVENT_MORE: return;
   case WT_EVENT_WAITS: s->waits = true; return;
   case WT_EVENT_JOINS: join(s, e->wt.number); return;
-  case WT_EVENT_CONNECTION_ERROR: close_connection(c, e->wt.number); return;
+  case WT_EVENT_CONNECTION_ERROR: h3_close_connection(c, e->wt.number); return;
   case WT_EVENT_SESSION_REQUESTED:
     s->is_session = true;
-    if (s->held == NULL) s->held = allocate(HELD);
+    if (s->held == NULL) s->held = h3_allocate(HELD);
     break;
   case WT_EVENT_JOINED: s->session = e->wt.number; break;
   default: break;
@@ -148,7 +150,7 @@ static void act(h3_stream *s, const h3_event *e) {
   case WT_EVENT_SESSION_CLOSED:
   case WT_EVENT_SESSION_LOST: end_session(s); break;
   case WT_EVENT_STREAM_ERROR:
-  case WT_EVENT_MALFORMED: end_stream(s, e->wt.number); break;
+  case WT_EVENT_MALFORMED: h3_end_stream(s, e->wt.number); break;
   case WT_EVENT_RESET:
     if (e->wt.detail == 1 && s->quic) quic_reset(s->quic, e->wt.number);
     break;
@@ -167,14 +169,14 @@ static size_t read_events(h3_stream *s, const uint8_t *bytes, size_t length) {
     int answer = wt_receive(&c->wt, &s->wt, s->held, s->held ? HELD : 0, NULL, 0, bytes + start,
                             length - start, s->fin, &e.wt, fields, FIELDS, out, sizeof out);
     if (answer != WT_OK) {
-      close_connection(c, WT_H3_INTERNAL_ERROR);
+      h3_close_connection(c, WT_H3_INTERNAL_ERROR);
       return length;
     }
     e.bytes = bytes + start + e.wt.offset;
     start += e.wt.consumed;
     bool data = e.wt.kind == WT_EVENT_DATA || e.wt.kind == WT_EVENT_STREAM_DATA;
     if (s->quic) quic_consume(s->quic, e.wt.consumed - (data ? e.wt.length : 0));
-    act(s, &e);
+    h3_act(s, &e);
   } while (e.wt.kind != WT_EVENT_MORE && e.wt.kind != WT_EVENT_WAITS && !c->broken && !s->ended);
   return s->ended ? length : start;
 }
@@ -187,7 +189,7 @@ static void read_stream(h3_stream *s, const uint8_t *bytes, size_t length) {
     size_t consumed = read_events(s, bytes ? bytes : &none, length);
     if (consumed < length) {
       s->length = length - consumed;
-      s->bytes = allocate(QUIC_STREAM_WINDOW);
+      s->bytes = h3_allocate(QUIC_STREAM_WINDOW);
       memcpy(s->bytes, bytes + consumed, s->length);
     }
   } else {
@@ -233,11 +235,11 @@ static h3_connection *of(quic_connection *q) {
   if (c) return c;
   wt_endpoint endpoint = {side,         1,  1, side == WT_SIDE_SERVER, MAX_SECTION, MAX_FIELDS,
                           MAX_DATAGRAM, {0}};
-  c = allocate(sizeof *c);
+  c = h3_allocate(sizeof *c);
   c->quic = q;
   *quic_user(q) = c;
   if (wt_connection_new(WT_ABI, &endpoint, &c->wt) != WT_OK)
-    close_connection(c, WT_H3_INTERNAL_ERROR);
+    h3_close_connection(c, WT_H3_INTERNAL_ERROR);
   return c;
 }
 
@@ -249,9 +251,10 @@ void on_ready(quic_connection *q) {
 
 void on_stream(quic_stream *q) {
   h3_connection *c = of(quic_of(q));
-  h3_stream *s = add_stream(c, q);
+  h3_stream *s = h3_add_stream(c, q);
   s->writes = !(s->id & 2);
-  if (wt_stream_accept(&c->wt, s->id, &s->wt) != WT_OK) close_connection(c, WT_H3_INTERNAL_ERROR);
+  if (wt_stream_accept(&c->wt, s->id, &s->wt) != WT_OK)
+    h3_close_connection(c, WT_H3_INTERNAL_ERROR);
 }
 
 void on_data(quic_stream *q, const uint8_t *bytes, size_t length, bool fin) {
@@ -268,10 +271,10 @@ void on_reset(quic_stream *q, uint64_t code) {
   h3_connection *c = s->c;
   h3_event e = {.code = code};
   if (c->broken) return;
-  if (wt_stream_reset(&c->wt, &s->wt, &e.wt) != WT_OK) close_connection(c, WT_H3_INTERNAL_ERROR);
+  if (wt_stream_reset(&c->wt, &s->wt, &e.wt) != WT_OK) h3_close_connection(c, WT_H3_INTERNAL_ERROR);
   s->waits = false;
   s->length = 0;
-  act(s, &e);
+  h3_act(s, &e);
   if (s->quic) quic_done(s->quic);
   settle(c);
 }
@@ -283,8 +286,8 @@ void on_stopped(quic_stream *q) {
   uint64_t code;
   if (c->broken) return;
   if (s == c->control) {
-    if (wt_stopped(&c->wt, WT_PURPOSE_CONTROL, &code) == WT_ERROR) close_connection(c, code);
-  } else if (!(s->id & 2) && wt_stream_stop(&c->wt, &s->wt, &e.wt) == WT_OK) act(s, &e);
+    if (wt_stopped(&c->wt, WT_PURPOSE_CONTROL, &code) == WT_ERROR) h3_close_connection(c, code);
+  } else if (!(s->id & 2) && wt_stream_stop(&c->wt, &s->wt, &e.wt) == WT_OK) h3_act(s, &e);
 }
 
 void on_stream_gone(quic_stream *q) {
@@ -296,21 +299,21 @@ void on_stream_gone(quic_stream *q) {
   s->c->changed = true;
 }
 
-void on_more_streams(quic_connection *q) { on_h3_more_streams(of(q)); }
+void on_more_streams(quic_connection *q) { h3_send_later(of(q)); }
 
 void on_datagram(quic_connection *q, const uint8_t *bytes, size_t length) {
   h3_connection *c = of(q);
   wt_event e;
   uint32_t known;
   if (c->broken || wt_datagram_receive(&c->wt, bytes, length, &e) != WT_OK) return;
-  if (e.kind == WT_EVENT_CONNECTION_ERROR) close_connection(c, e.number);
+  if (e.kind == WT_EVENT_CONNECTION_ERROR) h3_close_connection(c, e.number);
   if (e.kind != WT_EVENT_DATAGRAM) return;
   h3_stream *its = h3_find(c, e.number);
   if (wt_session_known(&c->wt, e.number, its ? &its->wt : NULL, its != NULL, &known) != WT_OK)
     return;
   int use = wt_datagram_use(known); /* (early ones are dropped) */
   if (use == WT_DATAGRAM_DELIVER && its) on_session_datagram(its, bytes + e.offset, e.length);
-  if (use == WT_DATAGRAM_END_STREAM && its) end_stream(its, WT_H3_DATAGRAM_ERROR);
+  if (use == WT_DATAGRAM_END_STREAM && its) h3_end_stream(its, WT_H3_DATAGRAM_ERROR);
   settle(c);
 }
 
@@ -325,155 +328,11 @@ void on_gone(quic_connection *q, uint64_t code) {
     s->quic = NULL;
     free_stream(s);
   }
+  while (c->later) {
+    h3_later *l = c->later;
+    c->later = l->next;
+    free(l);
+  }
   free(c);
   *quic_user(q) = NULL;
-}
-
-/* ---- Sending ---- */
-
-static quic_stream *open_stream(h3_connection *c, bool bidirectional, h3_stream **s) {
-  quic_stream *q = c->broken ? NULL : quic_open(c->quic, bidirectional);
-  if (q == NULL) return NULL;
-  *s = add_stream(c, q);
-  (*s)->writes = true;
-  return q;
-}
-
-void h3_send_settings(h3_connection *c) {
-  static const wt_setting settings[] = {{WT_SETTING_MAX_FIELD_SECTION_SIZE, MAX_FIELDS},
-                                        {WT_SETTING_ENABLE_CONNECT_PROTOCOL, 1},
-                                        {WT_SETTING_H3_DATAGRAM, 1},
-                                        {WT_SETTING_ENABLE_WEBTRANSPORT, 1},
-                                        {WT_SETTING_WEBTRANSPORT_MAX_SESSIONS, SESSIONS}};
-  static const wt_stream_header header = {WT_STREAM_CONTROL, 0};
-  uint8_t payload[128], bytes[160];
-  size_t size, head, frame;
-  quic_stream *q = open_stream(c, false, &c->control);
-  if (q == NULL || wt_settings_write(settings, 5, payload, sizeof payload, &size) != WT_OK ||
-      wt_stream_header_write(&header, bytes, sizeof bytes, &head) != WT_OK ||
-      wt_frame_write(WT_FRAME_SETTINGS, payload, size, bytes + head, sizeof bytes - head, &frame) !=
-          WT_OK) {
-    close_connection(c, WT_H3_INTERNAL_ERROR);
-    return;
-  }
-  quic_send(q, bytes, head + frame, false);
-}
-
-bool h3_is(const uint8_t *text, size_t length, const char *other) {
-  return text && length == strlen(other) && !memcmp(text, other, length);
-}
-
-const uint8_t *h3_field(const h3_event *e, const char *name, size_t *length) {
-  *length = 0;
-  for (size_t i = 0; i < e->wt.fields; i++) {
-    const wt_field *f = &e->fields[i];
-    if (!h3_is(e->out + f->name_offset, f->name_length, name)) continue;
-    *length = f->value_length;
-    return e->out + f->value_offset;
-  }
-  return NULL;
-}
-
-/* Adds a field with these texts. */
-static size_t add_field(wt_field *f, uint8_t *texts, size_t used, const char *name,
-                        const char *value) {
-  *f = (wt_field){used, strlen(name), used + strlen(name), strlen(value)};
-  memcpy(texts + used, name, f->name_length);
-  memcpy(texts + f->value_offset, value, f->value_length);
-  return f->value_offset + f->value_length;
-}
-
-void h3_respond(h3_stream *s, uint32_t status, const char *name, const char *value, bool fin) {
-  wt_field list[2];
-  uint8_t texts[256], bytes[512];
-  size_t count = 0, used = 0, size;
-  if (s->quic == NULL) return;
-  if (name && strlen(name) + strlen(value) < 200)
-    used = add_field(&list[count++], texts, used, name, value);
-  if (s->is_session)
-    used = add_field(&list[count++], texts, used, "sec-webtransport-http3-draft", "draft02");
-  if (wt_response_write(status, list, count, texts, used, bytes, sizeof bytes, &size) != WT_OK ||
-      (s->is_session && wt_stream_answer(&s->wt, status) != WT_OK)) {
-    end_stream(s, WT_H3_INTERNAL_ERROR);
-    return;
-  }
-  quic_send(s->quic, bytes, size, fin);
-  s->c->changed = true;
-}
-
-void h3_send_content(h3_stream *s, const void *bytes, size_t length, bool fin) {
-  uint8_t head[16];
-  size_t size;
-  if (s->quic == NULL ||
-      wt_frame_write_head(WT_FRAME_DATA, length, head, sizeof head, &size) != WT_OK)
-    return;
-  quic_send(s->quic, head, size, false);
-  quic_send(s->quic, bytes, length, fin);
-}
-
-h3_stream *h3_connect(h3_connection *c, const char *url, bool sent) {
-  h3_stream *s;
-  if (open_stream(c, true, &s) == NULL) return NULL;
-  s->is_session = true;
-  s->held = allocate(HELD);
-  if (wt_stream_of_request(&c->wt, WT_ASKED_SESSION, &s->wt) != WT_OK)
-    close_connection(c, WT_H3_INTERNAL_ERROR);
-  if (sent) h3_request(s, url, false);
-  return s;
-}
-
-void h3_request(h3_stream *s, const char *url, bool fin) {
-  uint8_t bytes[512];
-  size_t size;
-  if (s->quic == NULL) return;
-  if (wt_request_write((const uint8_t *)url, strlen(url), NULL, 0, NULL, 0, bytes, sizeof bytes,
-                       &size) != WT_OK)
-    end_stream(s, WT_H3_INTERNAL_ERROR);
-  else quic_send(s->quic, bytes, size, fin);
-}
-
-h3_stream *h3_open(h3_stream *session, bool bidirectional) {
-  wt_stream_header header = {WT_STREAM_WEBTRANSPORT, session->id};
-  uint8_t bytes[16];
-  size_t size;
-  h3_stream *s;
-  quic_stream *q = open_stream(session->c, bidirectional, &s);
-  if (q == NULL) return NULL;
-  s->session = session->id;
-  int answer = bidirectional ? wt_session_frame_write(session->id, bytes, sizeof bytes, &size)
-                             : wt_stream_header_write(&header, bytes, sizeof bytes, &size);
-  if (answer != WT_OK || wt_stream_of_session(session->id, &s->wt) != WT_OK)
-    close_connection(s->c, WT_H3_INTERNAL_ERROR);
-  else quic_send(q, bytes, size, false);
-  return s;
-}
-
-void h3_send(h3_stream *s, const void *bytes, size_t length, bool fin) {
-  if (s->quic) quic_send(s->quic, bytes, length, fin);
-}
-
-void h3_reset(h3_stream *s, uint32_t code) {
-  if (s->quic) quic_reset(s->quic, wt_application_code_to_http3(code));
-}
-
-void h3_stop(h3_stream *s, uint32_t code) {
-  if (s->quic) quic_stop(s->quic, wt_application_code_to_http3(code));
-}
-
-void h3_send_datagram(h3_stream *session, const void *bytes, size_t length) {
-  uint8_t head[8];
-  size_t size;
-  if (session->quic && wt_datagram_write_head(session->id, head, sizeof head, &size) == WT_OK)
-    quic_datagram(session->c->quic, head, size, bytes, length);
-}
-
-void h3_close(h3_stream *session, uint32_t code, const char *reason) {
-  uint8_t capsule[1100];
-  size_t size;
-  h3_event e = {0};
-  if (session->quic == NULL || wt_close_write(code, (const uint8_t *)reason, strlen(reason),
-                                              capsule, sizeof capsule, &size) != WT_OK)
-    return;
-  h3_send_content(session, capsule, size, true);
-  if (wt_stream_abandon(&session->c->wt, &session->wt, &e.wt) == WT_OK) act(session, &e);
 }

@@ -9,6 +9,7 @@
 
 typedef struct h3_connection h3_connection;
 typedef struct h3_stream h3_stream;
+typedef struct h3_later h3_later;
 
 struct h3_stream {
   h3_connection *c;
@@ -30,6 +31,7 @@ struct h3_connection {
   wt_connection wt;
   h3_stream *streams, *control; /* the own control stream */
   void *user; /* the program's: null at first */
+  h3_later *later;
   bool changed, broken;
 };
 
@@ -45,12 +47,11 @@ typedef struct h3_event {
 } h3_event;
 void on_event(h3_stream *s, const h3_event *e);
 
-/* The program's: a datagram of an open session, from QUIC; the handshake is complete, so requests
-   can be sent; more streams can be opened; a connection is gone, with its error code. Before
-   on_stream_over a stream of a session or a request is over. */
+/* The program's: a datagram of an open session came from QUIC; the handshake is complete, so
+   requests can be sent; a stream is over, and its memory is freed; a connection is gone, with its
+   error code. */
 void on_session_datagram(h3_stream *session, const uint8_t *bytes, size_t length);
 void on_h3_ready(h3_connection *c);
-void on_h3_more_streams(h3_connection *c);
 void on_stream_over(h3_stream *s);
 void on_h3_gone(h3_connection *c, uint64_t code);
 
@@ -78,6 +79,9 @@ void h3_request(h3_stream *s, const char *url, bool fin);
 /* Opens a stream of a session, null if the peer allows no more for now, and sends on it. */
 h3_stream *h3_open(h3_stream *session, bool bidirectional);
 void h3_send(h3_stream *s, const void *bytes, size_t length, bool fin);
+
+/* Sends a whole unidirectional stream of a session, as soon as the peer allows one more. */
+void h3_send_one_way(h3_stream *session, const void *bytes, size_t length);
 
 /* Resets the own half with an application's code, or stops the peer's. */
 void h3_reset(h3_stream *s, uint32_t code);

@@ -12,10 +12,7 @@
 
 enum { MAX_COMMAND = 1024, MAX_ONE_WAY = 1 << 20, PAGE = 1 << 16 };
 
-typedef struct text { /* of a stream that is read to its end, then of an answer that waits for a
-                         stream */
-  struct text *next;
-  h3_stream *session;
+typedef struct text { /* of a stream that is read to its end */
   size_t length;
   uint8_t bytes[];
 } text;
@@ -28,35 +25,18 @@ static unsigned long sessions, closed, streams, datagrams, resets;
 static bool stop(void) { return done; }
 static void on_signal(int number) { (void)number, done = true; }
 
-static void *grow(void *memory, size_t size) {
-  if ((memory = realloc(memory, size)) == NULL) exit(1);
-  return memory;
-}
-
 static bool is_one_way(const h3_stream *s) { return s->id & 2; }
 
 /* Adds bytes to the text of a stream. */
 static void keep(h3_stream *s, const uint8_t *bytes, size_t length) {
   text *t = s->user;
   size_t had = t ? t->length : 0;
-  t = s->user = grow(t, sizeof *t + had + length);
+  if ((t = s->user = realloc(t, sizeof *t + had + length)) == NULL) exit(1);
   if (length > 0) memcpy(t->bytes + had, bytes, length);
   t->length = had + length;
 }
 
-/* Sends the texts of unidirectional streams back as far as new streams are allowed. */
-static void answer(h3_connection *c) {
-  for (text *t; (t = c->user) != NULL;) {
-    h3_stream *s = h3_open(t->session, false);
-    if (s == NULL) return;
-    h3_send(s, t->bytes, t->length, true);
-    c->user = t->next;
-    free(t);
-  }
-}
-
-/* "!close CODE REASON", "!reset CODE", "!stop CODE", "!open": on the session of a stream, or on
- * that. */
+/* "!close CODE REASON": the session of a stream; "!reset CODE": the stream; "!open": another. */
 static void command(h3_stream *s) {
   h3_stream *session = h3_find(s->c, s->session), *other;
   keep(s, (const uint8_t *)"", 1);
@@ -76,7 +56,7 @@ static void request(h3_stream *s, const h3_event *e) {
                 *path = h3_field(e, ":path", &length);
   bool head = h3_is(method, method_length, "HEAD");
   if (h3_is(method, method_length, "POST")) { /* answered at its end */
-    s->user = grow(NULL, sizeof(text));
+    keep(s, NULL, 0);
     if (length > 8 && !memcmp(path, "/result?", 8)) printf("%.*s\n", (int)length - 8, path + 8);
     if (h3_is(path, length, "/done")) done = true;
     fflush(stdout);
@@ -110,20 +90,13 @@ static void session_data(h3_stream *s, const uint8_t *bytes, size_t length) {
 }
 
 static void session_end(h3_stream *s) {
-  if (s->id & 1) return;
-  if (!is_one_way(s)) {
-    if (s->user) command(s);
-    else h3_send(s, NULL, 0, true);
-    return;
+  h3_stream *session = h3_find(s->c, s->session);
+  if (!is_one_way(s) && s->user) command(s);
+  else if (!is_one_way(s)) h3_send(s, NULL, 0, true);
+  else if (session) {
+    keep(s, NULL, 0);
+    h3_send_one_way(session, ((text *)s->user)->bytes, ((text *)s->user)->length);
   }
-  keep(s, NULL, 0);
-  text *t = s->user, **last = (text **)&s->c->user;
-  if ((t->session = h3_find(s->c, s->session)) == NULL) return;
-  while (*last) last = &(*last)->next;
-  t->next = NULL;
-  *last = t;
-  s->user = NULL;
-  answer(s->c);
 }
 
 void on_event(h3_stream *s, const h3_event *e) {
@@ -167,19 +140,8 @@ void on_session_datagram(h3_stream *session, const uint8_t *bytes, size_t length
   h3_send_datagram(session, bytes, length);
 }
 
-void on_stream_over(h3_stream *s) {
-  free(s->user);
-  for (text **t = (text **)&s->c->user; *t;) {
-    text *of_it = *t;
-    if (of_it->session == s) {
-      *t = of_it->next;
-      free(of_it);
-    } else t = &of_it->next;
-  }
-}
-
+void on_stream_over(h3_stream *s) { free(s->user); }
 void on_h3_ready(h3_connection *c) { (void)c; }
-void on_h3_more_streams(h3_connection *c) { answer(c); }
 void on_h3_gone(h3_connection *c, uint64_t code) { (void)c, (void)code; }
 
 int main(int count, char **arguments) {
