@@ -30,6 +30,7 @@ typedef struct session {
   h3_stream *s;
   int number, order, opened, back;
   uint64_t due; /* when its request is sent; 0: it was sent */
+  uint64_t resets, reset; /* when the stream `reset` is reset; 0: it was, or there is none */
   bool ready, closing, over, failed;
 } session;
 
@@ -46,7 +47,7 @@ typedef struct echo { /* of a stream that was opened here */
 } echo;
 
 static int port, wanted, begun, running, passed, failed;
-static unsigned long streams_back, datagrams_sent, datagrams_back;
+static unsigned long streams_back, resets, datagrams_sent, datagrams_back;
 static uint64_t random_state;
 static h3_connection *live[CONNECTIONS];
 static const char url[] = "https://localhost/echo";
@@ -87,6 +88,16 @@ static bool open_stream(session *of_it) {
   h3_send(s, bytes, e->size, true);
   of_it->opened++;
   return true;
+}
+
+/* Opens a stream that is reset at once: the server resets its half, or knows nothing of it yet. */
+static void open_reset_stream(session *of_it) {
+  static const uint8_t bytes[5000] = "a stream that is reset";
+  h3_stream *s = h3_open(of_it->s, true);
+  if (s == NULL) return;
+  h3_send(s, bytes, sizeof bytes, false);
+  of_it->resets = random_below(2) ? quic_now() + random_below(20000000) : 1;
+  of_it->reset = s->id;
 }
 
 static void send_datagram(session *of_it) {
@@ -133,6 +144,11 @@ static void begin_sessions(h3_connection *c) {
 /* Goes on with a session: its request, its streams, its end. Returns whether it is over. */
 static bool go_on(session *of_it) {
   if (of_it->due && quic_now() >= of_it->due) send_request(of_it);
+  if (of_it->resets && quic_now() >= of_it->resets) {
+    h3_stream *s = h3_find(of_it->s->c, of_it->reset);
+    of_it->resets = 0;
+    if (s) h3_reset(s, 7);
+  }
   if (of_it->order != END_FIRST && of_it->ready && !of_it->over)
     while (of_it->opened < STREAMS && open_stream(of_it)) {
     }
@@ -205,6 +221,7 @@ void on_event(h3_stream *s, const h3_event *e) {
   case WT_EVENT_SESSION_READY:
     of_it->ready = true;
     if (of_it->order != END_FIRST) send_datagram(of_it);
+    if (of_it->order == PLAIN) open_reset_stream(of_it);
     break;
   case WT_EVENT_REJECTED: fail(of_it, "the answer was", e->wt.number); break;
   case WT_EVENT_SESSION_CLOSED:
@@ -214,6 +231,7 @@ void on_event(h3_stream *s, const h3_event *e) {
     break;
   case WT_EVENT_STREAM_DATA:
     quic_consume(s->quic, e->wt.length);
+    if (of_it && s->id == of_it->reset && s->id != 0) break;
     if (own == NULL) { /* one that comes back */
       own = s->user = allocate(sizeof *own);
       own->key = e->bytes[0];
@@ -230,7 +248,10 @@ void on_event(h3_stream *s, const h3_event *e) {
     of_it->back++;
     streams_back++;
     break;
-  case WT_EVENT_RESET: fail(of_it, "a stream was reset with", e->code); break;
+  case WT_EVENT_RESET:
+    if (of_it && s->id == of_it->reset && s->id != 0) resets++;
+    else fail(of_it, "a stream was reset with", e->code);
+    break;
   case WT_EVENT_STREAM_ERROR:
   case WT_EVENT_MALFORMED: fail(of_it, "the event", e->wt.kind); break;
   default: break;
@@ -270,7 +291,8 @@ int main(int count, char **arguments) {
   quic_begin(0, arguments[3], NULL);
   quic_run(atof(arguments[2]), step);
   failed += wanted - passed - failed;
-  printf("%lu streams came back, %lu of %lu datagrams\n%d passed, %d failed\n", streams_back,
-         datagrams_back, datagrams_sent, passed, failed);
+  printf("%lu streams came back, %lu were reset, %lu of %lu datagrams came back\n", streams_back,
+         resets, datagrams_back, datagrams_sent);
+  printf("%d passed, %d failed\n", passed, failed);
   return failed != 0;
 }
