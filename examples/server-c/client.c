@@ -208,6 +208,21 @@ void on_h3_ready(h3_connection *c) {
   }
 }
 
+/* Compares bytes that came on a stream with those that were sent. */
+static void compare(h3_stream *s, session *of_it, const h3_event *e) {
+  echo *own = s->user;
+  quic_consume(s->quic, e->wt.length);
+  if (of_it && s->id == of_it->reset && s->id != 0) return;
+  if (own == NULL) { /* one that comes back */
+    own = s->user = allocate(sizeof *own);
+    own->key = e->bytes[0];
+  }
+  for (size_t i = 0; i < e->wt.length; i++)
+    if (e->bytes[i] != (uint8_t)(own->key + 7 * (own->came + i)))
+      fail(of_it, "another byte came", own->came + i);
+  own->came += e->wt.length;
+}
+
 void on_event(h3_stream *s, const h3_event *e) {
   session *of_it = of(s);
   echo *own = s->is_session ? NULL : s->user;
@@ -229,18 +244,7 @@ void on_event(h3_stream *s, const h3_event *e) {
     of_it->over = true;
     if (of_it->order != END_FIRST && !of_it->closing) fail(of_it, "the session ended", e->wt.kind);
     break;
-  case WT_EVENT_STREAM_DATA:
-    quic_consume(s->quic, e->wt.length);
-    if (of_it && s->id == of_it->reset && s->id != 0) break;
-    if (own == NULL) { /* one that comes back */
-      own = s->user = allocate(sizeof *own);
-      own->key = e->bytes[0];
-    }
-    for (size_t i = 0; i < e->wt.length; i++)
-      if (e->bytes[i] != (uint8_t)(own->key + 7 * (own->came + i)))
-        fail(of_it, "another byte came", own->came + i);
-    own->came += e->wt.length;
-    break;
+  case WT_EVENT_STREAM_DATA: compare(s, of_it, e); break;
   case WT_EVENT_END:
     if (s->is_session || of_it == NULL) break;
     if (!(s->id & 1) && own->came != own->size)

@@ -3,9 +3,9 @@
 
     proxy.py PORT SERVER_PORT SECONDS SEED
 
-PORT is 0 for any port, which it prints. It ends after SECONDS, or on SIGTERM, and prints what it did.
-Decisions are those of a random generator with this seed, for each packet in the order in which they come;
-packets both ways are treated alike.
+PORT is 0 for any port, which it prints. It ends after SECONDS, or on SIGTERM, and prints what it
+did. Decisions are those of a random generator with this seed, for each packet in the order in which
+they come; packets both ways are treated alike.
 """
 import heapq
 import random
