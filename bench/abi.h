@@ -17,10 +17,23 @@ int64_t bench_list(const uint8_t *bytes, size_t len);
 /* The same by polled reading from a source that is always ready: poll by poll, and driven into a vector. */
 int64_t bench_poll(const uint8_t *bytes, size_t len);
 int64_t bench_drive(const uint8_t *bytes, size_t len);
-/* A request on a stream of its own, of which so many bytes come at a time and the end with the last ones: the bytes of
-   its body, by all that a server's connection does with the stream, and by its frames alone. */
+/* A request on a stream of its own, of which BENCH_PIECE bytes come at a time and the end with the last ones: the bytes
+   of its content, by all that a server's connection does with the frames of the stream, and by its frames alone. */
 int64_t bench_connection(const uint8_t *bytes, size_t len);
 int64_t bench_message(const uint8_t *bytes, size_t len);
+/* The first of them where all bytes come at once. */
+int64_t bench_connection_whole(const uint8_t *bytes, size_t len);
+/* The same request in pieces, whose fields are decoded and checked, and its content counted against them: the size of
+   its field list (RFC 9114, section 4.2.2), and the bytes of its content. */
+int64_t bench_content(const uint8_t *bytes, size_t len);
+/* Messages to their verdicts, each whole on a stream of its own: what make_messages.py writes. The sizes of all field
+   lists, and the bytes of the content, but for sessions, which the server accepts. */
+int64_t bench_requests(const uint8_t *bytes, size_t len);
+int64_t bench_responses(const uint8_t *bytes, size_t len);
+int64_t bench_sessions(const uint8_t *bytes, size_t len);
+/* The same request on many streams, all of which have all but the last byte before the first of them ends: what
+   make_frames.py writes. */
+int64_t bench_streams(const uint8_t *bytes, size_t len);
 enum { BENCH_PIECE = 1200 };
 /* The decoded bytes, and the coded bytes, that were put into out. */
 int64_t bench_huffman_decode(const uint8_t *text, size_t len, uint8_t *out, size_t room);

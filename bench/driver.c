@@ -7,7 +7,7 @@
 #include <time.h>
 #include <unistd.h>
 
-enum { ROUNDS = 100, LIBRARIES = 4, PIECES = 1024 };
+enum { ROUNDS = 100, LIBRARIES = 4, PIECES = 1024, MESSAGES = 64 };
 static const double ROUND = 0.005; /* seconds of the processor */
 
 typedef int64_t (*reads)(const uint8_t *, size_t);
@@ -29,7 +29,8 @@ typedef struct {
   int has_out;
   const input *inputs;
   size_t count;
-  size_t bytes; /* of an input, that the rate is counted in */
+  size_t bytes;     /* of an input, that the rate is counted in, or of what else */
+  const char *unit; /* what else, as a frame */
 } task;
 
 static uint8_t out[1 << 21];
@@ -100,9 +101,11 @@ static void measure(const task *t, void **libraries, int count) {
     }
   printf("%-28s", t->label);
   for (int i = 0; i < count; ++i) {
-    if (calls[i])
-      printf(" %11.1f ns %7.2f ns/byte %6.0f MB/s", least[i] * 1e9, least[i] * 1e9 / (double)t->bytes,
-             (double)t->bytes / least[i] / 1e6);
+    double each = least[i] * 1e9 / (double)t->bytes;
+    if (calls[i] && t->unit)
+      printf(" %11.1f ns %9.1f ns/%-8s   ", least[i] * 1e9, each, t->unit);
+    else if (calls[i])
+      printf(" %11.1f ns %7.2f ns/byte %6.0f MB/s", least[i] * 1e9, each, 1e3 / each);
     else
       printf(" %11s    %7s         %6s     ", "-", "-", "-");
   }
@@ -131,19 +134,51 @@ static void frames(const char *folder, void **libraries, int count) {
     }
 }
 
-/* A request with a body of 1 MiB in frames of one length. */
+/* A call over one file: what it answers, and of what there are how many. */
+static void measure_file(const char *folder, const char *file, const char *label, const char *symbol, int64_t wanted,
+                         size_t units, const char *unit, void **libraries, int count) {
+  input in = {.wanted = wanted};
+  in.bytes = load_input(folder, file, &in.len);
+  if (wanted < 0) in.wanted = number_at(in.bytes);
+  task t = {.label = label, .symbol = symbol, .inputs = &in, .count = 1, .bytes = units ? units : in.len, .unit = unit};
+  measure(&t, libraries, count);
+  free((void *)in.bytes);
+}
+
+enum { POST_FIELDS = 168 }; /* the size of the fields of make_frames.py */
+
+/* A request whose content is in frames of one length: of 1 MiB in pieces, and in 1,024 frames at once. */
 static void requests(const char *folder, void **libraries, int count) {
-  static const char *const symbols[] = {"bench_connection", "bench_message"};
-  static const char *const files[][2] = {{"request-1024.bin", "DATA of 1 KiB"}, {"request-16.bin", "DATA of 16 bytes"}};
-  for (int f = 0; f < 2; ++f)
-    for (int s = 0; s < 2; ++s) {
-      char label[64];
+  static const char *const files[][2] = {{"request-16x65536.bin", "DATA of 16 bytes"},
+                                         {"request-1024x1024.bin", "DATA of 1 KiB"},
+                                         {"request-1048576x1.bin", "DATA of 1 MiB"}};
+  static const char *const symbols[] = {"bench_connection", "bench_message", "bench_content"};
+  static const struct { const char *file, *name; int64_t size; } whole[] = {
+      {"request-16x1024.bin", "16 bytes", 16}, {"request-1024x1024.bin", "1 KiB", 1024}, {"request-16384x1024.bin", "16 KiB", 16384}};
+  char label[64];
+  for (int s = 0; s < 3; ++s)
+    for (int f = 0; f < 3; ++f) {
       snprintf(label, sizeof label, "%s, %s", symbols[s] + 6, files[f][1]);
-      input in = {.wanted = 1 << 20};
-      in.bytes = load_input(folder, files[f][0], &in.len);
-      task t = {.label = label, .symbol = symbols[s], .inputs = &in, .count = 1, .bytes = in.len};
-      measure(&t, libraries, count);
+      measure_file(folder, files[f][0], label, symbols[s], (1 << 20) + (s == 2 ? POST_FIELDS : 0), 0, NULL, libraries, count);
     }
+  for (int f = 0; f < 3; ++f) {
+    snprintf(label, sizeof label, "whole frames, DATA of %s", whole[f].name);
+    measure_file(folder, whole[f].file, label, "bench_connection_whole", 1024 * whole[f].size, 1024, "frame", libraries, count);
+  }
+}
+
+/* Recorded messages, and the same request on many streams. */
+static void messages(const char *folder, void **libraries, int count) {
+  static const char *const sets[][3] = {{"chromium.bin", "bench_requests", "requests of Chromium"},
+                                        {"requests.bin", "bench_requests", "requests of four stacks"},
+                                        {"responses.bin", "bench_responses", "responses of three stacks"},
+                                        {"sessions.bin", "bench_sessions", "sessions of Chromium"}};
+  static const struct { const char *file, *label; size_t streams; } open[] = {{"streams-10.bin", "10 open streams", 10},
+                                                                              {"streams-1000.bin", "1,000 open streams", 1000},
+                                                                              {"streams-10000.bin", "10,000 open streams", 10000}};
+  for (int s = 0; s < 4; ++s) measure_file(folder, sets[s][0], sets[s][2], sets[s][1], -1, MESSAGES, "message", libraries, count);
+  for (int s = 0; s < 3; ++s)
+    measure_file(folder, open[s].file, open[s].label, "bench_streams", -1, open[s].streams, "stream", libraries, count);
 }
 
 /* Header text in pieces of one length, and their codes, which come from the first library that has one. */
@@ -326,6 +361,7 @@ int main(int argc, char **argv) {
   work before = work_so_far();
   frames(argv[1], libraries, count);
   requests(argv[1], libraries, count);
+  messages(argv[1], libraries, count);
   huffman(argv[1], libraries, count);
   sections(argv[1], libraries, count);
   dynamic(argv[1], libraries, count);

@@ -1,8 +1,10 @@
 #!/usr/bin/env python3
-"""Writes two recordings of small frames, 1 MiB each and the same at each run, and two requests with
-a body of 1 MiB, into the folder that is named."""
+"""Writes inputs into the folder that is named, the same at each run: two recordings of small
+frames, 1 MiB each; requests whose content is in frames of one size; and requests for many
+streams."""
 import os
 import random
+import struct
 import sys
 
 
@@ -35,8 +37,21 @@ for name, sizes in (("frames-1MiB.bin", range(0, 41)), ("frames-tiny-1MiB.bin", 
     with open(os.path.join(sys.argv[1], name), "wb") as out:
         out.write(frames(1 << 20, sizes, 424242))
 
-# A POST to https://a/ (RFC 9204, appendix A).
+# A POST to https://a/ (RFC 9204, appendix A), and the size of its fields (RFC 9114, section 4.2.2).
 HEADERS = varint(1) + varint(8) + b"\0\0\xd4\xd7\x50\x01a\xc1"
-for size in (1024, 16):
-    with open(os.path.join(sys.argv[1], f"request-{size}.bin"), "wb") as out:
-        out.write(HEADERS + (varint(0) + varint(size) + bytes(size)) * ((1 << 20) // size))
+FIELDS = 4 * 32 + len(":methodPOST:schemehttps:authoritya:path/")
+
+
+def data(size):
+    return varint(0) + varint(size) + bytes(size)
+
+
+# 1 MiB in frames of three sizes, and 1,024 frames of three sizes.
+for size, count in ((16, 65536), (1024, 1024), (1 << 20, 1), (16, 1024), (16384, 1024)):
+    with open(os.path.join(sys.argv[1], f"request-{size}x{count}.bin"), "wb") as out:
+        out.write(HEADERS + data(size) * count)
+
+# What all fields and the content of the streams come to, how many streams, and the bytes of each.
+for count in (10, 1000, 10000):
+    with open(os.path.join(sys.argv[1], f"streams-{count}.bin"), "wb") as out:
+        out.write(struct.pack("<II", count * (FIELDS + 1024), count) + HEADERS + data(1024))

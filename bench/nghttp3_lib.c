@@ -1,6 +1,5 @@
-/* abi.h over nghttp3: QPACK with no dynamic table and with one, and requests, each on the next stream of one connection. Its Huffman
-   code is not exported, so that is measured through a section of one line, a literal name "x" with the text as its
-   value. It takes values of at most 64 KiB. */
+/* abi.h over nghttp3: QPACK with no dynamic table and with one. Its Huffman code is not exported, so that is measured
+   through a section of one line, a literal name "x" with the text as its value. It takes values of at most 64 KiB. */
 #include "../c/interop/sections.h"
 #include "inputs.h"
 
@@ -148,33 +147,4 @@ int64_t bench_dynamic_encode_4k(const bench_pair *pairs, size_t count, uint8_t *
 int64_t bench_dynamic_encode_64k(const bench_pair *pairs, size_t count, uint8_t *out, size_t room) {
   (void)out, (void)room;
   return encode_all(pairs, count, 65536);
-}
-
-static int count_data(nghttp3_conn *conn, int64_t stream, const uint8_t *data, size_t len, void *body, void *user) {
-  (void)conn, (void)stream, (void)data, (void)user;
-  *(int64_t *)body += (int64_t)len;
-  return 0;
-}
-
-/* A server's connection, on which every request is a new stream. It keeps the bytes of a frame's head that is cut, where
-   ours has them passed again, and it decodes the field section, which ours does not. */
-int64_t bench_connection(const uint8_t *bytes, size_t len) {
-  static nghttp3_conn *conn;
-  static int64_t stream, body;
-  if (!conn) {
-    nghttp3_callbacks callbacks = {.recv_data = count_data};
-    nghttp3_settings settings;
-    nghttp3_settings_default(&settings);
-    if (nghttp3_conn_server_new(&conn, &callbacks, &settings, nghttp3_mem_default(), &body)) return -1;
-    nghttp3_conn_set_max_client_streams_bidi(conn, (uint64_t)1 << 60);
-  }
-  body = 0;
-  for (size_t at = 0; at < len;) {
-    size_t size = len - at < BENCH_PIECE ? len - at : BENCH_PIECE;
-    if (nghttp3_conn_read_stream(conn, stream, bytes + at, size, at + size == len) < 0) return -1;
-    at += size;
-  }
-  if (nghttp3_conn_close_stream(conn, stream, NGHTTP3_H3_NO_ERROR)) return -1;
-  stream += 4;
-  return body;
 }

@@ -7,6 +7,10 @@ int64_t wt_bench_poll(const uint8_t *bytes, size_t len);
 int64_t wt_bench_drive(const uint8_t *bytes, size_t len);
 int64_t wt_bench_connection(const uint8_t *bytes, size_t len, size_t size);
 int64_t wt_bench_message(const uint8_t *bytes, size_t len, size_t size);
+int64_t wt_bench_content(const uint8_t *bytes, size_t len, size_t size);
+int64_t wt_bench_requests(const uint8_t *parts, size_t len);
+int64_t wt_bench_responses(const uint8_t *parts, size_t len);
+int64_t wt_bench_streams(const uint8_t *request, size_t len, uint32_t count);
 int64_t wt_bench_huffman_decode(const uint8_t *text, size_t len, uint8_t *out, size_t room);
 int64_t wt_bench_huffman_encode(const uint8_t *text, size_t len, uint8_t *out, size_t room);
 int64_t wt_bench_qpack_decode(const uint8_t *section, size_t len);
@@ -52,7 +56,19 @@ int64_t bench_drive(const uint8_t *bytes, size_t len) { return wt_bench_drive(by
 
 int64_t bench_connection(const uint8_t *bytes, size_t len) { return wt_bench_connection(bytes, len, BENCH_PIECE); }
 
+int64_t bench_connection_whole(const uint8_t *bytes, size_t len) { return wt_bench_connection(bytes, len, len); }
+
 int64_t bench_message(const uint8_t *bytes, size_t len) { return wt_bench_message(bytes, len, BENCH_PIECE); }
+
+int64_t bench_content(const uint8_t *bytes, size_t len) { return wt_bench_content(bytes, len, BENCH_PIECE); }
+
+int64_t bench_requests(const uint8_t *bytes, size_t len) { return wt_bench_requests(bytes + 4, len - 4); }
+
+int64_t bench_responses(const uint8_t *bytes, size_t len) { return wt_bench_responses(bytes + 4, len - 4); }
+
+int64_t bench_sessions(const uint8_t *bytes, size_t len) { return wt_bench_requests(bytes + 4, len - 4); }
+
+int64_t bench_streams(const uint8_t *bytes, size_t len) { return wt_bench_streams(bytes + 8, len - 8, number_at(bytes + 4)); }
 
 int64_t bench_qpack_decode(const uint8_t *section, size_t len) { return wt_bench_qpack_decode(section, len); }
 

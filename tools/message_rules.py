@@ -67,7 +67,10 @@ def is_malformed_request(fields, extended):
         if method != b"CONNECT" or not extended or not TOKEN.fullmatch(protocol):
             return True
     elif method == b"CONNECT":
-        return b":scheme" in first or b":path" in first or has_wrong_authority(fields)
+        # (a host alone is not enough: RFC 9114, section 4.4)
+        if b":scheme" in first or b":path" in first or b":authority" not in first:
+            return True
+        return has_wrong_authority(fields)
     scheme, path = first.get(b":scheme"), first.get(b":path")
     if scheme is None or path is None or not SCHEME.fullmatch(scheme):
         return True

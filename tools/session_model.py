@@ -158,7 +158,8 @@ class SessionModel(Model):
         piece = self.content[start:end]
         if kind == DATA:
             if self.stage == "content" and self.length is not None:
-                if size > self.length:
+                # (a frame of which no byte of the payload came is judged by its end alone)
+                if size > self.length and piece:
                     self.malformed()
                     return False
                 self.length -= size

@@ -100,6 +100,8 @@ def late(shows, before, code):
     return Row(shows, OTHER, b"\x40\x54\0abc", code, before=before)
 
 
+# A section with the method alone, and the first byte of the next frame.
+METHOD_ALONE = frame(1, b"\0\0\xd1") + b"\1"
 SESSION_HEX = headers(*SESSION).hex()
 OPEN = f"bytes 2 {OF_CLIENT}\nanswer 0 200\nbytes 0 {SESSION_HEX}\n"
 SESSION_ROWS = [
@@ -156,6 +158,7 @@ SESSION_ROWS = [
     malformed("user information (4.3.1)", *without(GET, b":authority"), (b"host", b"a@b")),
     malformed("CONNECT with a path (4.4)", *CONNECT, (b":path", b"/")),
     malformed("CONNECT without an authority (4.4)", CONNECT[0]),
+    malformed("CONNECT with a host alone (4.4)", CONNECT[0], (b"host", b"a")),
     malformed("a protocol without CONNECT (RFC 8441, 4)", *GET, SESSION[-1]),
     malformed("a session without a scheme (RFC 8441, 4)", *without(SESSION, b":scheme")),
     malformed("a session without a path (RFC 8441, 4)", *without(SESSION, b":path")),
@@ -181,6 +184,19 @@ SESSION_ROWS = [
         data(b"abc"),
         data(b"d"),
         code=MESSAGE,
+    ),
+    message(
+        "the head alone of content that is too long, and the end (7.1)",
+        headers(*GET, (b"content-length", b"3")),
+        b"\0\4",
+        code=FRAME,
+    ),
+    message(
+        "the head alone of content that is too long, and a reset",
+        headers(*GET, (b"content-length", b"3")),
+        b"\0\4",
+        end=False,
+        after="reset 0",
     ),
     message(
         "content that is too short",
@@ -216,6 +232,7 @@ SESSION_ROWS = [
     answer("its length without content", status(b"200", (b"content-length", b"9")), asked="head"),
     answer("content of 204 (RFC 9110, 6.4.1)", status(b"204"), data(b"x"), code=MESSAGE),
     answer("content of 304", status(b"304", (b"content-length", b"1")), data(b"x"), code=MESSAGE),
+    answer("the head alone of content of 304, and the end", status(b"304"), b"\0\1", code=FRAME),
     answer("304 with a length", status(b"304", (b"content-length", b"9"))),
     answer(
         "content that is too short",
@@ -323,6 +340,7 @@ SESSION_ROWS = [
     in_accepted(
         "a byte after the close, at a client", data(capsule(0x2843, bytes(4)) + b"x"), code=MESSAGE
     ),
+    message("a request of :method alone, and an end within a frame", METHOD_ALONE, code=MESSAGE),
     message("a session before SETTINGS", headers(*SESSION), end=False),
     message(
         "a request reset before its HEADERS (4.1.1)",
@@ -338,6 +356,13 @@ SESSION_ROWS = [
         "one of a session that was closed",
         OPEN + "bytes 0 " + data(capsule(0x2843, bytes(4))).hex(),
         SESSION_GONE,
+    ),
+    Row(
+        "a bidirectional stream of a session that was closed",
+        LATE,
+        b"\x40\x41\0late",
+        SESSION_GONE,
+        before=OPEN + "bytes 0 " + data(capsule(0x2843, bytes(4))).hex(),
     ),
     late("one of a session that was reset", OPEN + "reset 0", SESSION_GONE),
     late("one of a session that was abandoned", OPEN + "abandon 0", SESSION_GONE),

@@ -10,7 +10,7 @@ from recorded_connections import connections_in
 from recorded_sessions import RecordedSessions
 from replay import TOP, difference, ends_connection, is_start
 from session_events import Sessions
-from session_rows import GET, SESSION
+from session_rows import CONNECT, GET, SESSION
 
 
 class ModelTest(unittest.TestCase):
@@ -49,6 +49,8 @@ class SessionModelTest(unittest.TestCase):
         self.assertTrue(is_malformed_request(SESSION, False))
         self.assertFalse(is_malformed_request(SESSION, True))
         self.assertTrue(is_malformed_request([*GET, (b"X", b"y")], False))
+        self.assertFalse(is_malformed_request(CONNECT, False))
+        self.assertTrue(is_malformed_request([CONNECT[0], (b"host", b"a")], False))
         self.assertFalse(is_malformed_response([(b":status", b"204")], ""))
         self.assertTrue(is_malformed_response([(b":status", b"204")], "session"))
         accepted = [(b":status", b"200"), (b"content-length", b"abc")]

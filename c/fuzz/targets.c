@@ -264,6 +264,71 @@ static void names(const uint8_t *d, size_t n) {
   MUST(answer == WT_INVALID || wt_application_code_to_http3(application) == number);
 }
 
+/* One stream of a connection: the sum of what its events say, in pieces of `step` bytes, the last one
+   with its end. Pieces of content count byte by byte. */
+typedef struct played {
+  uint64_t sum, content, events;
+} played;
+
+static void count_event(played *p, const wt_event *e, const uint8_t *bytes, const uint8_t *out) {
+  MUST(e->kind <= WT_EVENT_END && e->reserved[0] == 0);
+  if (e->kind == WT_EVENT_DATA || e->kind == WT_EVENT_STREAM_DATA) {
+    for (size_t i = 0; i < e->length; i++) p->content = p->content * 31 + bytes[e->offset + i];
+    return;
+  }
+  if (e->kind == WT_EVENT_MORE || e->kind == WT_EVENT_SKIPPED || e->kind == WT_EVENT_MALFORMED) return;
+  p->events++;
+  p->sum = ((p->sum * 31 + e->kind) * 31 + e->number) * 31 + e->used;
+  for (size_t i = 0; i < e->used; i++) p->sum = p->sum * 31 + out[i];
+  note(300 + e->kind, e->number);
+}
+
+static played play(const uint8_t *d, size_t n, uint8_t side, uint64_t id, size_t step) {
+  static const wt_endpoint both = {0, 1, 1, 1, 4096, 2048, 100, {0, 0, 0, 0, 0}};
+  wt_endpoint endpoint = both;
+  wt_connection c;
+  wt_stream stream;
+  uint8_t held[1100], out[4096];
+  wt_field fields[64];
+  wt_event e;
+  played p = {0, 0, 0};
+  size_t at = 0, end = step < n ? step : n;
+  endpoint.side = side;
+  MUST(wt_connection_new(WT_ABI, &endpoint, &c) == WT_OK);
+  MUST((side == WT_SIDE_CLIENT ? wt_stream_of_request(&c, (uint32_t)id & 3, &stream)
+                               : wt_stream_accept(&c, id, &stream)) == WT_OK);
+  for (size_t calls = 0;; calls++) {
+    int answer = wt_receive(&c, &stream, held, sizeof held, NULL, 0, d + at, end - at, end == n, &e,
+                            fields, 64, out, sizeof out);
+    MUST(answer == WT_OK && e.consumed <= end - at && e.held <= sizeof held && calls < 8 * n + 64);
+    count_event(&p, &e, d + at, out);
+    at += e.consumed;
+    if (e.kind == WT_EVENT_WAITS && e.detail == WT_WAITS_ANSWER) {
+      MUST(wt_stream_answer(&stream, 200) == WT_OK);
+      continue;
+    }
+    if (e.kind == WT_EVENT_JOINS) MUST(wt_stream_join(&c, &stream, WT_KNOWN_OPEN, &e) == WT_OK);
+    if (e.kind == WT_EVENT_WAITS) return p;
+    if (e.kind != WT_EVENT_MORE) continue;
+    if (end == n) return p;
+    end = n - end < step ? n : end + step;
+  }
+}
+
+/* A stream of a connection, whole and cut where the second byte says: the same events. The first byte
+   is the side and the stream. Of a malformed section any rule that it breaks may be named. */
+static void connection(const uint8_t *d, size_t n) {
+  uint8_t side;
+  uint64_t id;
+  played whole, cut;
+  if (n < 2) return;
+  side = d[0] & 1;
+  id = d[0] >> 1 & 3;
+  whole = play(d + 2, n - 2, side, id, n);
+  cut = play(d + 2, n - 2, side, id, d[1] > 0 ? d[1] : 1);
+  MUST(whole.sum == cut.sum && whole.events == cut.events && whole.content == cut.content);
+}
+
 int LLVMFuzzerTestOneInput(const uint8_t *data, size_t size);
 int LLVMFuzzerTestOneInput(const uint8_t *data, size_t size) {
   uint8_t *copy = malloc(size > 0 ? size : 1);

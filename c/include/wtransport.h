@@ -13,7 +13,7 @@
    Breaking these rules is undefined behaviour.
 
    Answers. A call that returns an int returns 0 or above if it found no fault, and below 0
-   otherwise: one of WT_OK to WT_MEMORY below, if its comment names no other numbers. */
+   otherwise: one of WT_OK to WT_UNSUPPORTED below, if its comment names no other numbers. */
 #ifndef WTRANSPORT_H
 #define WTRANSPORT_H
 #include <stddef.h>
@@ -28,8 +28,9 @@ enum {
   WT_ERROR = -1,   /* the input has a fault; *error_code is its error code */
   WT_BUFFER_TOO_SMALL = -2,    /* an output is too short; its size is reported */
   WT_INVALID = -3, /* an argument is out of its range; nothing changed */
-  WT_MEMORY = -4   /* memory allocation failed; nothing changed but the arrays of wt_fields_read, and the
+  WT_MEMORY = -4,  /* memory allocation failed; nothing changed but the arrays of wt_fields_read, and the
                       call can be made again */
+  WT_UNSUPPORTED = -5 /* what is asked for is not in this version; nothing changed */
 };
 
 /* Calls that write do so at the start of `out`, which has room for `room` bytes, and change nothing
@@ -430,4 +431,6 @@ int wt_application_code_from_http3(uint64_t number, uint32_t *code);
 #ifdef __cplusplus
 }
 #endif
+
+#include "wtransport_connection.h" /* connections: what is next on each stream */
 #endif

@@ -286,6 +286,26 @@ def by_hand():
     checks.same("fields", lines(b"\x00\x00\xd1"), (OK, [[b":method", b"GET"]]))
 
 
+def connection():
+    """A request at a server, and a datagram: the events of a connection."""
+    endpoint = c.Endpoint(c.SIDE_SERVER, 1, 1, 1, 65536, 4096, 1200)
+    server, stream, event = c.Connection(), c.Stream(), c.Event()
+    checks.same("connection", lib.wt_connection_new(c.ABI, endpoint, server), OK)
+    checks.same("stream", lib.wt_stream_accept(server, 0, stream), OK)
+    data = b"\x01\x08\x00\x00\xd1\xd7\xc1\x50\x01a"
+    fields, out = (c.Field * 8)(), create_string_buffer(99)
+    came = []
+    for _ in range(3):
+        held, table = (None, 0), (None, 0)
+        lib.wt_receive(server, stream, *held, *table, data, len(data), 1, event, fields, 8, out, 99)
+        data = data[event.consumed :]
+        came.append((event.kind, event.fields))
+    checks.same("events", came, [(c.EVENT_OPENED, 0), (c.EVENT_HEADERS, 4), (c.EVENT_END, 0)])
+    checks.same("texts", out.raw[:14], b":methodGET:sch")
+    checks.same("datagram", lib.wt_datagram_receive(server, b"\x01ab", 3, event), OK)
+    checks.same("session", (event.kind, event.number, event.length), (c.EVENT_DATAGRAM, 4, 2))
+
+
 def declarations(header):
     """Checks the constants, the structs and the calls of wtransport_c.py by those of the header."""
     constants = re.findall(r"\bWT_(\w+) = (-?\w+)", header)
@@ -297,7 +317,7 @@ def declarations(header):
     for name, body in structs:
         body = re.sub(r"/\*.*?\*/|\b(uint\d+_t|size_t)\b", "", body, flags=re.DOTALL)
         fields = [field for field, _ in c.STRUCTS[name]._fields_]
-        checks.same(name, fields, re.findall(r"\w+", body))
+        checks.same(name, fields, re.findall(r"\w+", re.sub(r"\[\d+\]", "", body)))
     calls = re.findall(r"^(?:int|size_t|uint\d+_t) (wt_\w+)\((.*?)\);", header, re.DOTALL | re.M)
     checks.same("calls", sorted(name for name, _ in calls), sorted(c.ARGUMENTS))
     for name, arguments in calls:
@@ -324,8 +344,10 @@ def version(header):
 
 
 def main():
-    header = (TOP / "c/include/wtransport.h").read_text(encoding="utf-8")
+    parts = ["wtransport.h", "wtransport_connection.h"]
+    header = "".join((TOP / "c/include" / part).read_text(encoding="utf-8") for part in parts)
     by_hand()
+    connection()
     declarations(header)
     version(header)
     if len(sys.argv) > 2:

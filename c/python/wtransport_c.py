@@ -1,4 +1,4 @@
-"""c/include/wtransport.h for ctypes: its constants, its structs, and the arguments of its calls.
+"""c/include/wtransport.h and its part for ctypes: constants, structs, and arguments of its calls.
 
     library = load("c/out/libwtransport.so")
 
@@ -9,6 +9,7 @@ import ctypes
 from ctypes import POINTER, c_char_p, c_int, c_size_t, c_uint8, c_uint16, c_uint32, c_uint64
 
 OK, MORE, ERROR, BUFFER_TOO_SMALL, INVALID, MEMORY = 0, 1, -1, -2, -3, -4
+UNSUPPORTED = -5
 
 VERSION, VERSION_NUMBER = "0.8.0", 0x000800
 
@@ -67,6 +68,35 @@ REQUEST_MISSING_AUTHORITY, REQUEST_MISSING_PATH = 7, 8
 CAPSULE_CLOSE_SESSION = 0x2843
 MAX_CAPSULE_VALUE, MAX_CAPSULE_REST, MAX_CLOSE_REASON = 1028, 1043, 1024
 
+ABI = 1
+SIDE_CLIENT, SIDE_SERVER = 0, 1
+ASKED_OTHER, ASKED_HEAD, ASKED_CONNECT, ASKED_SESSION = 0, 1, 2, 3
+
+EVENT_MORE, EVENT_WAITS, EVENT_OPENED, EVENT_JOINS, EVENT_JOINED = 0, 1, 2, 3, 4
+EVENT_SETTINGS, EVENT_GOAWAY, EVENT_FRAME, EVENT_HEADERS = 5, 6, 7, 8
+EVENT_SESSION_REQUESTED, EVENT_SESSION_READY, EVENT_REJECTED = 9, 10, 11
+EVENT_SESSION_CLOSED, EVENT_SESSION_LOST, EVENT_DATAGRAM, EVENT_DRAINING = 12, 13, 14, 15
+EVENT_SKIPPED, EVENT_DATA, EVENT_STREAM_DATA, EVENT_TOO_LARGE = 16, 17, 18, 19
+EVENT_MALFORMED, EVENT_STREAM_ERROR, EVENT_CONNECTION_ERROR = 20, 21, 22
+EVENT_RESET, EVENT_END = 23, 24
+
+PURPOSE_CONTROL, PURPOSE_ENCODER, PURPOSE_DECODER = 0, 2, 3
+PURPOSE_SESSION, PURPOSE_MESSAGE, PURPOSE_IGNORED = 4, 6, 8
+HEADERS_REQUEST, HEADERS_INTERIM, HEADERS_RESPONSE, HEADERS_TRAILERS = 0, 1, 2, 3
+WAITS_NOTHING, WAITS_SESSION, WAITS_SETTINGS, WAITS_ANSWER = 0, 1, 2, 3
+KNOWN_COMING, KNOWN_OPEN, KNOWN_OVER, KNOWN_REFUSED, KNOWN_OTHER = 0, 1, 2, 3, 4
+KNOWN_IMPOSSIBLE = 5
+DATAGRAM_DELIVER, DATAGRAM_EARLY, DATAGRAM_DROP, DATAGRAM_END_STREAM = 0, 1, 2, 3
+
+RULE_INVALID_NAME, RULE_INVALID_VALUE, RULE_CONNECTION_FIELD, RULE_INVALID_TE = 1, 2, 3, 4
+RULE_UNKNOWN_PSEUDO_HEADER, RULE_LATE_PSEUDO_HEADER, RULE_REPEATED_PSEUDO_HEADER = 5, 6, 7
+RULE_INVALID_CONTENT_LENGTH, RULE_MISSING_METHOD, RULE_INVALID_METHOD = 8, 9, 10
+RULE_MISSING_SCHEME, RULE_INVALID_SCHEME, RULE_MISSING_PATH, RULE_INVALID_PATH = 11, 12, 13, 14
+RULE_MISSING_AUTHORITY, RULE_INVALID_AUTHORITY, RULE_CONNECT_WITH_TARGET = 15, 16, 17
+RULE_UNEXPECTED_PROTOCOL, RULE_INVALID_PROTOCOL, RULE_CONTENT_FIELD = 18, 19, 20
+RULE_MISSING_STATUS, RULE_INVALID_STATUS, RULE_UNEXPECTED_STATUS = 21, 22, 23
+RULE_MISSING_HEAD, RULE_CONTENT_TOO_LONG, RULE_CONTENT_TOO_SHORT = 24, 25, 26
+
 
 class StreamHeader(ctypes.Structure):
     _fields_ = [("type", c_uint64), ("session", c_uint64)]
@@ -106,6 +136,42 @@ class Capsule(ctypes.Structure):
     _fields_ = [("type", c_uint64), ("offset", c_size_t), ("length", c_size_t)]
 
 
+class Endpoint(ctypes.Structure):
+    _fields_ = [
+        ("side", c_uint8),
+        ("webtransport", c_uint8),
+        ("datagrams", c_uint8),
+        ("extended", c_uint8),
+        ("max_section", c_uint32),
+        ("max_fields", c_uint64),
+        ("max_datagram", c_uint64),
+        ("reserved", c_uint64 * 5),
+    ]
+
+
+class Connection(ctypes.Structure):
+    _fields_ = [("words", c_uint64 * 32)]
+
+
+class Stream(ctypes.Structure):
+    _fields_ = [("words", c_uint64 * 26)]
+
+
+class Event(ctypes.Structure):
+    _fields_ = [
+        ("kind", c_uint32),
+        ("detail", c_uint32),
+        ("number", c_uint64),
+        ("consumed", c_size_t),
+        ("offset", c_size_t),
+        ("length", c_size_t),
+        ("fields", c_size_t),
+        ("used", c_size_t),
+        ("held", c_size_t),
+        ("reserved", c_uint64 * 4),
+    ]
+
+
 # The structs of the header by their names there.
 STRUCTS = {
     "wt_stream_header": StreamHeader,
@@ -115,6 +181,10 @@ STRUCTS = {
     "wt_field": Field,
     "wt_capsule_reader": CapsuleReader,
     "wt_capsule": Capsule,
+    "wt_endpoint": Endpoint,
+    "wt_connection": Connection,
+    "wt_stream": Stream,
+    "wt_event": Event,
 }
 
 SIZE, U32, U64 = POINTER(c_size_t), POINTER(c_uint32), POINTER(c_uint64)
@@ -126,6 +196,8 @@ BYTES, FIELDS, SETTINGS = (
 )
 # What a call writes: the bytes, their room, and how many are used.
 OUT = [c_char_p, c_size_t, SIZE]
+
+CONNECTION, STREAM, EVENT = POINTER(Connection), POINTER(Stream), POINTER(Event)
 
 # The arguments of each call.
 ARGUMENTS = {
@@ -159,6 +231,25 @@ ARGUMENTS = {
     "wt_capsule_end": [POINTER(CapsuleReader), *BYTES, U64],
     "wt_close_read": [*BYTES, U32, U64],
     "wt_close_write": [c_uint32, *BYTES, *OUT],
+    "wt_connection_new": [c_uint32, POINTER(Endpoint), CONNECTION],
+    "wt_connection_allows_sessions": [CONNECTION],
+    "wt_connection_unprocessed": [CONNECTION, c_uint64],
+    "wt_stream_accept": [CONNECTION, c_uint64, STREAM],
+    "wt_stream_of_request": [CONNECTION, c_uint32, STREAM],
+    "wt_stream_of_session": [c_uint64, STREAM],
+    "wt_receive": [CONNECTION, STREAM, *BYTES, *BYTES, *BYTES, c_uint8, EVENT, *FIELDS, *BYTES],
+    "wt_stream_answer": [STREAM, c_uint32],
+    "wt_session_known": [CONNECTION, c_uint64, STREAM, c_size_t, U32],
+    "wt_stream_join": [CONNECTION, STREAM, c_uint32, EVENT],
+    "wt_stream_waits": [STREAM, U32, U64],
+    "wt_stream_belongs": [STREAM, U32, U64],
+    "wt_stream_reset": [CONNECTION, STREAM, EVENT],
+    "wt_stream_stop": [CONNECTION, STREAM, EVENT],
+    "wt_stream_abandon": [CONNECTION, STREAM, EVENT],
+    "wt_stream_overflow": [CONNECTION, STREAM, EVENT],
+    "wt_stopped": [CONNECTION, c_uint32, U64],
+    "wt_datagram_receive": [CONNECTION, *BYTES, EVENT],
+    "wt_datagram_use": [c_uint32],
     "wt_code_name": [c_uint64, *OUT],
     "wt_code_scope": [c_uint64],
     "wt_application_code_to_http3": [c_uint32],

@@ -120,6 +120,62 @@ static int read_response(void) {
   return wt_response_read((const uint8_t *)"\x00\x00\xd9", 3, &status, &code);
 }
 
+/* A session's request, and the rest of a capsule whose first bytes are held: they change nothing
+   until they have memory. */
+static int receive(wt_stream *stream, wt_connection *c, uint8_t *held, const uint8_t *bytes,
+                   size_t size) {
+  wt_field fields[8];
+  uint8_t out[128];
+  wt_event event;
+  return wt_receive(c, stream, held, 16, NULL, 0, bytes, size, 0, &event, fields, 8, out,
+                    sizeof out);
+}
+
+static int receive_request(void) {
+  static const wt_endpoint server = {WT_SIDE_SERVER, 0, 0, 1, 4096, 4096, 100, {0, 0, 0, 0, 0}};
+  wt_connection c;
+  wt_stream stream;
+  uint8_t held[16];
+  size_t size;
+  const uint8_t *frame = request_frame(&size);
+  long k = left;
+  int answer;
+  left = -1;
+  if (wt_connection_new(WT_ABI, &server, &c) != WT_OK || wt_stream_accept(&c, 0, &stream) != WT_OK)
+    return WT_INVALID;
+  if (receive(&stream, &c, held, frame, size) != WT_OK) return WT_INVALID;
+  left = k;
+  answer = receive(&stream, &c, held, frame, size);
+  left = -1;
+  if (answer == WT_MEMORY && receive(&stream, &c, held, frame, size) != WT_OK) return WT_INVALID;
+  return answer;
+}
+
+static int receive_capsule(void) {
+  static const wt_endpoint client = {WT_SIDE_CLIENT, 1, 1, 0, 4096, 4096, 100, {0, 0, 0, 0, 0}};
+  wt_connection c;
+  wt_stream stream;
+  uint8_t held[16];
+  long k = left;
+  int answer;
+  left = -1;
+  if (wt_connection_new(WT_ABI, &client, &c) != WT_OK) return WT_INVALID;
+  if (wt_stream_of_request(&c, WT_ASKED_SESSION, &stream) != WT_OK) return WT_INVALID;
+  if (receive(&stream, &c, held, (const uint8_t *)"\x01\x03\x00\x00\xd9", 5) != WT_OK)
+    return WT_INVALID;
+  if (receive(&stream, &c, held,
+              (const uint8_t *)"\x00\x05\x00\x03"
+                               "ab",
+              6) != WT_OK)
+    return WT_INVALID;
+  left = k;
+  answer = receive(&stream, &c, held, (const uint8_t *)"c", 1);
+  left = -1;
+  if (answer == WT_MEMORY && receive(&stream, &c, held, (const uint8_t *)"c", 1) != WT_OK)
+    return WT_INVALID;
+  return answer;
+}
+
 static void refuse(const char *name, int (*call)(void)) {
   for (long k = 0; k < 200; k++) {
     int answer;
@@ -154,6 +210,8 @@ int main(void) {
   refuse("wt_response_write", write_response);
   refuse("wt_response_read", read_response);
   refuse("wt_close_write", write_close);
+  refuse("wt_receive of a request", receive_request);
+  refuse("wt_receive of a capsule", receive_capsule);
   printf("%lu passed, %lu failed\n", passed, failed);
   return failed > 0;
 }

@@ -37,4 +37,7 @@ void test_sessions(void);
 void test_request_faults(void);
 void test_capsules(void);
 void test_closes(void);
+void test_connection_rows(void);
+void test_connection_calls(void);
+void test_connection_words(void);
 #endif

@@ -26,6 +26,9 @@ int main(void) {
   test_request_faults();
   test_capsules();
   test_closes();
+  test_connection_rows();
+  test_connection_calls();
+  test_connection_words();
   printf("%lu passed, %lu failed\n", passed, failed);
   return failed > 0;
 }

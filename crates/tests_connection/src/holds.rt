@@ -6,9 +6,10 @@ use std::alloc::Global;
 use std::process::Abort;
 use wtp_connection::connection::{Connection, Found, Known};
 use wtp_connection::fields::Fields;
-use wtp_connection::stream::Stream;
+use wtp_connection::stream::{Purpose, Stream};
 use wtp_core::error::ErrorScope;
-use wtp_hold::hold::{Hold, NotHeld};
+use wtp_frames::frame_type::FrameType;
+use wtp_hold::hold::{Hold, NotHeld, Source};
 
 /// A stream of a client, and what a server finds on it.
 struct Row {
@@ -279,5 +280,48 @@ fn a_frame_that_is_whole_in_its_chunk_needs_no_room(rt: HostRuntime) {
         (held, found.frames, found.data, found.ends),
         (true, 1, 2, 1),
         "no room",
+    );
+}
+
+/// Returns what a call finds, and how many bytes of the chunk it takes.
+fn call(
+    connection: &mut Connection,
+    stream: &mut Stream,
+    hold: &mut Hold,
+    chunk: &[u8],
+) -> (Found, Source, usize) {
+    let mut fields = Fields::new();
+    match hold.receive(connection, stream, chunk, false, 64, &mut fields) {
+        Ok(received) => (received.found, received.source, received.taken),
+        Err(_) => (Found::End, Source::Held, 0),
+    }
+}
+
+#[test]
+fn what_is_found_is_in_its_source(rt: HostRuntime) {
+    let mut connection = connection_of(true, true);
+    let mut stream = Stream::of_peer(2);
+    let mut hold = Hold::new(rt.alloc());
+    let (opened, _, _) = call(&mut connection, &mut stream, &mut hold, &[0x00, 0x04]);
+    let is_opened = matches!(opened, Found::Opened(Purpose::Control, 1));
+    call(&mut connection, &mut stream, &mut hold, &[0x04]);
+    let rest = [0x02, 0x06, 0x10, 0x07, 0x01, 0x08];
+    let (settings, held, taken) = call(&mut connection, &mut stream, &mut hold, &rest);
+    let is_held = matches!(settings, Found::Settings(_, 2, 4)) && matches!(held, Source::Held);
+    let payload = hold.bytes().get(2..4) == Some(&[0x06, 0x10]);
+    assert_same(
+        &rt,
+        (is_opened, is_held, payload, taken),
+        (true, true, true, 3),
+        "SETTINGS in two chunks",
+    );
+    let (goaway, chunk, taken) = call(&mut connection, &mut stream, &mut hold, &[0x07, 0x01, 8]);
+    let is_chunk = matches!(goaway, Found::Frame(FrameType::GoAway, 2, 3))
+        && matches!(chunk, Source::Chunk(0));
+    assert_same(
+        &rt,
+        (is_chunk, taken, hold.is_empty()),
+        (true, 3, true),
+        "GOAWAY in one",
     );
 }

@@ -175,3 +175,24 @@ fn a_request_is_reset_before_its_headers(rt: HostRuntime) {
         }
     }
 }
+
+#[test]
+fn a_connect_that_is_answered_has_data_alone(rt: HostRuntime) {
+    for server in [false, true] {
+        let (mut connection, mut stream) = message(server);
+        let start = [0x01, 0x01, 0xd1, 0x00, 0x03, 1];
+        read(&mut connection, &mut stream, &start, 64, false);
+        stream.tunnel();
+        assert_same(&rt, stream.remaining(), 2, "within DATA");
+        let data = read(&mut connection, &mut stream, &[2, 3, 0x21, 0x00], 1, false);
+        assert_same(&rt, (data.data, data.code), (2, 0), "the rest of it");
+        assert_same(&rt, stream.remaining(), 0, "after it");
+        let came = read(&mut connection, &mut stream, &[0x01, 0x00], 64, false);
+        assert_same(
+            &rt,
+            (came.code, came.ends_connection),
+            (0x105, true),
+            "trailers (4.4)",
+        );
+    }
+}

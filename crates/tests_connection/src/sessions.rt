@@ -72,6 +72,33 @@ fn streams_without_a_session_are_refused(rt: HostRuntime) {
     check_known(&rt, Known::Other, 0x3994bd84, false);
     check_known(&rt, Known::Other, 0x3994bd84, true);
     check_known(&rt, Known::Impossible, 0x108, false);
+    check_known(&rt, Known::Impossible, 0x108, true);
+}
+
+/// What is known of a session that is open: the code of the error of its stream; 0 if there is none.
+static OPEN: [(Known, u64); 4] = [
+    (Known::Open, 0),
+    (Known::Coming, 0),
+    (Known::Refused, 0),
+    (Known::Over, 0x170d7b68),
+];
+
+#[test]
+fn streams_end_with_their_session(rt: HostRuntime) {
+    for (known, code) in &OPEN {
+        let mut connection = connection_of(true, true);
+        let (mut theirs, _left) = early(&mut connection, 6);
+        connection.join(&mut theirs, Known::Open);
+        let mut own = Stream::of_session(0);
+        let came = code_of(connection.join(&mut theirs, *known));
+        let answer = code_of(connection.join(&mut own, *known));
+        assert_same(&rt, (came, answer), (*code, *code), *code);
+        let first = read(&mut connection, &mut theirs, &[1, 2, 3], 64, true);
+        let second = read(&mut connection, &mut own, &[1, 2, 3], 64, true);
+        let wanted = if *code == 0 { (3, 1) } else { (0, 0) };
+        assert_same(&rt, (first.data, first.ends), wanted, *code);
+        assert_same(&rt, (second.data, second.ends), wanted, *code);
+    }
 }
 
 #[test]

@@ -362,4 +362,5 @@ fn unknown_settings_are_in_the_bytes(rt: HostRuntime) {
     let first = number_and_value(pairs.next());
     let second = number_and_value(pairs.next());
     assert_same(&rt, (first, second), ((0x33, 1), (0x21, 7)), "both pairs");
+    assert_same(&rt, fields.insert_count(), 0, "no entry is inserted");
 }

@@ -48,7 +48,7 @@ const OPEN: Row = Row {
 
 /// Streams by the rule that they keep or violate. All of these errors but those of a request that
 /// is not complete end the connection.
-static ROWS: [Row; 29] = [
+static ROWS: [Row; 30] = [
     Row {
         case: "a second control stream (6.2.1)",
         bytes: &[0x00],
@@ -86,6 +86,12 @@ static ROWS: [Row; 29] = [
     Row {
         case: "an unknown type (6.2)",
         bytes: &[0x40, 0x7e, 0x77],
+        fin: true,
+        ..OPEN
+    },
+    Row {
+        case: "a reserved type (6.2.3)",
+        bytes: &[0x21, 0x00, 0x00],
         fin: true,
         ..OPEN
     },

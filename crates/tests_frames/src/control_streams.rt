@@ -2,7 +2,7 @@
 use crate::reading::{CONTROL, Row, check_rows};
 
 /// Control streams by the rule of RFC 9114 that they violate. Each ends, which is an error too.
-static CONTROL_STREAMS: [Row; 32] = [
+static CONTROL_STREAMS: [Row; 37] = [
     Row {
         case: "GOAWAY before SETTINGS (6.2.1)",
         bytes: &[0x07, 0x01, 0x00],
@@ -157,6 +157,41 @@ static CONTROL_STREAMS: [Row; 32] = [
     Row {
         case: "CANCEL_PUSH with half an ID (7.1)",
         bytes: &[0x04, 0x00, 0x03, 0x01, 0x40],
+        frames: 1,
+        code: 0x106,
+        ..CONTROL
+    },
+    Row {
+        case: "CANCEL_PUSH without an ID (7.1)",
+        bytes: &[0x04, 0x00, 0x03, 0x00],
+        frames: 1,
+        code: 0x106,
+        ..CONTROL
+    },
+    Row {
+        case: "CANCEL_PUSH with more than an ID (7.1)",
+        bytes: &[0x04, 0x00, 0x03, 0x02, 0x00, 0x00],
+        frames: 1,
+        code: 0x106,
+        ..CONTROL
+    },
+    Row {
+        case: "GOAWAY with half an ID (7.1)",
+        bytes: &[0x04, 0x00, 0x07, 0x01, 0x40],
+        frames: 1,
+        code: 0x106,
+        ..CONTROL
+    },
+    Row {
+        case: "MAX_PUSH_ID with half an ID (7.1)",
+        bytes: &[0x04, 0x00, 0x0d, 0x01, 0x40],
+        frames: 1,
+        code: 0x106,
+        ..CONTROL
+    },
+    Row {
+        case: "MAX_PUSH_ID of nine bytes (7.1)",
+        bytes: &[0x04, 0x00, 0x0d, 0x09],
         frames: 1,
         code: 0x106,
         ..CONTROL

@@ -16,3 +16,5 @@ mod reading;
 mod recorded;
 #[cfg(test)]
 mod same;
+#[cfg(test)]
+mod tunnels;

@@ -3,7 +3,7 @@ use crate::reading::{REFUSED_REQUEST, REQUEST, Row, check_rows};
 
 /// Messages by the rule of RFC 9114 that they keep or violate. A row that has no code is read to
 /// its end.
-static MESSAGES: [Row; 26] = [
+static MESSAGES: [Row; 27] = [
     Row {
         case: "DATA before HEADERS (RFC 9114, 4.1)",
         bytes: &[0x00, 0x01, 0xaa],
@@ -150,6 +150,16 @@ static MESSAGES: [Row; 26] = [
         ],
         frames: 2,
         whole: 2,
+        data: 1,
+        ..REQUEST
+    },
+    Row {
+        case: "PRIORITY_UPDATE is an unknown frame (9)",
+        bytes: &[
+            0x01, 0x01, 0xd1, 0x80, 0x0f, 0x07, 0x00, 0x01, 0x00, 0x00, 0x01, 0xaa,
+        ],
+        frames: 1,
+        whole: 1,
         data: 1,
         ..REQUEST
     },

@@ -82,6 +82,7 @@ pub(crate) static REQUESTS: [Group; 21] = [
             b"get|proxy-connection=x",
             b"get|transfer-encoding=x",
             b"get|upgrade=x",
+            b"session|transfer-encoding=chunked",
         ],
     },
     Group {
@@ -207,7 +208,18 @@ pub(crate) static REQUESTS: [Group; 21] = [
 ];
 
 /// Responses, by what was asked for, that break a rule.
-pub(crate) static MALFORMED_RESPONSES: [Group; 8] = [
+pub(crate) static MALFORMED_RESPONSES: [Group; 10] = [
+    Group {
+        broken: Some(Malformed::ConnectionField),
+        rows: &[
+            b"to other|:status=200|connection=x",
+            b"to session|:status=200|transfer-encoding=chunked",
+        ],
+    },
+    Group {
+        broken: Some(Malformed::LatePseudoHeader),
+        rows: &[b"to other|x=y|:status=200"],
+    },
     Group {
         broken: Some(Malformed::InvalidTe),
         rows: &[b"to other|:status=200|te=trailers"],

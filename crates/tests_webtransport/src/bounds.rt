@@ -9,8 +9,9 @@ use wtp_connection::settings::PeerSettings;
 use wtp_frames::endpoint::{Endpoint, Side};
 use wtp_messages::response::Asked;
 use wtp_webtransport::connection::Connection;
-use wtp_webtransport::event::Event;
+use wtp_webtransport::event::{Event, Waits};
 use wtp_webtransport::fields::Fields;
+use wtp_webtransport::stream::Stream;
 
 /// Returns the code of an error and whether it ends the connection, or 0 of another event.
 fn error_of(event: Event<'_>) -> (u64, bool) {
@@ -130,4 +131,31 @@ fn refused_early_data_is_forgotten(rt: HostRuntime) {
     );
     let (code, _) = read(&mut connection, b"\x00\x04\x00".as_slice(), &mut fields);
     assert!(rt; code == 0, "SETTINGS need not keep them");
+}
+
+/// Returns a stream of session 0, which is to come, and whether it waits for it.
+fn early(connection: &mut Connection, id: u64, fields: &mut Fields) -> (Stream, bool, u64) {
+    let mut stream = connection.accept(id);
+    connection.receive(&mut stream, b"\x40\x54\x00".as_slice(), false, fields);
+    let event = connection.join(&mut stream, Known::Coming);
+    let waits = matches!(&event, Event::Waits(Waits::Session(0)));
+    let (code, _) = error_of(event);
+    (stream, waits, code)
+}
+
+#[test]
+fn sixteen_streams_wait_for_their_sessions(rt: HostRuntime) {
+    let mut connection = server(true);
+    let mut fields = Fields::new(rt.alloc(), 1000);
+    let (mut first, waits, _) = early(&mut connection, 6, &mut fields);
+    assert!(rt; waits, "the first one waits");
+    for n in 0..15u64 {
+        let (_, waits, _) = early(&mut connection, 10 + 4 * n, &mut fields);
+        assert!(rt; waits, "stream {n} after it waits");
+    }
+    let (_, _, code) = early(&mut connection, 70, &mut fields);
+    assert!(rt; code == 0x3994_bd84, "the 17th is rejected");
+    let reset = matches!(connection.reset(&mut first), Event::Reset(None));
+    let (_, waits, _) = early(&mut connection, 74, &mut fields);
+    assert!(rt; reset && waits, "a reset gives its place to another");
 }

@@ -3,6 +3,7 @@
 use crate::playing::{REQUEST, configure, server};
 use crate::sessions::assert_known;
 use std::process::Abort;
+use wtp_connection::connection::Known;
 use wtp_webtransport::connection::Connection;
 use wtp_webtransport::event::Event;
 use wtp_webtransport::fields::Fields;
@@ -81,4 +82,134 @@ fn no_session_has_an_event_after_the_connection(rt: HostRuntime) {
     let reset = matches!(connection.reset(&mut stream), Event::More);
     let abandon = matches!(connection.abandon(&mut stream), Event::More);
     assert!(rt; stop && reset && abandon, "nothing is said of its session");
+}
+
+/// A code of RESET_STREAM or STOP_SENDING, and the application's code (draft-ietf-webtrans-http3-07,
+/// section 4.3).
+struct CodeRow {
+    code: u64,
+    application: Option<u32>,
+}
+
+static CODES: [CodeRow; 9] = [
+    CodeRow {
+        code: 0x52e4_a40f_a8da,
+        application: None,
+    },
+    CodeRow {
+        code: 0x52e4_a40f_a8db,
+        application: Some(0),
+    },
+    CodeRow {
+        code: 0x52e4_a40f_a8f8,
+        application: Some(29),
+    },
+    // (reserved: RFC 9114, section 8.1)
+    CodeRow {
+        code: 0x52e4_a40f_a8f9,
+        application: None,
+    },
+    CodeRow {
+        code: 0x52e4_a40f_a8fa,
+        application: Some(30),
+    },
+    CodeRow {
+        code: 0x52e5_ac98_3162,
+        application: Some(0xffff_ffff),
+    },
+    CodeRow {
+        code: 0x52e5_ac98_3163,
+        application: None,
+    },
+    CodeRow {
+        code: 0x010c,
+        application: None,
+    },
+    CodeRow {
+        code: 0x4000_0000_0000_0000,
+        application: None,
+    },
+];
+
+#[test]
+fn streams_of_sessions_have_codes_of_the_application(rt: HostRuntime) {
+    let member = Stream::of_session(0);
+    let mut connection = server(true);
+    let request = connection.accept(0);
+    for row in &CODES {
+        let found = member.application_code(row.code);
+        assert!(rt; found == row.application, "the code {}", row.code);
+        let other = request.application_code(row.code);
+        assert!(rt; other.is_none(), "the code {} of a request", row.code);
+    }
+}
+
+#[test]
+fn requests_after_the_own_goaway_are_rejected(rt: HostRuntime) {
+    let mut connection = server(true);
+    let mut fields = Fields::new(rt.alloc(), 1000);
+    configure(&mut connection, &mut fields);
+    let mut stream = connection.accept(8);
+    connection.receive(&mut stream, REQUEST.as_slice(), false, &mut fields);
+    let before = matches!(connection.reject(&mut stream, 8, None), Event::More);
+    let below = matches!(connection.reject(&mut stream, 8, Some(12)), Event::More);
+    assert!(rt; before && below, "it goes on");
+    // (RFC 9114, sections 5.2 and 8.1)
+    let is_rejected = match connection.reject(&mut stream, 8, Some(8)) {
+        Event::StreamError(fault) => fault.code().number().into_inner() == 0x010b,
+        _ => false,
+    };
+    assert!(rt; is_rejected, "it is rejected");
+    let rest = connection.receive(&mut stream, REQUEST.as_slice(), true, &mut fields);
+    assert!(rt;
+        matches!(rest.event, Event::More) && rest.consumed == 34,
+        "nothing follows"
+    );
+    let again = matches!(connection.reject(&mut stream, 8, Some(8)), Event::More);
+    assert!(rt; again, "it is rejected once");
+}
+
+#[test]
+fn streams_of_sessions_are_not_rejected(rt: HostRuntime) {
+    let mut connection = server(true);
+    let mut fields = Fields::new(rt.alloc(), 1000);
+    let mut stream = connection.accept(12);
+    connection.receive(&mut stream, b"\x40\x41\x00".as_slice(), false, &mut fields);
+    let goes_on = matches!(connection.reject(&mut stream, 12, Some(8)), Event::More);
+    assert!(rt; goes_on, "a stream of a session is no request");
+}
+
+#[test]
+fn a_refused_session_may_be_reset(rt: HostRuntime) {
+    let mut connection = server(true);
+    let mut fields = Fields::new(rt.alloc(), 1000);
+    configure(&mut connection, &mut fields);
+    let mut stream = connection.accept(0);
+    for _turn in 0..3u32 {
+        connection.receive(&mut stream, REQUEST.as_slice(), false, &mut fields);
+    }
+    stream.answer(404);
+    let reset = matches!(connection.reset(&mut stream), Event::Reset(None));
+    assert!(rt; reset, "its reset is no error");
+    assert_known(&rt, &connection, &stream, "refused");
+}
+
+#[test]
+fn the_streams_of_a_session_end_with_it(rt: HostRuntime) {
+    let mut connection = server(true);
+    let mut fields = Fields::new(rt.alloc(), 1000);
+    let mut stream = connection.accept(4);
+    let bytes = [0x40, 0x41, 0x00, 0x61];
+    connection.receive(&mut stream, bytes.as_slice(), false, &mut fields);
+    let joined = matches!(connection.join(&mut stream, Known::Open), Event::Joined(0));
+    assert!(rt; joined, "its session is open");
+    // (draft-ietf-webtrans-http3-07, section 5)
+    let is_gone = match connection.join(&mut stream, Known::Over) {
+        Event::StreamError(fault) => fault.code().number().into_inner() == 0x170d_7b68,
+        _ => false,
+    };
+    assert!(rt; is_gone, "its session is over");
+    let rest = connection.receive(&mut stream, &bytes[3..], true, &mut fields);
+    let nothing = matches!(rest.event, Event::More) && rest.consumed == 1;
+    assert!(rt; nothing, "nothing follows");
 }

@@ -13,7 +13,7 @@ pub(crate) struct Row {
 }
 
 /// Requests.
-static REQUESTS: [Row; 23] = [
+static REQUESTS: [Row; 25] = [
     Row {
         case: Case::Request,
         bytes: &[0x01, 0x08, 0x00, 0x00, 0xd1, 0xd7, 0xc1, 0x50, 0x01, 0x61],
@@ -170,6 +170,20 @@ static REQUESTS: [Row; 23] = [
             0xd1,
         ],
         events: "request 4; malformed: a pseudo-header field is not defined here; ",
+    },
+    // the head of a section of 65,537 bytes, and that of such trailers
+    Row {
+        case: Case::Request,
+        bytes: &[0x01, 0x80, 0x01, 0x00, 0x01],
+        events: "too large; ",
+    },
+    Row {
+        case: Case::Request,
+        bytes: &[
+            0x01, 0x08, 0x00, 0x00, 0xd1, 0xd7, 0xc1, 0x50, 0x01, 0x61, 0x01, 0x80, 0x01, 0x00,
+            0x01, 0x00,
+        ],
+        events: "request 4; too large; connection error 262; ",
     },
     // nine lines of at least 34 bytes
     Row {

@@ -17,7 +17,7 @@ struct Peer {
 }
 
 /// The settings of a peer, at an end that enables all.
-static PEERS: [Peer; 10] = [
+static PEERS: [Peer; 12] = [
     // 0x2b603742 and 0x33, of a client
     Peer {
         side: Side::Server,
@@ -54,6 +54,23 @@ static PEERS: [Peer; 10] = [
     Peer {
         side: Side::Server,
         control: &[0x00, 0x04, 0x02, 0x33, 0x01],
+        allows: false,
+    },
+    // those of later drafts beside 0x2b603742 and 0x33: 0x2c7cf000 = 1, 0x2b61, 0x2b64 and 0x2b65 = 16,
+    // and 0xffd277 = 1
+    Peer {
+        side: Side::Server,
+        control: &[
+            0x00, 0x04, 0x20, 0xac, 0x7c, 0xf0, 0x00, 0x01, 0x80, 0x00, 0x2b, 0x61, 0x10, 0x80,
+            0x00, 0x2b, 0x64, 0x10, 0x80, 0x00, 0x2b, 0x65, 0x10, 0x80, 0xff, 0xd2, 0x77, 0x01,
+            0xab, 0x60, 0x37, 0x42, 0x01, 0x33, 0x01,
+        ],
+        allows: true,
+    },
+    // 0x2c7cf000 = 2, which no draft permits, and 0x33
+    Peer {
+        side: Side::Server,
+        control: &[0x00, 0x04, 0x07, 0xac, 0x7c, 0xf0, 0x00, 0x02, 0x33, 0x01],
         allows: false,
     },
     // no settings
@@ -106,6 +123,11 @@ fn settings_of_both_ends_allow_sessions(rt: HostRuntime) {
             let rest = peer.control.get(start..).unwrap_or(&[]);
             let received = connection.receive(&mut control, rest, false, &mut fields);
             start = start.saturating_add(received.consumed);
+            let is_fault = matches!(
+                &received.event,
+                Event::ConnectionError(_) | Event::StreamError(_)
+            );
+            assert!(rt; !is_fault, "a fault after {start} bytes of SETTINGS");
         }
         let came = connection.allows_sessions();
         let size = peer.control.len();

@@ -28,6 +28,9 @@ pub extern "C" fn wt_bench_connection(bytes: &[u8], size: usize) -> i64 {
     let mut start: usize = 0;
     let mut end = size.min(bytes.len());
     for _turn in 0..u64::MAX {
+        if start == end {
+            end = end.saturating_add(size).min(bytes.len());
+        }
         let piece = bytes.get(start..end).unwrap_or(&[]);
         let is_last = end == bytes.len();
         match connection.receive(&mut stream, piece, is_last, &mut fields) {

@@ -3,6 +3,7 @@
 
 use super::fields::add_line;
 use super::pair::Pair;
+use super::parts::first_part;
 use std::alloc::{AllocError, Global};
 use wtp_dynamic::acknowledgment::{self, Acknowledgment};
 use wtp_dynamic::table::DynamicTable;
@@ -59,13 +60,6 @@ fn section_size(
     let size = lines_size(lines, decoder.table(), room)?;
     decoder.acknowledge(stream, required, told).ok()?;
     Some(size)
-}
-
-/// Takes the first of parts, each of which is after its length in two bytes.
-fn first_part(parts: &[u8]) -> Option<(&[u8], &[u8])> {
-    let (head, rest) = parts.split_at_checked(2)?;
-    let len = head[0] as usize * 256 + head[1] as usize;
-    rest.split_at_checked(len)
 }
 
 /// Takes the first two parts: bytes of an encoder stream, and a section.

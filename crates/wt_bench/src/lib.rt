@@ -9,7 +9,9 @@ mod connection;
 mod dynamic;
 mod fields;
 mod frames;
+mod messages;
 mod pair;
+mod parts;
 
 use std::alloc::Global;
 use wtp_fields::huffman;

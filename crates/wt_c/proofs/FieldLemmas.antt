@@ -130,13 +130,13 @@ octets_more : (bytes rest behind : List ℕ) (done : List Field) (line : Field) 
 octets_more bytes rest behind [] line e o = (behind, ap octet_line_at e ∙ o, refl)
 octets_more bytes rest behind (first ∷ done) line (others, e, more) o = (others, e, octets_more others rest behind done line more o)
 
-exact : (n m : ℕ) → capped n ≤ m → m < 2 ^ 63 → capped n ≡ n
+pub exact : (n m : ℕ) → capped n ≤ m → m < 2 ^ 63 → capped n ≡ n
 exact n m l small = elim (cases_lt n (2 ^ 64)) [
   | inl less ↦ rw (lt-ltb n (2 ^ 64) less) refl
   | inr more ↦ absurd (let top : 2 ^ 64 - 1 ≤ m = rw (le-ltb n (2 ^ 64) more) at l in omega (arith, top, small))
 ]
 
-again : (n k : ℕ) → capped (capped n + k) ≡ capped (n + k)
+pub again : (n k : ℕ) → capped (capped n + k) ≡ capped (n + k)
 again n k = elim (cases_lt n (2 ^ 64)) [
   | inl less ↦ rw (lt-ltb n (2 ^ 64) less) refl
   | inr more ↦ rw (le-ltb n (2 ^ 64) more, le-ltb (n + k) (2 ^ 64) (omega (arith, more))) (elim (cases_lt ((2 ^ 64 - 1) + k) (2 ^ 64)) [
@@ -156,6 +156,61 @@ pub record IsRead (start rest : List ℕ) (first : List WtField) (first_texts : 
 low_enough : (n m : ℕ) → n ≤ m → m < 2 ^ 63 → capped n ≤ m
 low_enough n m l small = rw (lt-ltb n (2 ^ 64) (omega (arith, l, small))) l
 
+-- ---- the fields of a list
+
+-- these fields are stored, as far as they fit
+pub record AreStored (first : List WtField) (first_texts : List ℕ) (fields : List WtField) (texts : List ℕ) (count used : ℕ) (done : List Field) : Type 0 where
+  pub count_is : count ≡ capped (length done)
+  pub used_is : used ≡ capped (texts_size done)
+  pub held : count ≤ length fields → used ≤ length texts → HoldLines first first_texts fields texts count used done
+
+-- the length of the texts of one more field
+pub sized_more : (done : List Field) (used end to : ℕ) (name value : List ℕ) → used ≡ capped (texts_size done)
+    → end ≡ capped (used + length name) → to ≡ capped (end + length value) → to ≡ capped (texts_size (done ++ (name, value) ∷ []))
+sized_more done used end to name value u e t =
+    let more : (texts_size done + length name) + length value ≡ texts_size (done ++ (name, value) ∷ []) = omega (arith, size_more done (name, value)) in
+    t ∙ ap (λ (k : ℕ). capped (k + length value)) (e ∙ ap (λ (k : ℕ). capped (k + length name)) u)
+    ∙ ap (λ (k : ℕ). capped (k + length value)) (again (texts_size done) (length name))
+    ∙ again (texts_size done + length name) (length value) ∙ ap capped more
+
+pub stored_more : (first : List WtField) (first_texts : List ℕ) (fields new : List WtField) (old texts : List ℕ) (count used next end to : ℕ) (name value : List ℕ) (done : List Field)
+    → AreStored first first_texts fields old count used done
+    → next ≡ capped (count + 1) → end ≡ capped (used + length name) → to ≡ capped (end + length value)
+    → length new ≡ length fields → length fields < 2 ^ 63 → length texts ≡ length old → length old < 2 ^ 63
+    → (count < length fields → (used + length name) + length value ≤ length old → LinePut fields old count used name value new texts)
+    → AreStored first first_texts new texts next to (done ++ (name, value) ∷ [])
+stored_more first first_texts fields new old texts count used next end to name value done p next_is end_is to_is same_room few same_texts small put = record {
+  count_is = let e : length done + 1 ≡ length (done ++ (name, value) ∷ []) = omega (arith, length-append done ((name, value) ∷ [])) in next_sum ∙ ap capped e;
+  used_is = sized_more done used end to name value p.used_is end_is to_is;
+  held = λ a b. holds a b;
+}
+  where
+    next_sum : next ≡ capped (length done + 1)
+    next_sum = next_is ∙ ap (λ (k : ℕ). capped (k + 1)) p.count_is ∙ again (length done) 1
+
+    sum : to ≡ capped ((texts_size done + length name) + length value)
+    sum = to_is ∙ ap (λ (k : ℕ). capped (k + length value)) (end_is ∙ ap (λ (k : ℕ). capped (k + length name)) p.used_is)
+        ∙ ap (λ (k : ℕ). capped (k + length value)) (again (texts_size done) (length name))
+        ∙ again (texts_size done + length name) (length value)
+
+    holds : next ≤ length new → to ≤ length texts → HoldLines first first_texts new texts next to (done ++ (name, value) ∷ [])
+    holds a b =
+        let fit : length new < 2 ^ 63 = omega (arith, same_room, few) in
+        let fit_texts : length texts < 2 ^ 63 = omega (arith, same_texts, small) in
+        let n : next ≡ length done + 1 = next_sum ∙ exact (length done + 1) (length new) (rw (← next_sum) a) fit in
+        let t : to ≡ (texts_size done + length name) + length value = sum ∙ exact ((texts_size done + length name) + length value) (length texts) (rw (← sum) b) fit_texts in
+        let c : count ≡ length done = p.count_is ∙ exact (length done) (length new) (low_enough (length done) (length new) (omega (arith, n, a)) fit) fit in
+        let u : used ≡ texts_size done = p.used_is ∙ exact (texts_size done) (length texts) (low_enough (texts_size done) (length texts) (omega (arith, t, b)) fit_texts) fit_texts in
+        let l : count < length fields = omega (arith, a, n, c, same_room) in
+        let k : (used + length name) + length value ≤ length old = omega (arith, u, t, b, same_texts) in
+        let to_end : to ≡ (used + length name) + length value = omega (arith, u, t) in
+        let one_more : next ≡ count + 1 = omega (arith, n, c) in
+        let old_count : count ≤ length fields = omega (arith, l) in
+        let old_used : used ≤ length old = omega (arith, k) in
+        rw one_more (hold_more first first_texts fields new old texts count used to name value done (p.held old_count old_used) l to_end b (put l k))
+
+-- ---- the lines of a section
+
 pub read_more : (start rest behind : List ℕ) (first : List WtField) (first_texts : List ℕ) (fields new : List WtField) (old texts : List ℕ) (count used next end to : ℕ) (name value : List ℕ)
     → IsRead start rest first first_texts fields old count used
     → octet_line_at rest ≡ Ok ((name, value), behind)
@@ -163,34 +218,12 @@ pub read_more : (start rest behind : List ℕ) (first : List WtField) (first_tex
     → length new ≡ length fields → length fields < 2 ^ 63 → length texts ≡ length old → length old < 2 ^ 63
     → (count < length fields → (used + length name) + length value ≤ length old → LinePut fields old count used name value new texts)
     → IsRead start behind first first_texts new texts next to
-read_more start rest behind first first_texts fields new old texts count used next end to name value p o next_is end_is to_is same_room few same_texts small put = record {
-  done = p.done ++ (name, value) ∷ [];
-  lines = octets_more start rest behind p.done (name, value) p.lines o;
-  count_is = let e : length p.done + 1 ≡ length (p.done ++ (name, value) ∷ []) = omega (arith, length-append p.done ((name, value) ∷ [])) in next_sum ∙ ap capped e;
-  used_is = let e : (texts_size p.done + length name) + length value ≡ texts_size (p.done ++ (name, value) ∷ []) = omega (arith, size_more p.done (name, value)) in sum ∙ ap capped e;
-  held = λ a b. holds a b;
-}
-  where
-    next_sum : next ≡ capped (length p.done + 1)
-    next_sum = next_is ∙ ap (λ (k : ℕ). capped (k + 1)) p.count_is ∙ again (length p.done) 1
-
-    sum : to ≡ capped ((texts_size p.done + length name) + length value)
-    sum = to_is ∙ ap (λ (k : ℕ). capped (k + length value)) (end_is ∙ ap (λ (k : ℕ). capped (k + length name)) p.used_is)
-        ∙ ap (λ (k : ℕ). capped (k + length value)) (again (texts_size p.done) (length name))
-        ∙ again (texts_size p.done + length name) (length value)
-
-    holds : next ≤ length new → to ≤ length texts → HoldLines first first_texts new texts next to (p.done ++ (name, value) ∷ [])
-    holds a b =
-        let fit : length new < 2 ^ 63 = omega (arith, same_room, few) in
-        let fit_texts : length texts < 2 ^ 63 = omega (arith, same_texts, small) in
-        let n : next ≡ length p.done + 1 = next_sum ∙ exact (length p.done + 1) (length new) (rw (← next_sum) a) fit in
-        let t : to ≡ (texts_size p.done + length name) + length value = sum ∙ exact ((texts_size p.done + length name) + length value) (length texts) (rw (← sum) b) fit_texts in
-        let c : count ≡ length p.done = p.count_is ∙ exact (length p.done) (length new) (low_enough (length p.done) (length new) (omega (arith, n, a)) fit) fit in
-        let u : used ≡ texts_size p.done = p.used_is ∙ exact (texts_size p.done) (length texts) (low_enough (texts_size p.done) (length texts) (omega (arith, t, b)) fit_texts) fit_texts in
-        let l : count < length fields = omega (arith, a, n, c, same_room) in
-        let k : (used + length name) + length value ≤ length old = omega (arith, u, t, b, same_texts) in
-        let to_end : to ≡ (used + length name) + length value = omega (arith, u, t) in
-        let one_more : next ≡ count + 1 = omega (arith, n, c) in
-        let old_count : count ≤ length fields = omega (arith, l) in
-        let old_used : used ≤ length old = omega (arith, k) in
-        rw one_more (hold_more first first_texts fields new old texts count used to name value p.done (p.held old_count old_used) l to_end b (put l k))
+read_more start rest behind first first_texts fields new old texts count used next end to name value p o next_is end_is to_is same_room few same_texts small put =
+    let all = stored_more first first_texts fields new old texts count used next end to name value p.done (record { count_is = p.count_is; used_is = p.used_is; held = p.held }) next_is end_is to_is same_room few same_texts small put in
+    record {
+      done = p.done ++ (name, value) ∷ [];
+      lines = octets_more start rest behind p.done (name, value) p.lines o;
+      count_is = all.count_is;
+      used_is = all.used_is;
+      held = all.held;
+    }

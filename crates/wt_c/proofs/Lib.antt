@@ -8,3 +8,8 @@ pub mod ReaderLemmas
 pub mod TextLemmas
 pub mod ListLemmas
 pub mod FaultlessLemmas
+pub mod ConnectionLemmas
+pub mod LimitLemmas
+pub mod BesideLemmas
+pub mod BlankLemmas
+pub mod ReceivingLemmas

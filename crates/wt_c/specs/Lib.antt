@@ -12,3 +12,7 @@ pub mod Reader
 pub mod CapsuleReader
 pub mod RequestFaults
 pub mod Version
+pub mod Connections
+pub mod ConnectionEvents
+pub mod ConnectionCalls
+pub mod Changes

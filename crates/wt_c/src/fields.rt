@@ -27,7 +27,7 @@ pub struct WtField {
 }
 
 /// Returns the sum, or `usize::MAX` if it overflows.
-fn add_capped(a: usize, b: usize) -> usize
+pub(crate) fn add_capped(a: usize, b: usize) -> usize
     ensures { result ≡ capped (a + b) }
 {
     if b > usize::MAX - a {
@@ -54,7 +54,7 @@ fn put_text(text: &[u8], out: &mut [u8], at: usize) -> Option<usize>
 
 /// Stores a line after the first `n` fields, and its texts after the first `at` bytes, if there
 /// is room.
-fn put_line(
+pub(crate) fn put_line(
     name: &[u8],
     value: &[u8],
     n: usize,

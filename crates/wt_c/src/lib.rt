@@ -8,6 +8,7 @@
 pub mod capsule_reader;
 pub mod capsules;
 pub mod codes;
+pub mod connections;
 pub mod datagrams;
 pub mod fields;
 pub mod frames;

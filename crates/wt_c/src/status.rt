@@ -18,6 +18,9 @@ pub const INVALID: i32 = -3;
 /// Allocation failed.
 pub const MEMORY: i32 = -4;
 
+/// What is asked for is not in this version.
+pub const UNSUPPORTED: i32 = -5;
+
 // The numbers in c/include/wtransport.h.
 const _: () = prove!(OK == 0);
 
@@ -30,3 +33,5 @@ const _: () = prove!(BUFFER_TOO_SMALL == -2);
 const _: () = prove!(INVALID == -3);
 
 const _: () = prove!(MEMORY == -4);
+
+const _: () = prove!(UNSUPPORTED == -5);

@@ -59,7 +59,7 @@ reads_then fin b c r s all bytes seen d t left g h = λ more. reads_all fin b r 
 
 -- ---- how many bytes are consumed
 
-rest_is : (x : Found) (bytes : List ℕ) → rest_after x bytes ≡ drop (consumed_by x (length bytes)) bytes
+pub rest_is : (x : Found) (bytes : List ℕ) → rest_after x bytes ≡ drop (consumed_by x (length bytes)) bytes
 rest_is (found.Opened p n) bytes = refl
 rest_is (found.Settings v start end) bytes = refl
 rest_is (found.Frame kind start end) bytes = refl
@@ -314,7 +314,7 @@ drop_nil : (n : ℕ) → drop {A = ℕ} n [] ≡ []
 drop_nil zero = refl
 drop_nil (suc n) = refl
 
-nothing_held : (k : Hold) (l : List ℕ) → k.bytes.items ≡ [] → joined k l ≡ l
+pub nothing_held : (k : Hold) (l : List ℕ) → k.bytes.items ≡ [] → joined k l ≡ l
 nothing_held k l none = ap (λ (i : List ℕ). drop k.used i ++ l) none ∙ ap (λ (i : List ℕ). i ++ l) (drop_nil k.used)
 
 chunk_finds : (x : Found) (n : ℕ) (fin : Bool) (c : Connection) (s : Stream) (rest chunk : List ℕ) (taken : ℕ) (d : Connection) (t : Stream) → rest ≡ drop taken chunk → FoundIs x c s rest fin d t → n ≡ consumed_by x (length rest) → LeavesOpen x → Finds c s (drop taken chunk) (seen_of x (drop taken chunk)) d t (drop (taken + n) chunk)

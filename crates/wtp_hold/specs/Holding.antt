@@ -1,12 +1,13 @@
 -- What is found on a stream whose bytes are held until what they begin is whole.
-use Rattle.std.specs.Prelude.{◌≡◌, ℕ, zero, suc, ◌+◌, ◌<◌, ◌≤◌, ◌==◌, if◌then◌else◌, Bool, true, false, List, [], ◌++◌, length, drop, None, Result, Ok, Err}
+use Rattle.std.specs.Prelude.{◌≡◌, ℕ, zero, suc, ◌+◌, ◌<◌, ◌≤◌, ◌==◌, ◌&&◌, if◌then◌else◌, Bool, true, false, List, [], ◌++◌, length, drop, None, Result, Ok, Err}
 use Rattle.wtp_connection.specs.declared.connection.Connection.{Connection}
 use Rattle.wtp_connection.specs.declared.connection.Found.{Found}
 use Rattle.wtp_connection.specs.declared.connection.Found.TheVariants as found
 use Rattle.wtp_connection.specs.declared.stream.Stream.{Stream}
 use Rattle.wtp_connection.specs.declared.stream.Stream.TheVariants.{Joining, Waiting}
+use Rattle.wtp_connection.specs.First.{found_by, first_found}
 use Rattle.wtp_connection.specs.Streams.{Seen, rests, followed, run_stream, ended}
-use Rattle.wtp_connection.specs.Receiving.{seen_of, Idle, Fits, Finds, IsAlone, LeavesOpen, all_found, FoundIs, more_in}
+use Rattle.wtp_connection.specs.Receiving.{seen_of, rest_after, Idle, Fits, Finds, IsAlone, LeavesOpen, all_found, FoundIs, more_in}
 use Rattle.wtp_hold.specs.declared.hold.Hold.{Hold}
 use Rattle.wtp_hold.specs.declared.hold.Source.{Source}
 use Rattle.wtp_hold.specs.declared.hold.Source.TheVariants.{Held, Chunk}
@@ -144,6 +145,40 @@ abbrev pub ReceptionIs :
 ReceptionIs (Ok x) c s bytes chunk limit k d t = ReceivedIs x c s bytes chunk limit k d t
 ReceptionIs (Err x) c s bytes chunk limit k d t = NotHeldIs x c s bytes chunk limit k d t
 
+-- ---- what is found first
+
+-- the bytes that follow those in which it was found
+abbrev pub behind : Source → ℕ → List ℕ → List ℕ
+behind Held taken chunk = drop taken chunk
+behind (Chunk n) taken chunk = []
+
+-- Nothing was found before the bytes in which it was found. It is what a call finds in all of these, with
+-- the end of the stream if that comes after them; and what that call leaves is left.
+pub record IsFirstFound (x : Received) (c : Connection) (s : Stream) (bytes chunk : List ℕ) (k : Hold)
+    (d : Connection) (t : Stream) : Type 0 where
+  pub connection : Connection
+  pub stream : Stream
+  pub before :
+      Passes c s bytes connection stream
+      (source_of x.source k chunk ++ behind x.source x.taken chunk)
+  pub first : found_by x.found (source_of x.source k chunk) d t
+      ≡ first_found (k.fin && (length (behind x.source x.taken chunk) == 0)) connection stream
+      (source_of x.source k chunk)
+  pub left : joined k (drop x.taken chunk)
+      ≡ rest_after x.found (source_of x.source k chunk) ++ behind x.source x.taken chunk
+
+-- something was found
+abbrev pub IsFirstUnlessMore :
+    Found → Received → Connection → Stream → List ℕ → List ℕ → Hold → Connection → Stream → Type 0
+IsFirstUnlessMore (found.More n) x c s bytes chunk k d t = Unit {0}
+IsFirstUnlessMore other x c s bytes chunk k d t = IsFirstFound x c s bytes chunk k d t
+
+-- what a call found, if it found something, is what is found first in the bytes of its source
+abbrev pub FindsFirst :
+    Result Received NotHeld → Connection → Stream → List ℕ → List ℕ → Hold → Connection → Stream → Type 0
+FindsFirst (Ok x) c s bytes chunk k d t = IsFirstUnlessMore x.found x c s bytes chunk k d t
+FindsFirst (Err x) c s bytes chunk k d t = Unit {0}
+
 -- ---- what is not copied
 
 -- it was found in the chunk, from this place on, and nothing is held
@@ -197,6 +232,7 @@ pub record IsStill (fin : Bool) (c : Connection) (s : Stream) (bytes : List ℕ)
 pub record IsRead (x : Found) (fin : Bool) (c : Connection) (s : Stream) (h : Hold) (d : Connection)
     (t : Stream) (k : Hold) : Type 0 where
   pub found : FoundIs x c s h.bytes.items fin d t
+  pub first : found_by x h.bytes.items d t ≡ first_found fin c s h.bytes.items
   pub bytes : k.bytes.items ≡ h.bytes.items
   pub used : k.used ≡ consumed_by x (length h.bytes.items)
   pub other : more_in x ≡ None

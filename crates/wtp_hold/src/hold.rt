@@ -1,7 +1,7 @@
 //! The bytes of one stream that wait for more.
 ghost use Rattle.std.specs.Prelude.{◌≡◌, ◌+◌, ◌<◌, ◌≤◌, ◌||◌, ◌&&◌, ◌++◌, ◌==◌, max, true, false, if◌then◌else◌, [], length, drop, take, MatchOption, IfSome};
 ghost use Rattle.wtp_connection.specs.Receiving.{IsFirst};
-ghost use Rattle.wtp_hold.specs.Holding.{is_early, pending, joined, ReceptionIs, consumed_by, IsStill, IsRead, IsNew, IsWithin, IsUncopied, AreLast, taken_by, source_of};
+ghost use Rattle.wtp_hold.specs.Holding.{is_early, pending, joined, ReceptionIs, FindsFirst, consumed_by, IsStill, IsRead, IsNew, IsWithin, IsUncopied, AreLast, taken_by, source_of};
 
 use std::alloc::Global;
 use wtp_connection::connection::{Connection, Found};
@@ -42,7 +42,8 @@ pub enum NotHeld {
     Limit(usize),
 }
 
-/// The bytes of one stream that calls left over. It has no memory while there are none.
+/// The bytes of one stream that calls left over. It gives their memory back with the next call once all
+/// were consumed.
 ///
 /// It is for QUIC stacks that give the bytes of a stream once, in chunks. The bytes that a call leaves
 /// are copied, and so are those of the next chunk that complete what they begin. While nothing is held
@@ -109,6 +110,9 @@ impl Hold {
     /// Returns what is next on a stream, as [`Connection::receive`] does with the bytes held and then
     /// the chunk. `fin`: the stream ends right after the chunk.
     ///
+    /// What is found is what that call finds in all bytes of its source: a piece of DATA in the chunk
+    /// has all bytes of it that came.
+    ///
     /// Call it with the bytes of the chunk that were not taken, until `More`. All of the chunk is
     /// then taken, and what is left over is held: at most `limit` bytes, and never more than that unless
     /// more were held before. The bytes held are always the last of those taken. An end that comes while the
@@ -131,6 +135,8 @@ impl Hold {
     ) -> Result<Received, NotHeld>
         ensures received { ReceptionIs result connection.old stream.old (joined self.old chunk.now)
             chunk.now limit self.new connection.new stream.new }
+        ensures first { FindsFirst result connection.old stream.old (joined self.old chunk.now)
+            chunk.now self.new connection.new stream.new }
         ensures uncopied { pending self.old ≡ [] → IsUncopied 0 result self.new }
         ensures held { AreLast self.new.bytes.items (joined self.old (take (taken_by result) chunk.now)) }
         ensures room { length self.new.bytes.items ≤ max limit (length (pending self.old)) }
@@ -233,6 +239,8 @@ impl Hold {
         requires fresh { self.old.used ≡ 0 }
         ensures received { ReceptionIs result connection.old stream.old (drop taken chunk.now)
             chunk.now limit self.new connection.new stream.new }
+        ensures first { FindsFirst result connection.old stream.old (drop taken chunk.now)
+            chunk.now self.new connection.new stream.new }
         ensures uncopied { IsUncopied taken result self.new }
         ensures held { AreLast self.new.bytes.items (take (taken_by result) chunk.now) }
         ensures room { length self.new.bytes.items ≤ limit }

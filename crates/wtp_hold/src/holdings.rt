@@ -1,7 +1,7 @@
 //! Bounds on the bytes that all streams of a connection hold (RFC 9114, section 10.5; WebTransport over
 //! HTTP/3, "Buffering Incoming Streams and Datagrams").
 ghost use Rattle.std.specs.Prelude.{◌≡◌, ◌≤◌, ◌||◌, true, false, [], length, take, max};
-ghost use Rattle.wtp_hold.specs.Holding.{is_early as is_early_is, pending, joined, ReceptionIs, IsNew, IsUncopied, AreLast, taken_by};
+ghost use Rattle.wtp_hold.specs.Holding.{is_early as is_early_is, pending, joined, ReceptionIs, FindsFirst, IsNew, IsUncopied, AreLast, taken_by};
 ghost use Rattle.wtp_hold.specs.Holdings.{held_by, room_for, held_less, held_more, released, counted, IsBounded};
 
 use crate::hold::{Hold, NotHeld, Received};
@@ -121,6 +121,7 @@ impl CountedHold {
     /// Creates the hold of a stream of which no byte came.
     pub fn new(alloc: Global) -> Self
         ensures hold { IsNew result.hold }
+        ensures early { result.early ≡ false }
     {
         CountedHold {
             hold: Hold::new(alloc),
@@ -160,6 +161,8 @@ impl CountedHold {
         ensures received { ReceptionIs result connection.old stream.old (joined self.old.hold chunk.now)
             chunk.now (room_for (released holdings.old self.old) (is_early_is stream.old))
             self.new.hold connection.new stream.new }
+        ensures first { FindsFirst result connection.old stream.old (joined self.old.hold chunk.now)
+            chunk.now self.new.hold connection.new stream.new }
         ensures uncopied { pending self.old.hold ≡ [] → IsUncopied 0 result self.new.hold }
         ensures held { AreLast self.new.hold.bytes.items
             (joined self.old.hold (take (taken_by result) chunk.now)) }

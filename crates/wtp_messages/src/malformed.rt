@@ -5,7 +5,8 @@ ghost use Rattle.wtp_core.specs.declared.error.ErrorCode.TheVariants.{Message};
 use thiserror::Error;
 use wtp_core::error::ErrorCode;
 
-/// The rule that a message breaks (RFC 9114, section 4.1.2). Each is an error of its stream alone.
+/// The rule that a message breaks (RFC 9114, section 4.1.2). Each is an error of its stream alone, with
+/// the same code. Of several rules that a field section breaks, any may be reported.
 #[derive(Debug, Drop, Clone, Copy, PartialEq, Eq, Error)]
 pub enum Malformed {
     /// The name of a field is empty, has an upper-case letter or is not a token (RFC 9114, section

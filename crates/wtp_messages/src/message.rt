@@ -72,7 +72,8 @@ impl Message {
     /// Takes the next field section: the header section of the request or the response, or after
     /// it the trailers.
     ///
-    /// Returns a rule that the section breaks, if it breaks one, and changes nothing then.
+    /// Returns a rule that the section breaks, if it breaks one, and changes nothing then. Of several
+    /// broken rules it may be any.
     pub fn section<'a>(&mut self, list: &'a FieldList) -> Result<Section<'a>, Malformed>
         ensures { SectionComes self.old.stage self.old list.now result self.new }
     {

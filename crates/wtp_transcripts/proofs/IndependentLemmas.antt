@@ -1,5 +1,5 @@
 -- What a stream gives does not depend on the others.
-use Rattle.std.proofs.Common.{◌≡◌, ℕ, ◌+◌, ◌%◌, ◌/◌, ◌&&◌, not, nat_lt, Bool, true, false, cond, eqb, List, [], ◌∷◌, ◌++◌, Option, Some, None, refl, sym, ap, subst, ◌∙◌, arith, inl, inr}
+use Rattle.std.proofs.Common.{◌≡◌, ℕ, ◌+◌, ◌%◌, ◌/◌, ◌&&◌, not, nat_lt, Bool, true, false, cond, eqb, List, [], ◌∷◌, ◌++◌, Option, Some, None, Ok, Err, refl, sym, ap, subst, ◌∙◌, arith, inl, inr}
 use Rattle.std.proofs.lemmas.Bool.{cases_Bool, eqb-true, lt-ltb, false≢true}
 use Rattle.std.proofs.lemmas.List.{append-nil}
 use Rattle.wtp_frames.specs.declared.endpoint.Endpoint.{Endpoint}
@@ -18,10 +18,11 @@ use Rattle.wtp_connection.specs.declared.stream.Purpose.{Purpose}
 use Rattle.wtp_connection.specs.declared.stream.Purpose.TheVariants as «for»
 use Rattle.wtp_connection.specs.declared.stream.Stream.{Stream}
 use Rattle.wtp_connection.specs.declared.stream.Stream.TheVariants.{Frames, Joining, Waiting, Session, Over, Incomplete}
+use Rattle.wtp_connection.specs.Datagrams.{Taken, taken, after_taken}
 use Rattle.wtp_connection.specs.Opening.{connected, is_critical, is_for_critical, has_no_headers, over_from}
 use Rattle.wtp_connection.specs.Requests.{with_request}
 use Rattle.wtp_connection.specs.Streams.{connection_of, with_stream, closed_by, Seen, StreamRun, most_waiting, Joined, other_fault, refuses, settles, waits, freed, joins_open, by_interim, tells_open, without, reset_answer_at, reset_answer, overflows_open}
-use Rattle.wtp_transcripts.specs.Transcript.{read, Held, Event, Came, Told, Interim, Tunnelled, Reset, Overflowed, Abandoned, Outcome, answered, called, unread, ends, reads_on, happens, alone, Table, Step, Accepted, Stopped, On, Transcript, State, begin, at_stream, next, after, marked, found_by, seen_in, on_stream, events_of, places, HasPlace, HasPlaces, is_opened as flag}
+use Rattle.wtp_transcripts.specs.Transcript.{read, Held, Event, Came, Told, Interim, Tunnelled, Reset, Overflowed, Abandoned, Outcome, answered, called, unread, ends, reads_on, happens, alone, Table, Step, Accepted, Stopped, Datagram, On, Transcript, State, begin, at_stream, next, after, marked, found_by, seen_in, on_stream, events_of, places, HasPlace, HasPlaces, is_opened as flag}
 use Rattle.wtp_transcripts.proofs.AlikeLemmas.{Flags, Goes, goes_then, goes_same, closed_goes, closed_over, RunsAlike, AgreesOn, read_alike, opened_first, Agree, plain_agree}
 use Rattle.wtp_transcripts.proofs.OverLemmas.{read_from, before_steps, nothing_seen, seen_append}
 use Rattle.wtp_transcripts.proofs.WaitLemmas.{EventCounts, event_counts, held_at, held_other}
@@ -307,6 +308,17 @@ pub stopped_opens : (b : Bool) (c : Connection) (f : Fault) (o : Option Fault) �
 stopped_opens true c f o = record { endpoint = (closed_goes c c f).endpoint; flags = λ p. flags_open c (closed_by c f) p ((closed_goes c c f).flags p); plain = (closed_goes c c f).plain }
 stopped_opens false c f o = record { endpoint = refl; flags = λ p e. e; plain = λ e. e }
 
+pub datagram_opens : (c : Connection) (x : Taken) → Opens c (after_taken c x)
+datagram_opens c (Ok d) = record { endpoint = refl; flags = λ p e. e; plain = λ e. e }
+datagram_opens c (Err f) = stopped_opens true c f None
+
+-- no step changes the endpoint
+pub step_endpoint : (a : Step) (x : State) → (next x a).connection.endpoint ≡ x.connection.endpoint
+step_endpoint (Accepted n) x = (accepted_opens x.connection.endpoint.side x.connection n).endpoint
+step_endpoint (Stopped p) x = (stopped_opens (is_for_critical p && not x.connection.over) x.connection (fault.Stream stream.ClosedCriticalStream) (Some (fault.Stream stream.ClosedCriticalStream))).endpoint
+step_endpoint (Datagram bytes) x = (datagram_opens x.connection (taken x.connection bytes)).endpoint
+step_endpoint (On n e) x = (event_goes e (x.streams n) x.connection).endpoint
+
 within_opens : (c e d : Connection) → Within c d → Opens c e → e.over ≡ false → Within e d
 within_opens c e d w h o = record {
   endpoint = w.endpoint ∙ sym h.endpoint;
@@ -335,6 +347,9 @@ stays_alone (Accepted m ∷ steps) n x d w k o h =
 stays_alone (Stopped p ∷ steps) n x d w k o h =
     passes n (Stopped p) x d steps refl refl refl (
     stays_alone steps n (next x (Stopped p)) d (within_opens x.connection (next x (Stopped p)).connection d w (stopped_opens (is_for_critical p && not x.connection.over) x.connection (fault.Stream stream.ClosedCriticalStream) (Some (fault.Stream stream.ClosedCriticalStream))) (before_steps steps (next x (Stopped p)) o)) k o h.1)
+stays_alone (Datagram bytes ∷ steps) n x d w k o h =
+    passes n (Datagram bytes) x d steps refl refl refl (
+    stays_alone steps n (next x (Datagram bytes)) d (within_opens x.connection (next x (Datagram bytes)).connection d w (datagram_opens x.connection (taken x.connection bytes)) (before_steps steps (next x (Datagram bytes)) o)) k o h.1)
 stays_alone (On m e ∷ steps) n x d w k o h =
     let goes : (next x (On m e)).connection.over ≡ false = before_steps steps (next x (On m e)) o in
     elim (cases_Bool (eqb m n)) [

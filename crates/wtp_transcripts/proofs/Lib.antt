@@ -1,6 +1,7 @@
 pub mod AlikeLemmas
 pub mod CallLemmas
 pub mod CutLemmas
+pub mod DatagramLemmas
 pub mod IndependentLemmas
 pub mod JoinedLemmas
 pub mod OnceLemmas
@@ -12,5 +13,6 @@ pub mod ResumedStepLemmas
 pub mod SessionLemmas
 pub mod ScheduleLemmas
 pub mod ShowLemmas
+pub mod TakenLemmas
 pub mod TranscriptLemmas
 pub mod WaitLemmas

@@ -1,5 +1,5 @@
 -- A peer that keeps the rules is not refused, in whatever order its bytes come.
-use Rattle.std.proofs.Common.{◌≡◌, ℕ, ◌%◌, ◌/◌, ◌&&◌, not, Bool, true, false, cond, eqb, List, [], ◌∷◌, Option, Some, None, refl, sym, ap, subst, ◌∙◌, eq-eqb, inl, inr}
+use Rattle.std.proofs.Common.{◌≡◌, ℕ, ◌%◌, ◌/◌, ◌&&◌, not, Bool, true, false, cond, eqb, List, [], ◌∷◌, Option, Some, None, Ok, refl, sym, ap, subst, ◌∙◌, eq-eqb, inl, inr}
 use Rattle.std.proofs.lemmas.Bool.{cases_Bool, eqb-true, false≢true}
 use Rattle.wtp_frames.specs.declared.endpoint.Endpoint.{Endpoint}
 use Rattle.wtp_frames.specs.declared.endpoint.Side.{Side}
@@ -12,17 +12,19 @@ use Rattle.wtp_connection.specs.declared.fault.Fault.TheVariants as fault
 use Rattle.wtp_connection.specs.declared.stream.Purpose.{Purpose}
 use Rattle.wtp_connection.specs.declared.stream.Purpose.TheVariants as «for»
 use Rattle.wtp_connection.specs.declared.stream.Stream.{Stream}
+use Rattle.wtp_connection.specs.Datagrams.{Taken, taken, after_taken}
 use Rattle.wtp_connection.specs.Opening.{is_for_critical}
 use Rattle.wtp_connection.specs.Receiving.{opening_of}
 use Rattle.wtp_connection.specs.Requests.{with_request}
 use Rattle.wtp_connection.specs.Streams.{connection_of, with_stream, closed_by, Joined, stops}
-use Rattle.wtp_transcripts.specs.Transcript.{Held, Event, Came, Outcome, called, unread, ends, happens, alone, bytes_in, end_in, last_said, said, at_once, IsRead, IsStill, Table, Accepted, Stopped, On, Transcript, State, begin, at_stream, next, after, seen_in, on_stream, events_of, places, HasPlace, HasPlaces, is_opened as flag, alone_on, StopsNone, KeepsRules, AllHavePlaces, NoneWaits, SameBytes, SameOn}
+use Rattle.wtp_transcripts.specs.Transcript.{Held, Event, Came, Outcome, called, unread, ends, happens, alone, bytes_in, end_in, last_said, said, at_once, IsRead, IsStill, Table, Accepted, Stopped, Datagram, On, Transcript, State, begin, at_stream, next, after, seen_in, on_stream, events_of, places, HasPlace, HasPlaces, is_opened as flag, alone_on, StopsNone, AreTaken, KeepsRules, AllHavePlaces, NoneWaits, SameBytes, SameOn}
 use Rattle.wtp_transcripts.proofs.AlikeLemmas.{Flags, opened_first, opened_then, plain_agree}
+use Rattle.wtp_transcripts.proofs.DatagramLemmas.{taken_same}
 use Rattle.wtp_transcripts.proofs.WaitLemmas.{held_at, held_other}
 use Rattle.wtp_transcripts.proofs.OverLemmas.{read_from, accepted_over}
 use Rattle.wtp_transcripts.proofs.OnceLemmas.{alone_from, once, once_back}
 use Rattle.wtp_transcripts.proofs.JoinedLemmas.{joined_alone}
-use Rattle.wtp_transcripts.proofs.IndependentLemmas.{SamePlace, CallsAlike, call_alike, EventsAlike, event_alike, event_goes, AgreesAt, both_places, still_counted, begun_flags, accepted_opens, IsAlone, stands_alone}
+use Rattle.wtp_transcripts.proofs.IndependentLemmas.{SamePlace, CallsAlike, call_alike, EventsAlike, event_alike, event_goes, AgreesAt, both_places, still_counted, begun_flags, accepted_opens, step_endpoint, IsAlone, stands_alone}
 
 -- ---- what is opened stays so
 
@@ -200,13 +202,28 @@ allowed_stopped x d p steps none w =
       once = w.once;
     })
 
+allowed_datagram : (e : Endpoint) (x : State) (d : Alone) (bytes : List ℕ) (steps : Transcript) → x.connection.endpoint ≡ e → (o : Option (ℕ × List ℕ)) × (taken (connection_of e) bytes ≡ Ok o) → IsAllowed x d (Datagram bytes ∷ steps) → IsAllowed (next x (Datagram bytes)) d steps
+allowed_datagram e x d bytes steps is valid w =
+    let same : after_taken x.connection (taken x.connection bytes) ≡ x.connection = ap (λ (y : Taken). after_taken x.connection y) (taken_same (connection_of e) x.connection bytes w.intact is ∙ valid.1) in
+    subst (λ (c : Connection). IsAllowed (record { connection = c; streams = x.streams }) d steps) (sym same) (record {
+      intact = w.intact;
+      endpoint = w.endpoint;
+      plain = w.plain;
+      plains = w.plains;
+      counted = w.counted;
+      opened = w.opened;
+      sound = w.sound;
+      once = w.once;
+    })
+
 -- ---- all events
 
-no_error : (steps : Transcript) (x : State) (d : Alone) → IsAllowed x d steps → StopsNone steps → AllHavePlaces x steps → (after x steps).connection.over ≡ false
-no_error [] x d w s h = w.intact
-no_error (Accepted m ∷ steps) x d w s h = no_error steps (next x (Accepted m)) d (allowed_accepted x d m steps w) s (λ n. (h n).1)
-no_error (Stopped p ∷ steps) x d w s h = no_error steps (next x (Stopped p)) d (allowed_stopped x d p steps s.0 w) s.1 (λ n. (h n).1)
-no_error (On m e ∷ steps) x d w s h = no_error steps (next x (On m e)) (alone_after x d m e) (allowed_event x d m e steps w ((h m).0 refl)) s (λ n. (h n).1)
+no_error : (steps : Transcript) (e : Endpoint) (x : State) (d : Alone) → x.connection.endpoint ≡ e → IsAllowed x d steps → StopsNone steps → AreTaken e steps → AllHavePlaces x steps → (after x steps).connection.over ≡ false
+no_error [] e x d is w s v h = w.intact
+no_error (Accepted m ∷ steps) e x d is w s v h = no_error steps e (next x (Accepted m)) d (step_endpoint (Accepted m) x ∙ is) (allowed_accepted x d m steps w) s v (λ n. (h n).1)
+no_error (Stopped p ∷ steps) e x d is w s v h = no_error steps e (next x (Stopped p)) d (step_endpoint (Stopped p) x ∙ is) (allowed_stopped x d p steps s.0 w) s.1 v (λ n. (h n).1)
+no_error (Datagram bytes ∷ steps) e x d is w s v h = no_error steps e (next x (Datagram bytes)) d (step_endpoint (Datagram bytes) x ∙ is) (allowed_datagram e x d bytes steps is v.0 w) s v.1 (λ n. (h n).1)
+no_error (On m a ∷ steps) e x d is w s v h = no_error steps e (next x (On m a)) (alone_after x d m a) (step_endpoint (On m a) x ∙ is) (allowed_event x d m a steps w ((h m).0 refl)) s v (λ n. (h n).1)
 
 none_opened : (e : Endpoint) (p : Purpose) → flag (connection_of e) p ≡ false
 none_opened e «for».Control = refl
@@ -215,7 +232,7 @@ none_opened e «for».Decoder = refl
 none_opened e other = refl
 
 pub rules_kept : (e : Endpoint) (t : Table) (steps : Transcript) → NoneWaits t → KeepsRules e t steps → AllHavePlaces (begin e t) steps → (after (begin e t) steps).connection.over ≡ false
-rules_kept e t steps z r h = no_error steps (begin e t) (λ n. connection_of e) (record {
+rules_kept e t steps z r h = no_error steps e (begin e t) (λ n. connection_of e) refl (record {
   intact = refl;
   endpoint = λ n. refl;
   plain = refl;
@@ -224,7 +241,7 @@ rules_kept e t steps z r h = no_error steps (begin e t) (λ n. connection_of e) 
   opened = λ p f. absurd (false≢true (sym (none_opened e p) ∙ f));
   sound = r.sound;
   once = r.once;
-}) r.stops h
+}) r.stops r.datagrams h
 
 -- ---- all bytes at once
 
@@ -252,20 +269,21 @@ alone_same e t n first second i (inr (inl s)) =
     let both : alone (connection_of e) (t n) (at_once (events_of n second)) ≡ alone_on e t n first = ap (λ (l : List Event). alone (connection_of e) (t n) l) (at_once_same e t n first second s) ∙ sym one in
     once_back (connection_of e) (t n) (events_of n second) s.still s.read_second (ap (λ (x : Outcome). x.connection.over) both ∙ i) ∙ both
 
-rules_same : (e : Endpoint) (t : Table) (first second : Transcript) → KeepsRules e t first → ((n : ℕ) → SameOn e t n first second) → StopsNone second → KeepsRules e t second
-rules_same e t first second r s none =
+rules_same : (e : Endpoint) (t : Table) (first second : Transcript) → KeepsRules e t first → ((n : ℕ) → SameOn e t n first second) → StopsNone second → AreTaken e second → KeepsRules e t second
+rules_same e t first second r s none valid =
     let same : (n : ℕ) → alone_on e t n first ≡ alone_on e t n second = λ n. sym (alone_same e t n first second (r.sound n) (s n)) in
     record {
       sound = λ n. ap (λ (x : Outcome). x.connection.over) (sym (same n)) ∙ r.sound n;
       once = λ p n m f g. r.once p n m (ap (λ (x : Outcome). flag x.connection p) (same n) ∙ f) (ap (λ (x : Outcome). flag x.connection p) (same m) ∙ g);
       stops = none;
+      datagrams = valid;
     }
 
-pub order_over : (e : Endpoint) (t : Table) (first second : Transcript) → NoneWaits t → KeepsRules e t first → ((n : ℕ) → SameOn e t n first second) → StopsNone second → AllHavePlaces (begin e t) second → (after (begin e t) second).connection.over ≡ false
-order_over e t first second z r s none h = rules_kept e t second z (rules_same e t first second r s none) h
+pub order_over : (e : Endpoint) (t : Table) (first second : Transcript) → NoneWaits t → KeepsRules e t first → ((n : ℕ) → SameOn e t n first second) → StopsNone second → AreTaken e second → AllHavePlaces (begin e t) second → (after (begin e t) second).connection.over ≡ false
+order_over e t first second z r s none valid h = rules_kept e t second z (rules_same e t first second r s none valid) h
 
-pub order_seen : (e : Endpoint) (t : Table) (n : ℕ) (first second : Transcript) → NoneWaits t → KeepsRules e t first → ((k : ℕ) → SameOn e t k first second) → StopsNone second → AllHavePlaces (begin e t) first → AllHavePlaces (begin e t) second → on_stream n (seen_in (begin e t) second) ≡ on_stream n (seen_in (begin e t) first)
-order_seen e t n first second z r s none g h =
-    (stands_alone e t n second (z n) (order_over e t first second z r s none h) (h n)).seen
+pub order_seen : (e : Endpoint) (t : Table) (n : ℕ) (first second : Transcript) → NoneWaits t → KeepsRules e t first → ((k : ℕ) → SameOn e t k first second) → StopsNone second → AreTaken e second → AllHavePlaces (begin e t) first → AllHavePlaces (begin e t) second → on_stream n (seen_in (begin e t) second) ≡ on_stream n (seen_in (begin e t) first)
+order_seen e t n first second z r s none valid g h =
+    (stands_alone e t n second (z n) (order_over e t first second z r s none valid h) (h n)).seen
     ∙ ap (λ (x : Outcome). x.seen) (alone_same e t n first second (r.sound n) (s n))
     ∙ sym (stands_alone e t n first (z n) (rules_kept e t first z r g) (g n)).seen

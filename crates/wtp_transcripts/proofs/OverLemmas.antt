@@ -11,7 +11,8 @@ use Rattle.wtp_connection.specs.Opening.{is_critical, is_for_critical, has_no_he
 use Rattle.wtp_connection.specs.Requests.{with_request}
 use Rattle.wtp_connection.specs.Streams.{with_stream, Seen, StreamRun, all_given, ended, Joined, without, reset_answer_at}
 use Rattle.wtp_connection.proofs.StreamLemmas.{over_run}
-use Rattle.wtp_transcripts.specs.Transcript.{read, Held, Event, Came, Told, Interim, Tunnelled, Reset, Overflowed, Abandoned, Outcome, answered, called, unread, ends, reads_on, happens, Step, Accepted, Stopped, On, Transcript, State, next, after, marked, found_by, seen_in}
+use Rattle.wtp_transcripts.specs.Transcript.{read, Held, Event, Came, Told, Interim, Tunnelled, Reset, Overflowed, Abandoned, Outcome, answered, called, unread, ends, reads_on, happens, Step, Accepted, Stopped, Datagram, On, Transcript, State, next, after, marked, found_by, seen_in}
+use Rattle.wtp_transcripts.proofs.DatagramLemmas.{datagram_over}
 
 pub over_read : (fin : Bool) (c : Connection) (s : Stream) (bytes : List ℕ) → c.over ≡ true → read fin c s bytes ≡ all_given c s []
 over_read true c s bytes e = ap (λ (x : StreamRun). ended x) (over_run c s bytes e) ∙ rw e refl
@@ -102,11 +103,13 @@ stopped_over false over c d f e = refl
 pub next_over : (a : Step) (x : State) → x.connection.over ≡ true → (next x a).connection.over ≡ true
 next_over (Accepted n) x o = accepted_over x.connection.endpoint.side x.connection n ∙ o
 next_over (Stopped p) x o = ap (λ (c : Connection). c.over) (stopped_over (is_for_critical p) x.connection.over x.connection _ _ o) ∙ o
+next_over (Datagram bytes) x o = datagram_over x.connection bytes o
 next_over (On n e) x o = (event_quiet e x.connection (x.streams n) o).over
 
 none_found : (a : Step) (x : State) → x.connection.over ≡ true → found_by x a ≡ []
 none_found (Accepted n) x o = refl
 none_found (Stopped p) x o = refl
+none_found (Datagram bytes) x o = refl
 none_found (On n e) x o = ap (λ (l : List Seen). marked n l) (event_quiet e x.connection (x.streams n) o).none
 
 pub after_over : (steps : Transcript) (x : State) → x.connection.over ≡ true → (after x steps).connection.over ≡ true

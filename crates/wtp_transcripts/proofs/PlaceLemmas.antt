@@ -12,10 +12,11 @@ use Rattle.wtp_connection.specs.declared.connection.Known.TheVariants as known
 use Rattle.wtp_connection.specs.declared.fault.Fault.TheVariants as fault
 use Rattle.wtp_connection.specs.declared.stream.Stream.{Stream}
 use Rattle.wtp_connection.specs.declared.stream.Stream.TheVariants.{Frames, Joining, Waiting, Session, Over, Incomplete}
+use Rattle.wtp_connection.specs.Datagrams.{taken}
 use Rattle.wtp_connection.specs.Opening.{is_critical, is_for_critical, over_from}
 use Rattle.wtp_connection.specs.Streams.{most_waiting, Joined, settles, joins_open, by_interim, tells_open, overflows_open, without}
-use Rattle.wtp_transcripts.specs.Transcript.{Held, Event, Came, Told, Interim, Tunnelled, Reset, Overflowed, Abandoned, called, unread, ends, happens, Table, Accepted, Stopped, On, Transcript, State, begin, at_stream, next, places, waiting_among, is_among, AreDistinct, HasPlace, HasPlaces, AllHavePlaces, WaitAmong, NoneWaits}
-use Rattle.wtp_transcripts.proofs.WaitLemmas.{read_waits, EventCounts, event_counts, held_at, held_other, other_waiting, its_waiting, its_places, accepted_waiting, stopped_waiting, over_from_none, connected_places}
+use Rattle.wtp_transcripts.specs.Transcript.{Held, Event, Came, Told, Interim, Tunnelled, Reset, Overflowed, Abandoned, called, unread, ends, happens, Table, Accepted, Stopped, Datagram, On, Transcript, State, begin, at_stream, next, places, waiting_among, is_among, AreDistinct, HasPlace, HasPlaces, AllHavePlaces, WaitAmong, NoneWaits}
+use Rattle.wtp_transcripts.proofs.WaitLemmas.{read_waits, EventCounts, event_counts, held_at, held_other, other_waiting, its_waiting, its_places, accepted_waiting, stopped_waiting, datagram_waiting, over_from_none, connected_places}
 
 -- it is not said that the session is to come
 abbrev NotComing : Event → Type 0
@@ -148,6 +149,7 @@ all_places : (steps : Transcript) (ns : List ℕ) (x : State) (k : ℕ) → AreD
 all_places [] ns x k d l w a = tt
 all_places (Accepted n ∷ steps) ns x k d l w a = (tt, all_places steps ns (next x (Accepted n)) k d l w (same_among ns x.connection (next x (Accepted n)).connection x.streams (accepted_waiting x.connection.endpoint.side x.connection n) a))
 all_places (Stopped p ∷ steps) ns x k d l w a = (tt, all_places steps ns (next x (Stopped p)) k d l w (same_among ns x.connection (next x (Stopped p)).connection x.streams (stopped_waiting (is_for_critical p && not x.connection.over) x.connection (fault.Stream stream.ClosedCriticalStream) (Some (fault.Stream stream.ClosedCriticalStream))) a))
+all_places (Datagram bytes ∷ steps) ns x k d l w a = (tt, all_places steps ns (next x (Datagram bytes)) k d l w (same_among ns x.connection (next x (Datagram bytes)).connection x.streams (datagram_waiting x.connection (taken x.connection bytes)) a))
 all_places (On m (Told known.Coming) ∷ steps) ns x k d l w a = (
   λ is. joining_place (x.streams m).stream x.connection (λ none. omega (arith, one_less ns m x.streams w.0 none, a.count, l)),
   all_places steps ns (next x (On m (Told known.Coming))) k d l w.1 (event_among ns x m (Told known.Coming) d (inl w.0) a),

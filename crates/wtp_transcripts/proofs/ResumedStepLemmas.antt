@@ -1,5 +1,5 @@
 -- What happens where a session is resumed, and where none is.
-use Rattle.std.proofs.Common.{◌≡◌, ℕ, ◌+◌, ◌-◌, ◌%◌, ◌/◌, ◌&&◌, ◌||◌, not, nat_lt, Bool, true, false, cond, eqb, List, [], ◌∷◌, ◌++◌, Option, Some, None, refl, sym, ap, subst, ◌∙◌, eq-eqb, inl, inr, ◌⊎◌}
+use Rattle.std.proofs.Common.{◌≡◌, ℕ, ◌+◌, ◌-◌, ◌%◌, ◌/◌, ◌&&◌, ◌||◌, not, nat_lt, Bool, true, false, cond, eqb, List, [], ◌∷◌, ◌++◌, Option, Some, None, Ok, Err, refl, sym, ap, subst, ◌∙◌, eq-eqb, inl, inr, ◌⊎◌}
 use Rattle.std.proofs.lemmas.Bool.{cases_Bool, false≢true}
 use Rattle.wtp_frames.specs.declared.endpoint.Endpoint.{Endpoint}
 use Rattle.wtp_frames.specs.declared.endpoint.Side.{Side}
@@ -17,10 +17,12 @@ use Rattle.wtp_connection.specs.declared.settings.PeerSettings.{PeerSettings}
 use Rattle.wtp_connection.specs.declared.stream.Purpose.{Purpose}
 use Rattle.wtp_connection.specs.declared.stream.Stream.{Stream}
 use Rattle.wtp_connection.specs.declared.stream.Stream.TheVariants.{Frames, Joining, Waiting, Session, Over, Incomplete}
+use Rattle.wtp_connection.specs.Datagrams.{Taken, taken, after_taken}
 use Rattle.wtp_connection.specs.Opening.{connected, is_critical, is_for_critical, over_from}
 use Rattle.wtp_connection.specs.Requests.{with_request}
 use Rattle.wtp_connection.specs.Streams.{connection_of, resuming_at, resuming_of, without_resumption, with_stream, closed_by, Seen, StreamRun, most_waiting, Joined, other_fault, refuses, settles, waits, freed, joins_open, by_interim, tells_open, without, reset_answer, overflows_open}
-use Rattle.wtp_transcripts.specs.Transcript.{read, loses, loses_any, resumes, Held, Event, Came, Told, Interim, Tunnelled, Reset, Overflowed, Abandoned, Outcome, outcome_of, after_seen, answered, called, unread, ends, reads_on, happens, Table, Accepted, Stopped, On, Transcript, State, begin, at_stream, next, after, marked, seen_in, on_stream, StopsNone, KeepsRules, AllHavePlaces, NoneWaits, SameOn, KeepsRemembered}
+use Rattle.wtp_transcripts.specs.Transcript.{read, loses, loses_any, resumes, Held, Event, Came, Told, Interim, Tunnelled, Reset, Overflowed, Abandoned, Outcome, outcome_of, after_seen, answered, called, unread, ends, reads_on, happens, Table, Accepted, Stopped, Datagram, On, Transcript, State, begin, at_stream, next, after, marked, seen_in, on_stream, StopsNone, AreTaken, KeepsRules, AllHavePlaces, NoneWaits, SameOn, KeepsRemembered}
+use Rattle.wtp_transcripts.proofs.DatagramLemmas.{taken_same}
 use Rattle.wtp_transcripts.proofs.OrderLemmas.{order_over, order_seen, rules_kept}
 use Rattle.wtp_transcripts.proofs.OverLemmas.{after_over}
 use Rattle.wtp_transcripts.proofs.TranscriptLemmas.{table_same}
@@ -175,6 +177,18 @@ next_stopped p old x y h = record {
   streams = h.streams;
 }
 
+next_datagram : (bytes : List ℕ) (old : PeerSettings) (x y : State) → SameState old x y → SameState old (next x (Datagram bytes)) (next y (Datagram bytes))
+next_datagram bytes old x y h = record {
+  beside =
+      subst (λ (r : Taken). Beside old (after_taken x.connection (taken x.connection bytes)) (after_taken y.connection r)) (sym (taken_same x.connection y.connection bytes (same_over old x.connection y.connection h.beside) (same_endpoint old x.connection y.connection h.beside))) (
+      taken_beside (taken x.connection bytes) old x.connection y.connection h.beside);
+  streams = h.streams;
+}
+  where
+    taken_beside : (r : Taken) (old : PeerSettings) (c d : Connection) → Beside old c d → Beside old (after_taken c r) (after_taken d r)
+    taken_beside (Ok o) old c d h = h
+    taken_beside (Err f) old c d h = closed_beside old c d f h
+
 -- an event of stream m
 at_both : (m : ℕ) (e : Event) (old : PeerSettings) (x y : State) → SameState old x y → EitherOutcome old (at_stream x m e) (at_stream y m e)
 at_both m e old x y h = subst (λ (k : Held). EitherOutcome old (at_stream x m e) (happens y.connection k e)) (sym (h.streams m)) (event_both e (x.streams m) old x.connection y.connection h.beside)
@@ -199,6 +213,9 @@ same_steps (Accepted m ∷ steps) old x y h i =
     record { seen = s.seen; streams = s.streams; over = s.over }
 same_steps (Stopped p ∷ steps) old x y h i =
     let s : SameSteps old (next x (Stopped p)) (next y (Stopped p)) steps = same_steps steps old (next x (Stopped p)) (next y (Stopped p)) (next_stopped p old x y h) i in
+    record { seen = s.seen; streams = s.streams; over = s.over }
+same_steps (Datagram bytes ∷ steps) old x y h i =
+    let s : SameSteps old (next x (Datagram bytes)) (next y (Datagram bytes)) steps = same_steps steps old (next x (Datagram bytes)) (next y (Datagram bytes)) (next_datagram bytes old x y h) i in
     record { seen = s.seen; streams = s.streams; over = s.over }
 same_steps (On m e ∷ steps) old x y h i = by_event (at_both m e old x y h) (λ o. same_steps steps old (next x (On m e)) (next y (On m e)) (next_event m e old x y h o) i)
   where
@@ -235,6 +252,7 @@ kept_steps : (steps : Transcript) (old : PeerSettings) (x y : State) → SameSta
 kept_steps [] old x y h i k = sym (same_over old x.connection y.connection h.beside) ∙ i
 kept_steps (Accepted m ∷ steps) old x y h i k = kept_steps steps old (next x (Accepted m)) (next y (Accepted m)) (next_accepted m old x y h) i k
 kept_steps (Stopped p ∷ steps) old x y h i k = kept_steps steps old (next x (Stopped p)) (next y (Stopped p)) (next_stopped p old x y h) i k
+kept_steps (Datagram bytes ∷ steps) old x y h i k = kept_steps steps old (next x (Datagram bytes)) (next y (Datagram bytes)) (next_datagram bytes old x y h) i k
 kept_steps (On m e ∷ steps) old x y h i k = by_event (at_both m e old x y h) (lost_marked old m (at_stream y m e).seen (seen_in (next y (On m e)) steps) k) (λ o l. kept_steps steps old (next x (On m e)) (next y (On m e)) (next_event m e old x y h o) i l)
   where
     by_event : EitherOutcome old (at_stream x m e) (at_stream y m e) → (loses_in old (at_stream y m e).seen ≡ false) × (loses_any old (seen_in (next y (On m e)) steps) ≡ false) → (SameOutcome old (at_stream x m e) (at_stream y m e) → loses_any old (seen_in (next y (On m e)) steps) ≡ false → (after x (On m e ∷ steps)).connection.over ≡ false) → (after x (On m e ∷ steps)).connection.over ≡ false
@@ -307,16 +325,16 @@ kept_same old xs ys h k = elim (cases_Bool (loses_any old ys)) [
       absurd (false≢true (sym k ∙ lost_among old on.0 xs (ap (λ (l : List Seen). loses_in old l) (sym (h on.0)) ∙ on.1)))
 ]
 
-second_kept : (e : Endpoint) (v : PeerSettings) (t : Table) (first second : Transcript) → NoneWaits t → KeepsRules e t first → ((k : ℕ) → SameOn e t k first second) → StopsNone second → AllHavePlaces (begin e t) first → AllHavePlaces (begin e t) second → KeepsRemembered e v t first → KeepsRemembered e v t second
-second_kept e v t first second z r s none p q k = kept_same v (seen_in (begin e t) first) (seen_in (begin e t) second) (λ n. order_seen e t n first second z r s none p q) k
+second_kept : (e : Endpoint) (v : PeerSettings) (t : Table) (first second : Transcript) → NoneWaits t → KeepsRules e t first → ((k : ℕ) → SameOn e t k first second) → StopsNone second → AreTaken e second → AllHavePlaces (begin e t) first → AllHavePlaces (begin e t) second → KeepsRemembered e v t first → KeepsRemembered e v t second
+second_kept e v t first second z r s none valid p q k = kept_same v (seen_in (begin e t) first) (seen_in (begin e t) second) (λ n. order_seen e t n first second z r s none valid p q) k
 
-pub resumed_order_over : (e : Endpoint) (v : PeerSettings) (t : Table) (first second : Transcript) → NoneWaits t → KeepsRules e t first → ((k : ℕ) → SameOn e t k first second) → StopsNone second → AllHavePlaces (begin e t) first → AllHavePlaces (begin e t) second → KeepsRemembered e v t first → (after (resumes e v t) second).connection.over ≡ false
-resumed_order_over e v t first second z r s none p q k = resumed_kept e v t second (order_over e t first second z r s none q) (second_kept e v t first second z r s none p q k)
+pub resumed_order_over : (e : Endpoint) (v : PeerSettings) (t : Table) (first second : Transcript) → NoneWaits t → KeepsRules e t first → ((k : ℕ) → SameOn e t k first second) → StopsNone second → AreTaken e second → AllHavePlaces (begin e t) first → AllHavePlaces (begin e t) second → KeepsRemembered e v t first → (after (resumes e v t) second).connection.over ≡ false
+resumed_order_over e v t first second z r s none valid p q k = resumed_kept e v t second (order_over e t first second z r s none valid q) (second_kept e v t first second z r s none valid p q k)
 
-pub resumed_order_seen : (e : Endpoint) (v : PeerSettings) (t : Table) (n : ℕ) (first second : Transcript) → NoneWaits t → KeepsRules e t first → ((k : ℕ) → SameOn e t k first second) → StopsNone second → AllHavePlaces (begin e t) first → AllHavePlaces (begin e t) second → KeepsRemembered e v t first → on_stream n (seen_in (resumes e v t) second) ≡ on_stream n (seen_in (resumes e v t) first)
-resumed_order_seen e v t n first second z r s none p q k =
-    ap (λ (l : List (ℕ × Seen)). on_stream n l) (resumed_seen e v t second (resumed_order_over e v t first second z r s none p q k))
-    ∙ order_seen e t n first second z r s none p q
+pub resumed_order_seen : (e : Endpoint) (v : PeerSettings) (t : Table) (n : ℕ) (first second : Transcript) → NoneWaits t → KeepsRules e t first → ((k : ℕ) → SameOn e t k first second) → StopsNone second → AreTaken e second → AllHavePlaces (begin e t) first → AllHavePlaces (begin e t) second → KeepsRemembered e v t first → on_stream n (seen_in (resumes e v t) second) ≡ on_stream n (seen_in (resumes e v t) first)
+resumed_order_seen e v t n first second z r s none valid p q k =
+    ap (λ (l : List (ℕ × Seen)). on_stream n l) (resumed_seen e v t second (resumed_order_over e v t first second z r s none valid p q k))
+    ∙ order_seen e t n first second z r s none valid p q
     ∙ ap (λ (l : List (ℕ × Seen)). on_stream n l) (sym (resumed_seen e v t first (resumed_kept e v t first (rules_kept e t first z r p) k)))
 
 -- ---- 0-RTT is not accepted

@@ -11,7 +11,7 @@ use Rattle.wtp_connection.specs.declared.settings.PeerSettings.{PeerSettings}
 use Rattle.wtp_connection.specs.declared.stream.Purpose.{Purpose}
 use Rattle.wtp_connection.specs.declared.stream.Stream.{Stream}
 use Rattle.wtp_connection.specs.declared.stream.Stream.TheVariants.{Waiting, Session}
-use Rattle.wtp_connection.specs.Datagrams.{Taken, taken, after_taken}
+use Rattle.wtp_connection.specs.Datagrams.{taken, after_taken}
 use Rattle.wtp_connection.specs.Opening.{is_for_critical}
 use Rattle.wtp_connection.specs.Receiving.{seen_of, rest_after, FoundIs, settings_of, settings_after}
 use Rattle.wtp_connection.specs.Streams.{without_resumption, configured, accepts, closed_by, Seen, bytes_seen, StreamRun, rests, followed, run_stream, ended, Joined, stops}
@@ -21,7 +21,8 @@ use Rattle.wtp_transcripts.specs.Transcript.{read, Held, called, end_seen, Table
 use Rattle.wtp_transcripts.specs.Calls.{Call, Arrived, Returned, Made, CallIs, CallStep, Accepts, Stops, Datagram, EarlyDataRefused, At, Leads, calls_on, AreReads, arrived, end_arrived, found_in, IsIdle}
 use Rattle.wtp_transcripts.proofs.AlikeLemmas.{Goes, goes_same, closed_goes, RunsAlike, read_alike, opened_first, peer_flags, plain_agree}
 use Rattle.wtp_transcripts.proofs.CallLemmas.{call_finds}
-use Rattle.wtp_transcripts.proofs.IndependentLemmas.{call_alike, its_place, flags_open, Opens, accepted_opens, stopped_opens}
+use Rattle.wtp_transcripts.proofs.DatagramLemmas.{datagram_over}
+use Rattle.wtp_transcripts.proofs.IndependentLemmas.{call_alike, its_place, flags_open, Opens, accepted_opens, stopped_opens, datagram_opens}
 use Rattle.wtp_transcripts.proofs.OnceLemmas.{or_twice, or_none}
 use Rattle.wtp_transcripts.proofs.OverLemmas.{over_read, read_from, call_over, accepted_over, stopped_over}
 use Rattle.wtp_transcripts.proofs.ShowLemmas.{has_broke, has_opening, opening_later, read_shows, read_hides}
@@ -108,17 +109,6 @@ opens_follows c d h o = record {
 }
 
 -- a datagram
-datagram_opens : (c : Connection) (x : Taken) → Opens c (after_taken c x)
-datagram_opens c (Ok d) = record { endpoint = refl; flags = λ p e. e; plain = λ e. e }
-datagram_opens c (Err f) = record { endpoint = (closed_goes c c f).endpoint; flags = λ p. flags_open c (closed_by c f) p ((closed_goes c c f).flags p); plain = (closed_goes c c f).plain }
-
-datagram_over : (c : Connection) (bytes : List ℕ) → c.over ≡ true → (after_taken c (taken c bytes)).over ≡ true
-datagram_over c bytes e = none_taken (c.over || not c.endpoint.datagrams) _ (ap (λ (b : Bool). b || not c.endpoint.datagrams) e) ∙ e
-  where
-    none_taken : (b : Bool) (x : Taken) → b ≡ true → (after_taken c (cond {A = Taken} b (Ok None) x)).over ≡ c.over
-    none_taken true x h = refl
-    none_taken false x h = absurd (false≢true h)
-
 datagram_follows : (c : Connection) (bytes : List ℕ) → Follows c (after_taken c (taken c bytes))
 datagram_follows c bytes = opens_follows c (after_taken c (taken c bytes)) (datagram_opens c (taken c bytes)) (datagram_over c bytes)
 

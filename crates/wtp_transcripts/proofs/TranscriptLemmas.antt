@@ -3,7 +3,7 @@ use Rattle.std.proofs.Common.{◌≡◌, ℕ, Bool, true, false, cond, eqb, List
 use Rattle.std.proofs.lemmas.List.{map-append}
 use Rattle.wtp_connection.specs.declared.connection.Connection.{Connection}
 use Rattle.wtp_connection.specs.Streams.{Seen, StreamRun}
-use Rattle.wtp_transcripts.specs.Transcript.{read, Held, Event, Came, Outcome, outcome_of, after_seen, happens, Table, with_held, Accepted, Stopped, On, Transcript, State, at_stream, next, after, marked, seen_in}
+use Rattle.wtp_transcripts.specs.Transcript.{read, Held, Event, Came, Outcome, outcome_of, after_seen, happens, Table, with_held, Accepted, Stopped, Datagram, On, Transcript, State, at_stream, next, after, marked, seen_in}
 use Rattle.wtp_transcripts.proofs.CutLemmas.{read_cut}
 
 -- ---- tables that agree
@@ -26,6 +26,7 @@ pub same_seen : (steps : Transcript) (c d : Connection) (t u : Table) → c ≡ 
 same_seen [] c d t u e h = refl
 same_seen (Accepted n ∷ steps) c d t u e h = same_seen steps (next (state_of c t) (Accepted n)).connection (next (state_of d u) (Accepted n)).connection t u (ap (λ (x : Connection). (next (state_of x t) (Accepted n)).connection) e) h
 same_seen (Stopped p ∷ steps) c d t u e h = same_seen steps (next (state_of c t) (Stopped p)).connection (next (state_of d u) (Stopped p)).connection t u (ap (λ (x : Connection). (next (state_of x t) (Stopped p)).connection) e) h
+same_seen (Datagram bytes ∷ steps) c d t u e h = same_seen steps (next (state_of c t) (Datagram bytes)).connection (next (state_of d u) (Datagram bytes)).connection t u (ap (λ (x : Connection). (next (state_of x t) (Datagram bytes)).connection) e) h
 same_seen (On n e ∷ steps) c d t u is h =
     let same : happens c (t n) e ≡ happens d (u n) e = outcome_same c t u n e h ∙ ap (λ (x : Connection). happens x (u n) e) is in
     ap (λ (x : Outcome). marked n x.seen ++ seen_in (state_of (happens c (t n) e).connection (with_held n (happens c (t n) e).held t)) steps) same
@@ -35,6 +36,7 @@ pub same_after : (steps : Transcript) (c d : Connection) (t u : Table) → c ≡
 same_after [] c d t u e h = e
 same_after (Accepted n ∷ steps) c d t u e h = same_after steps (next (state_of c t) (Accepted n)).connection (next (state_of d u) (Accepted n)).connection t u (ap (λ (x : Connection). (next (state_of x t) (Accepted n)).connection) e) h
 same_after (Stopped p ∷ steps) c d t u e h = same_after steps (next (state_of c t) (Stopped p)).connection (next (state_of d u) (Stopped p)).connection t u (ap (λ (x : Connection). (next (state_of x t) (Stopped p)).connection) e) h
+same_after (Datagram bytes ∷ steps) c d t u e h = same_after steps (next (state_of c t) (Datagram bytes)).connection (next (state_of d u) (Datagram bytes)).connection t u (ap (λ (x : Connection). (next (state_of x t) (Datagram bytes)).connection) e) h
 same_after (On n e ∷ steps) c d t u is h =
     let same : happens c (t n) e ≡ happens d (u n) e = outcome_same c t u n e h ∙ ap (λ (x : Connection). happens x (u n) e) is in
     same_after steps (happens c (t n) e).connection (happens d (u n) e).connection (with_held n (happens c (t n) e).held t) (with_held n (happens d (u n) e).held u) (ap (λ (x : Outcome). x.connection) same) (table_same t u n (happens c (t n) e).held (happens d (u n) e).held (ap (λ (x : Outcome). x.held) same) h)

@@ -26,12 +26,13 @@ use Rattle.wtp_connection.specs.declared.stream.Purpose.{Purpose}
 use Rattle.wtp_connection.specs.declared.stream.Purpose.TheVariants as «for»
 use Rattle.wtp_connection.specs.declared.stream.Stream.{Stream}
 use Rattle.wtp_connection.specs.declared.stream.Stream.TheVariants.{Uni, Bi, Frames, Joining, Waiting, Session, Encoder, Decoder, Ignored, Over, Incomplete}
+use Rattle.wtp_connection.specs.Datagrams.{Taken, taken, after_taken}
 use Rattle.wtp_connection.specs.Fault.{scope_of}
 use Rattle.wtp_connection.specs.Instructions.{sets_zero, after_bytes}
 use Rattle.wtp_connection.specs.Opening.{connected, uni_at, bi_at, is_critical, is_for_critical, over_from, over_by}
 use Rattle.wtp_connection.specs.Requests.{with_request}
 use Rattle.wtp_connection.specs.Streams.{with_stream, opens, opens_once, closed_in, closed_by, StreamRun, rests, all_given, breaks, by_settings, of_items, has_frames, bytes_seen, by_capacity, by_place, run_open, by_purpose, by_opening, run_intact, run_stream, by_fault, end_of, ending, ended, most_waiting, Joined, refuses, settles, waits, freed, joins_open, joins, by_interim, tells_open, without, overflows_open, configured, received_settings}
-use Rattle.wtp_transcripts.specs.Transcript.{read, Held, Event, Came, Told, Interim, Tunnelled, Reset, Overflowed, Abandoned, Outcome, outcome_of, called, unread, ends, reads_on, happens, end_seen, Table, with_held, Accepted, Stopped, On, Transcript, State, at_stream, next, after, places, waiting_among, is_among, AreDistinct, AreOf}
+use Rattle.wtp_transcripts.specs.Transcript.{read, Held, Event, Came, Told, Interim, Tunnelled, Reset, Overflowed, Abandoned, Outcome, outcome_of, called, unread, ends, reads_on, happens, end_seen, Table, with_held, Accepted, Stopped, Datagram, On, Transcript, State, at_stream, next, after, places, waiting_among, is_among, AreDistinct, AreOf}
 
 -- ---- runs
 
@@ -320,6 +321,10 @@ pub stopped_waiting : (b : Bool) (c : Connection) (f : Fault) (o : Option Fault)
 stopped_waiting true c f o = closed_waiting c f
 stopped_waiting false c f o = refl
 
+pub datagram_waiting : (c : Connection) (x : Taken) → (after_taken c x).waiting ≡ c.waiting
+datagram_waiting c (Ok d) = refl
+datagram_waiting c (Err f) = closed_waiting c f
+
 -- the connection counts the streams that wait, which are not too many
 record IsCounted (ns : List ℕ) (x : State) : Type 0 where
   count : x.connection.waiting ≡ waiting_among ns x.streams
@@ -332,6 +337,7 @@ steps_counted : (steps : Transcript) (ns : List ℕ) (x : State) → AreDistinct
 steps_counted [] ns x d o h = h
 steps_counted (Accepted n ∷ steps) ns x d o h = steps_counted steps ns (next x (Accepted n)) d o (counted ns x.connection (next x (Accepted n)).connection x.streams (accepted_waiting x.connection.endpoint.side x.connection n) h)
 steps_counted (Stopped p ∷ steps) ns x d o h = steps_counted steps ns (next x (Stopped p)) d o (counted ns x.connection (next x (Stopped p)).connection x.streams (stopped_waiting (is_for_critical p && not x.connection.over) x.connection (fault.Stream stream.ClosedCriticalStream) (Some (fault.Stream stream.ClosedCriticalStream))) h)
+steps_counted (Datagram bytes ∷ steps) ns x d o h = steps_counted steps ns (next x (Datagram bytes)) d o (counted ns x.connection (next x (Datagram bytes)).connection x.streams (datagram_waiting x.connection (taken x.connection bytes)) h)
 steps_counted (On n e ∷ steps) ns x d o h =
     let fits : places (x.streams n).stream ≤ x.connection.waiting = omega (arith, its_places ns n x.streams o.0, h.count) in
     let y : EventCounts x.connection (x.streams n).stream (at_stream x n e) = event_counts e x.connection (x.streams n) fits in

@@ -1,5 +1,5 @@
 -- What happens on a connection of many streams, in any order, and what is found on each of them.
-use Rattle.std.specs.Prelude.{◌≡◌, ◌⊎◌, ℕ, ◌+◌, ◌<◌, ◌==◌, ◌||◌, if◌then◌else◌, Bool, true, false, List, [], ◌∷◌, ◌++◌, map, drop, Option, Some, None}
+use Rattle.std.specs.Prelude.{◌≡◌, ◌⊎◌, ℕ, ◌+◌, ◌<◌, ◌==◌, ◌||◌, if◌then◌else◌, Bool, true, false, List, [], ◌∷◌, ◌++◌, map, drop, Option, Some, None, Ok}
 use Rattle.wtp_frames.specs.declared.endpoint.Endpoint.{Endpoint}
 use Rattle.wtp_connection.specs.declared.connection.Connection.{Connection}
 use Rattle.wtp_connection.specs.declared.connection.Found.{Found}
@@ -12,6 +12,7 @@ use Rattle.wtp_connection.specs.declared.stream.Purpose.{Purpose}
 use Rattle.wtp_connection.specs.declared.stream.Purpose.TheVariants as «for»
 use Rattle.wtp_connection.specs.declared.stream.Stream.{Stream}
 use Rattle.wtp_connection.specs.declared.stream.Stream.TheVariants.{Joining, Waiting}
+use Rattle.wtp_connection.specs.Datagrams.{Taken, taken, after_taken}
 use Rattle.wtp_connection.specs.Opening.{connected, is_for_critical}
 use Rattle.wtp_connection.specs.Resumption.{loses_capacity, loses_limits}
 use Rattle.wtp_connection.specs.Receiving.{seen_of, rest_after, FoundIs}
@@ -203,10 +204,11 @@ abbrev pub with_held : ℕ → Held → Table → Table
 with_held n h t = λ k. if n == k then h else t k
 
 -- The peer opens a stream, of which the table has the state that `accept` returns; the peer asks to stop
--- an own stream for this purpose; or an event of a stream.
+-- an own stream for this purpose; a datagram comes; or an event of a stream.
 pub data Step : Type 0 where
   Accepted : ℕ → Step
   Stopped : Purpose → Step
+  Datagram : List ℕ → Step
   On : ℕ → Event → Step
 
 abbrev pub Transcript : Type 0
@@ -235,6 +237,10 @@ next x (Accepted n) =
     record { connection = (accepts x.connection n).0; streams = x.streams }
 next x (Stopped p) =
     record { connection = (stops x.connection p).0; streams = x.streams }
+next x (Datagram bytes) = record {
+  connection = after_taken x.connection (taken x.connection bytes);
+  streams = x.streams;
+}
 next x (On n e) = record {
   connection = (at_stream x n e).connection;
   streams = with_held n (at_stream x n e).held x.streams;
@@ -259,6 +265,19 @@ found_by x other = []
 abbrev pub seen_in : State → Transcript → List (ℕ × Seen)
 seen_in x [] = []
 seen_in x (a ∷ steps) = found_by x a ++ seen_in (next x a) steps
+
+-- the datagrams that come
+abbrev pub datagrams_in : Transcript → List (List ℕ)
+datagrams_in [] = []
+datagrams_in (Datagram bytes ∷ steps) = bytes ∷ datagrams_in steps
+datagrams_in (other ∷ steps) = datagrams_in steps
+
+-- what the connection takes each of them for, in their order
+abbrev pub taken_in : State → Transcript → List Taken
+taken_in x [] = []
+taken_in x (Datagram bytes ∷ steps) =
+    taken x.connection bytes ∷ taken_in (next x (Datagram bytes)) steps
+taken_in x (other ∷ steps) = taken_in (next x other) steps
 
 -- what is found on stream n, in its order
 abbrev pub on_stream : ℕ → List (ℕ × Seen) → List Seen
@@ -339,14 +358,22 @@ StopsNone [] = Unit {0}
 StopsNone (Stopped p ∷ steps) = (is_for_critical p ≡ false) × StopsNone steps
 StopsNone (other ∷ steps) = StopsNone steps
 
--- No stream alone has an error that ends the connection; and of control, encoder and decoder streams
--- there is at most one each.
+-- no datagram alone is an error
+abbrev pub AreTaken : Endpoint → Transcript → Type 0
+AreTaken e [] = Unit {0}
+AreTaken e (Datagram bytes ∷ steps) =
+    ((d : Option (ℕ × List ℕ)) × (taken (connection_of e) bytes ≡ Ok d)) × AreTaken e steps
+AreTaken e (other ∷ steps) = AreTaken e steps
+
+-- No stream and no datagram alone has an error that ends the connection; and of control, encoder and
+-- decoder streams there is at most one each.
 pub record KeepsRules (e : Endpoint) (t : Table) (steps : Transcript) : Type 0 where
   pub sound : (n : ℕ) → (alone_on e t n steps).connection.over ≡ false
   pub once : (p : Purpose) (n m : ℕ)
       → is_opened (alone_on e t n steps).connection p ≡ true
       → is_opened (alone_on e t m steps).connection p ≡ true → n ≡ m
   pub stops : StopsNone steps
+  pub datagrams : AreTaken e steps
 
 -- each stream has a place whenever it is to wait
 abbrev pub AllHavePlaces : State → Transcript → Type 0

@@ -1,6 +1,6 @@
 //! Laws of the definitions that the contracts of `wtp_connection` cite, about all streams of a
 //! connection. Each function does nothing: its contract is the law.
-ghost use Rattle.std.specs.Prelude.{◌≡◌, ℕ, ◌%◌, ◌≤◌, ◌||◌, Bool, true, false, List, [], ◌∷◌, ◌++◌, length, Some, None};
+ghost use Rattle.std.specs.Prelude.{◌≡◌, ℕ, ◌%◌, ◌≤◌, ◌||◌, Bool, true, false, List, [], ◌∷◌, ◌++◌, map, length, Some, None, Ok};
 ghost use Rattle.wtp_core.specs.Varint.{Encodes};
 ghost use Rattle.wtp_frames.specs.declared.endpoint.Endpoint.{Endpoint};
 ghost use Rattle.wtp_connection.specs.declared.connection.Connection.{Connection};
@@ -10,10 +10,11 @@ ghost use Rattle.wtp_connection.specs.declared.settings.PeerSettings.{PeerSettin
 ghost use Rattle.wtp_connection.specs.declared.stream.Purpose.TheVariants as «for»;
 ghost use Rattle.wtp_connection.specs.declared.stream.Stream.{Stream};
 ghost use Rattle.wtp_connection.specs.declared.stream.Stream.TheVariants.{Uni, Bi, Waiting, Session};
+ghost use Rattle.wtp_connection.specs.Datagrams.{taken};
 ghost use Rattle.wtp_connection.specs.Receiving.{FoundIs, seen_of, consumed_in};
 ghost use Rattle.wtp_connection.specs.Streams.{connection_of, resuming_of, without_resumption, Opened, bytes_seen};
 ghost use Rattle.wtp_transcripts.specs.Calls.{CallStep, Leads, calls_on, AreReads, arrived, end_arrived, found_in, IsIdle};
-ghost use Rattle.wtp_transcripts.specs.Transcript.{read, AreCalls, seen_by, Held, Event, Came, Told, happens, alone, bytes_in, end_in, last_said, at_once, joined, EndsOnce, IsPiece, IsRead, IsStill, Table, Step, On, Transcript, State, begin, next, after, found_by, seen_in, on_stream, events_of, end_seen, places, waiting_among, AreDistinct, AreOf, HasPlaces, KeepsRules, StopsNone, AllHavePlaces, WaitAmong, NoneWaits, SameOn, resumes, KeepsRemembered};
+ghost use Rattle.wtp_transcripts.specs.Transcript.{read, AreCalls, seen_by, Held, Event, Came, Told, happens, alone, bytes_in, end_in, last_said, at_once, joined, EndsOnce, IsPiece, IsRead, IsStill, Table, Step, On, Transcript, State, begin, next, after, found_by, seen_in, datagrams_in, taken_in, on_stream, events_of, end_seen, places, waiting_among, AreDistinct, AreOf, HasPlaces, KeepsRules, StopsNone, AreTaken, AllHavePlaces, WaitAmong, NoneWaits, SameOn, resumes, KeepsRemembered};
 
 /// A loop of calls that goes on until one returns `More` finds all that is in the bytes, and at the end
 /// of the stream if it comes after them. The connection, the stream and the bytes that are left are
@@ -209,15 +210,26 @@ pub fn valid_connections_go_on()
 /// same, and no error ends the connection. If other calls are made on a stream (its HEADERS are said to be
 /// those of an interim response or to make it a tunnel; it is reset or abandoned, or told of the end of
 /// its session), the same are made in both orders, with the same bytes between them, however cut.
-/// Datagrams are no events here: of what comes between two of them `calls_may_be_interleaved` speaks.
+/// Datagrams may come in either order, wherever they do: what they are is in `datagrams_are_independent`.
 pub fn order_makes_no_difference()
     ensures seen { (e : Endpoint) (t : Table) (n : ℕ) (first second : Transcript) → NoneWaits t
         → KeepsRules e t first → ((k : ℕ) → SameOn e t k first second) → StopsNone second
-        → AllHavePlaces (begin e t) first → AllHavePlaces (begin e t) second
+        → AreTaken e second → AllHavePlaces (begin e t) first → AllHavePlaces (begin e t) second
         → on_stream n (seen_in (begin e t) second) ≡ on_stream n (seen_in (begin e t) first) }
     ensures over { (e : Endpoint) (t : Table) (first second : Transcript) → NoneWaits t
         → KeepsRules e t first → ((k : ℕ) → SameOn e t k first second) → StopsNone second
-        → AllHavePlaces (begin e t) second → (after (begin e t) second).connection.over ≡ false }
+        → AreTaken e second → AllHavePlaces (begin e t) second
+        → (after (begin e t) second).connection.over ≡ false }
+{}
+
+/// A datagram is the same wherever it comes between the bytes of streams, while no error ends the
+/// connection: it has its session and its payload, or is dropped if the own SETTINGS do not enable
+/// datagrams. After an error nothing is taken.
+pub fn datagrams_are_independent()
+    ensures taken { (x : State) (steps : Transcript) → (after x steps).connection.over ≡ false
+        → taken_in x steps ≡ map (λ b. taken x.connection b) (datagrams_in steps) }
+    ensures over { (x : State) (steps : Transcript) → x.connection.over ≡ true
+        → taken_in x steps ≡ map (λ b. Ok None) (datagrams_in steps) }
 {}
 
 /// On a connection that resumes a session and that no error ends, everything is found as on one that
@@ -246,13 +258,13 @@ pub fn resumption_changes_nothing_else()
 pub fn order_makes_no_difference_to_a_resumed_session()
     ensures seen { (e : Endpoint) (v : PeerSettings) (t : Table) (n : ℕ) (first second : Transcript)
         → NoneWaits t → KeepsRules e t first → ((k : ℕ) → SameOn e t k first second)
-        → StopsNone second → AllHavePlaces (begin e t) first → AllHavePlaces (begin e t) second
-        → KeepsRemembered e v t first
+        → StopsNone second → AreTaken e second → AllHavePlaces (begin e t) first
+        → AllHavePlaces (begin e t) second → KeepsRemembered e v t first
         → on_stream n (seen_in (resumes e v t) second)
         ≡ on_stream n (seen_in (resumes e v t) first) }
     ensures over { (e : Endpoint) (v : PeerSettings) (t : Table) (first second : Transcript)
         → NoneWaits t → KeepsRules e t first → ((k : ℕ) → SameOn e t k first second)
-        → StopsNone second → AllHavePlaces (begin e t) first → AllHavePlaces (begin e t) second
-        → KeepsRemembered e v t first
+        → StopsNone second → AreTaken e second → AllHavePlaces (begin e t) first
+        → AllHavePlaces (begin e t) second → KeepsRemembered e v t first
         → (after (resumes e v t) second).connection.over ≡ false }
 {}

@@ -32,7 +32,7 @@ last_byte h b n v (x ∷ rest) none e =
     absurd (not_none ((n, v), drop (length p.s) h) (pair_at h) none (ap pair_at whole ∙ pair_at-encoded n v p.s (drop (length p.s) h) p.encoded))
 
 -- the end of bytes that follow others is the end of them all
-tail_of : (h a g b : List ℕ)
+pub tail_of : (h a g b : List ℕ)
     → g ++ b ≡ h ++ a
     → length b ≤ length a
     → b ≡ drop (length a - length b) a
@@ -49,8 +49,9 @@ tail_of h a g b e l =
 pub value_given : (r : Found) (k : CapsuleType) (v : List ℕ) (n : ℕ) (a : List ℕ) (q : Place) (b : List ℕ)
     → ValueGives r k v n a q b
     → CapsuleIs r (Value k v n) a q b
-value_given (Err capsule_error.Memory) k v n a q b (p, e) = record {
+value_given (Err capsule_error.Memory) k v n a q b (p, e, l) = record {
   held = tt;
+  within = rw p l;
   same = λ more. rw (p, e) refl;
   fewer = omega (arith, ap length e);
   last = tail_of [] a [] b e (omega (arith, ap length e));
@@ -74,11 +75,13 @@ cut_given h a g b none e f =
     rw (at, e, f) refl
 
 pub head_lacks : (h a g b : List ℕ)
+    → pair_at g ≡ None
     → g ++ b ≡ h ++ a
     → length b ≤ length a
     → CapsuleIs (Err capsule_error.Memory) (Head h) a (Head g) b
-head_lacks h a g b e l = record {
+head_lacks h a g b none e l = record {
   held = tt;
+  within = none;
   same = λ more. ap head_taken (sym (append_assoc g b more) ∙ ap (λ (x : List ℕ). x ++ more) e ∙ append_assoc h a more);
   fewer = l;
   last = tail_of h a g b e l;
@@ -89,8 +92,9 @@ pub start_given : (r : Found) (h a mid : List ℕ) (id n : ℕ) (q : Place) (b :
     → length mid ≤ length a
     → StartGives r (sort_of id n) n mid q b
     → CapsuleIs r (Head h) a q b
-start_given (Err capsule_error.Memory) h a mid id n q b e l (k, is, p, f) = record {
+start_given (Err capsule_error.Memory) h a mid id n q b e l (k, is, p, f, some) = record {
   held = tt;
+  within = rw p some;
   same = λ more.
       let at : pair_at (h ++ (a ++ more)) ≡ Some ((id, n), mid ++ more) =
       ap pair_at (sym (append_assoc h a more)) ∙ pair_at-more (h ++ a) mid more id n e in

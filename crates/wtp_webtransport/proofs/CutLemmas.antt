@@ -17,7 +17,7 @@ use Rattle.wtp_webtransport.proofs.CapsuleLemmas.{no_pair, not_none}
 -- ---- a step takes something
 
 -- two numbers that are not complete in h end in what follows it
-longer : (h x : List ℕ) (n v : ℕ) (rest : List ℕ)
+pub longer : (h x : List ℕ) (n v : ℕ) (rest : List ℕ)
     → pair_at h ≡ None
     → pair_at (h ++ x) ≡ Some ((n, v), rest)
     → length rest < length x
@@ -44,7 +44,7 @@ record Moves (p : Place) (x : List ℕ) (t : Taken) : Type 0 where
   proper : IsProper t.1
   nearer : size t.1 t.2 < size p x
 
-abbrev Rests : Place → Taken → Type 0
+abbrev pub Rests : Place → Taken → Type 0
 Rests p t = t ≡ (Ok None, p, [])
 
 abbrev Steps : Place → List ℕ → Taken → Type 0
@@ -119,7 +119,7 @@ steps (Skipping n) x u = skip_steps n x
 
 -- ---- a run goes on step by step
 
-still : (n : ℕ) (p : Place) → Rests p (taken_of p []) → run_within n p [] ≡ rests p
+pub still : (n : ℕ) (p : Place) → Rests p (taken_of p []) → run_within n p [] ≡ rests p
 still zero p e = refl
 still (suc n) p e = ap (λ (t : Taken). by_taken (λ q rest. run_within n q rest) t) e ∙ still n p e
 

@@ -1,5 +1,8 @@
 -- Calls that take no bytes keep the session of a stream, end it or begin it.
-use Rattle.std.proofs.Common.{◌≡◌, ℕ, refl, sym, ap, ◌∙◌, cond, Bool, ◌&&◌, ◌||◌, true, false, Option, Some, None}
+use Rattle.std.proofs.Common.{◌≡◌, ℕ, refl, sym, ap, ◌∙◌, cond, not, Bool, ◌&&◌, ◌||◌, true, false, Option, Some, None}
+use Rattle.wtp_frames.specs.declared.endpoint.Side.{Side}
+use Rattle.wtp_frames.specs.declared.endpoint.Side.TheVariants.{Client, Server}
+use Rattle.wtp_connection.specs.declared.connection.Connection.{Connection as Streams}
 use Rattle.wtp_core.specs.declared.error.scope.ErrorScope.{ErrorScope}
 use Rattle.wtp_core.specs.declared.error.scope.ErrorScope.TheVariants as scope
 use Rattle.wtp_connection.specs.declared.connection.Known.{Known}
@@ -7,7 +10,7 @@ use Rattle.wtp_connection.specs.declared.fault.Fault.{Fault as StreamsFault}
 use Rattle.wtp_connection.specs.declared.stream.Stream.{Stream as Frames}
 use Rattle.wtp_connection.specs.declared.stream.Stream.TheVariants as frames
 use Rattle.wtp_connection.specs.Fault.{scope_of as streams_scope}
-use Rattle.wtp_connection.specs.Streams.{Joined as After, joins as joins_streams, resets as resets_frames, overflows as overflows_frames}
+use Rattle.wtp_connection.specs.Streams.{Joined as After, joins as joins_streams, resets as resets_frames, abandons as abandons_frames, overflows as overflows_frames}
 use Rattle.wtp_messages.specs.declared.message.Message.{Message}
 use Rattle.wtp_messages.specs.Response.{is_success}
 use Rattle.wtp_webtransport.specs.declared.fault.Fault.{Fault}
@@ -21,7 +24,7 @@ use Rattle.wtp_webtransport.specs.Events as told
 use Rattle.wtp_webtransport.specs.Fault.{scope_of}
 use Rattle.wtp_webtransport.specs.Streams.{after_end, with_streams, with_frames, with_part, connects, is_held, is_done, answered, answered_by}
 use Rattle.wtp_webtransport.specs.Receiving.{closed_by}
-use Rattle.wtp_webtransport.specs.Joining.{Outcome, reset_told, reset_in, reset_by, resets, lost_if, abandons, stops_half, joined_told, joined_by, joining_of, joins, overflowed_by, overflows}
+use Rattle.wtp_webtransport.specs.Joining.{Outcome, reset_told, reset_in, reset_by, resets, lost_if, abandons, stops_half, joined_told, joined_by, joining_of, joins, overflowed_by, overflows, is_request, is_beyond, rejected_by, rejects}
 use Rattle.wtp_webtransport.specs.Endings.{begins_session, ends_session, accepts_session, Keeps, KeepsAfter}
 use Rattle.wtp_webtransport.proofs.EndingLemmas.{quiet, over, held_after_end, begins_fault, ends_fault}
 
@@ -104,6 +107,32 @@ pub overflow_keeps : (c : Connection) (s : Stream) → KeepsAfter s (overflows c
 overflow_keeps c s =
     either c.over s _ _ (unchanged s c)
     (overflowed_keeps (overflows_frames c.streams s.frames) c s)
+
+-- ---- requests that are not processed
+
+request_unheld : (side : Side) (p : Part) → is_request side p ≡ true → is_held p ≡ false
+request_unheld Client p e = absurd (cc e)
+request_unheld Server (part.Session size) e = absurd (cc e)
+request_unheld Server part.Losing e = absurd (cc e)
+request_unheld Server other e = refl
+
+guarded : (over request beyond : Bool) (s : Stream) (x y : Outcome)
+    → (request ≡ true → KeepsAfter s x)
+    → KeepsAfter s y
+    → KeepsAfter s (cond (not over && (request && beyond)) x y)
+guarded true request beyond s x y h k = k
+guarded false false beyond s x y h k = k
+guarded false true true s x y h k = h refl
+guarded false true false s x y h k = k
+
+rejected_keeps : (s : Stream) (c : Connection) (x : Streams × Frames) → is_held s.part ≡ false → KeepsAfter s (rejected_by c s x)
+rejected_keeps s c x h = quiet s.part _ (after_end s.part) refl refl (held_after_end s.part ∙ sym h)
+
+pub reject_keeps : (c : Connection) (s : Stream) (id : ℕ) (goaway : Option ℕ) → KeepsAfter s (rejects c s id goaway)
+reject_keeps c s id goaway =
+    guarded c.over (is_request c.endpoint.side s.part) (is_beyond goaway id) s _ _
+    (λ e. rejected_keeps s c (abandons_frames c.streams s.frames) (request_unheld c.endpoint.side s.part e))
+    (unchanged s c)
 
 -- ---- answers
 

@@ -12,3 +12,6 @@ pub mod WordLemmas
 pub mod PlaceLemmas
 pub mod PieceLemmas
 pub mod RunLemmas
+pub mod SaidLemmas
+pub mod SaidRunLemmas
+pub mod ProgressLemmas

@@ -12,6 +12,7 @@ use Rattle.wtp_webtransport.proofs.CallLemmas.{receives_again}
 use Rattle.wtp_webtransport.proofs.StopLemmas.{calls_stop}
 use Rattle.wtp_webtransport.proofs.GivenLemmas.{calls_give}
 use Rattle.wtp_webtransport.proofs.PieceLemmas.{calls_give_pieces}
+use Rattle.wtp_webtransport.proofs.PlaceLemmas.{received_within}
 
 -- ---- one call beside another
 
@@ -134,7 +135,7 @@ first_stops : (limit : ℕ) (z : Outcome) (c : Connection) (s : Stream) (a b : L
 first_stops limit z c s a b fin h e fs gs w y f g =
     let p : IsCall limit z.2 z.3 (drop z.0 a ++ b) fin (first_of fs w) = first_call limit fs w z.2 z.3 (drop z.0 a ++ b) fin f in
     let q : IsCall limit c s (a ++ b) fin (first_of gs y) = first_call limit gs y c s (a ++ b) fin g in
-    begins_beside limit fs gs w y z.2 c z.3 s (drop z.0 a ++ b) (a ++ b) z.0 fin (sym (drop-append-le z.0 a b h.within)) f g
+    begins_beside limit fs gs w y z.2 c z.3 s (drop z.0 a ++ b) (a ++ b) z.0 fin (sym (drop-append-le z.0 a b (received_within limit c s a false z h.gives))) f g
     (beside z.0 (length (a ++ b)) (first_of fs w) (first_of gs y) (calls_stop limit c s a b fin z (first_of fs w) (first_of gs y) h.ordinary h.gives e p.gives (first_memory limit fs w z.2 z.3 (drop z.0 a ++ b) fin f) q.gives (first_memory limit gs y c s (a ++ b) fin g)))
 
 -- a call after which the caller goes on, and its like
@@ -191,7 +192,7 @@ run_stops limit (o ∷ os) z c s a b fin h e fs gs w y f g =
     let q : IsCall limit c s (a ++ b) fin (first_of gs y) = first_call limit gs y c s (a ++ b) fin g in
     let m : HasMemory (first_of gs y) = first_memory limit gs y c s (a ++ b) fin g in
     let goes : Beside 0 o (first_of gs y) → SaysTo (told_before (o ∷ os) ++ told_all fs w) w gs y =
-    λ k. regrouped o os gs w y (told_all fs w) (goes_beside limit o os gs y w (told_before os ++ told_all fs w) c s a b fin h.0.within h.1 k g (λ hs r. run_stops limit os z o.2 o.3 (drop o.0 a) b fin h.2 e fs hs w y f r)) in
+    λ k. regrouped o os gs w y (told_all fs w) (goes_beside limit o os gs y w (told_before os ++ told_all fs w) c s a b fin (received_within limit c s a false o h.0.gives) h.1 k g (λ hs r. run_stops limit os z o.2 o.3 (drop o.0 a) b fin h.2 e fs hs w y f r)) in
     elim (piece_or_not o.1) [
       | inr whole ↦ goes (beside 0 (length (a ++ b)) o (first_of gs y) (calls_give limit c s a b fin o (first_of gs y) h.0.ordinary (λ x. cc (sym h.1 ∙ x)) h.0.gives (λ x. cc (sym h.1 ∙ x)) whole q.gives m))
       | inl piece ↦ elim (calls_give_pieces limit c s a b fin o (first_of gs y) h.0.ordinary h.0.frames h.0.gives piece (h.0.free piece) q.gives m) [
@@ -229,7 +230,7 @@ run_ends limit (o ∷ os) gs z y c s a b fin h e g =
     let q : IsCall limit c s (a ++ b) fin (first_of gs y) = first_call limit gs y c s (a ++ b) fin g in
     let m : HasMemory (first_of gs y) = first_memory limit gs y c s (a ++ b) fin g in
     let goes : Beside 0 o (first_of gs y) → SaysTo (told_all (o ∷ os) z) z gs y =
-    λ k. regrouped o os gs z y (spread z.1) (goes_beside limit o os gs y z (told_all os z) c s a b fin h.0.within h.1 k g (λ hs r. run_ends limit os hs z y o.2 o.3 (drop o.0 a) b fin h.2 e r)) in
+    λ k. regrouped o os gs z y (spread z.1) (goes_beside limit o os gs y z (told_all os z) c s a b fin (received_within limit c s a false o h.0.gives) h.1 k g (λ hs r. run_ends limit os hs z y o.2 o.3 (drop o.0 a) b fin h.2 e r)) in
     elim (piece_or_not o.1) [
       | inr whole ↦ goes (beside 0 (length (a ++ b)) o (first_of gs y) (calls_give limit c s a b fin o (first_of gs y) h.0.ordinary (λ x. cc (sym h.1 ∙ x)) h.0.gives (λ x. cc (sym h.1 ∙ x)) whole q.gives m))
       | inl piece ↦ elim (calls_give_pieces limit c s a b fin o (first_of gs y) h.0.ordinary h.0.frames h.0.gives piece (h.0.free piece) q.gives m) [

@@ -1,5 +1,5 @@
 -- Calls of one stream, and what they say together, however its bytes are cut.
-use Rattle.std.specs.Prelude.{◌≡◌, ◌⊎◌, ◌≤◌, ℕ, ◌+◌, Bool, false, List, [], ◌∷◌, ◌++◌, map, length, drop}
+use Rattle.std.specs.Prelude.{◌≡◌, ◌⊎◌, ℕ, ◌+◌, Bool, false, List, [], ◌∷◌, ◌++◌, map, length, drop}
 use Rattle.wtp_messages.specs.declared.malformed.Malformed.TheVariants.{MissingHead, ContentTooLong}
 use Rattle.wtp_webtransport.specs.declared.connection.messages.Taken.{Taken}
 use Rattle.wtp_webtransport.specs.declared.connection.messages.Taken.TheVariants as taken
@@ -126,15 +126,14 @@ HasFrames p t = Unit {0}
 
 -- ---- the calls of a stream, one after the other
 
--- What holds at a call: there is no open session, the stream of a message has frames, pieces of content
--- come on no stream that must not be closed, and the bytes that are consumed came.
+-- What holds at a call: there is no open session, the stream of a message has frames, and pieces of
+-- content come on no stream that must not be closed.
 pub record IsCall (limit : ℕ) (c : Connection) (s : Stream) (bytes : List ℕ) (fin : Bool)
     (o : Outcome) : Type 0 where
   pub ordinary : IsSession s.part → ⊥
   pub frames : HasFrames s.part s.frames
   pub gives : Receives limit c s bytes fin o
   pub free : IsPiece o.1 → is_critical o.3.frames ≡ false
-  pub within : o.0 ≤ length bytes
 
 -- the caller goes on with the bytes that are left after the first outcomes, and not after the last one
 abbrev pub Reads : ℕ → List Outcome → Outcome → Connection → Stream → List ℕ → Bool → Type 0

@@ -98,10 +98,17 @@ abbrev pub IsHeld : Place → Type 0
 IsHeld (Skipping n) = ⊥
 IsHeld other = Unit {0}
 
--- Allocation failed, for a type, a length or a value: the bytes that are left are the last of all, and
--- whatever follows, they give from the new place on what all gave from the old one.
+-- a type and a length are not complete, and bytes of a value are missing
+abbrev pub IsWithin : Place → Type 0
+IsWithin (Head head) = pair_at head ≡ None
+IsWithin (Value k value missing) = 0 < missing
+IsWithin (Skipping missing) = 0 < missing
+
+-- Allocation failed, for a type, a length or a value of at least a byte: the bytes that are left are the
+-- last of all, and whatever follows, they give from the new place on what all gave from the old one.
 pub record LacksMemory (old : Place) (a : List ℕ) (new : Place) (b : List ℕ) : Type 0 where
   pub held : IsHeld old
+  pub within : IsWithin new
   pub same : (more : List ℕ) → taken_of new (b ++ more) ≡ taken_of old (a ++ more)
   pub fewer : length b ≤ length a
   pub last : b ≡ drop (length a - length b) a
@@ -114,13 +121,14 @@ CapsuleIs found old a new b = (found, new, b) ≡ taken_of old a
 
 -- the bytes of a value of which these came and so many are missing
 abbrev pub ValueGives : Found → CapsuleType → List ℕ → ℕ → List ℕ → Place → List ℕ → Type 0
-ValueGives (Err capsule_error.Memory) k v n a place b = (place ≡ Value k v n) × (b ≡ a)
+ValueGives (Err capsule_error.Memory) k v n a place b =
+    (place ≡ Value k v n) × (b ≡ a) × (0 < n)
 ValueGives found k v n a place b = (found, place, b) ≡ value_taken k v n a
 
 -- those after a type and a length
 abbrev pub StartGives : Found → Sort → ℕ → List ℕ → Place → List ℕ → Type 0
 StartGives (Err capsule_error.Memory) sort n a place b =
-    (k : CapsuleType) × (sort ≡ Read k) × (place ≡ Value k [] n) × (b ≡ a)
+    (k : CapsuleType) × (sort ≡ Read k) × (place ≡ Value k [] n) × (b ≡ a) × (0 < n)
 StartGives found sort n a place b = (found, place, b) ≡ starts sort n a
 
 -- A type and a length, of which the bytes h came, and the bytes a that follow: they are not complete

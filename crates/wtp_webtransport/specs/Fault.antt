@@ -11,10 +11,12 @@ code_of (fault.Streams f) = streams_code f
 code_of (fault.Section e) = 0x0200
 code_of fault.SectionPrefix = 0x0200
 code_of fault.Capsule = 0x010e
+code_of fault.Rejected = 0x010b
 
 -- a section that cannot be decoded ends the connection; a capsule that is invalid makes the message
 -- malformed
 abbrev pub scope_of : Fault → ErrorScope
 scope_of (fault.Streams f) = streams_scope f
 scope_of fault.Capsule = Stream
+scope_of fault.Rejected = Stream
 scope_of other = Connection

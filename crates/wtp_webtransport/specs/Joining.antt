@@ -1,6 +1,6 @@
 -- Streams of sessions, streams that end before their last byte, and datagrams (RFC 9114, sections
 -- 4.1.1 and 6.2.1; draft-ietf-webtrans-http3-02, section 4; RFC 9297, section 2).
-use Rattle.std.specs.Prelude.{ℕ, ◌||◌, if◌then◌else◌, Bool, true, false, List, Option, Some, None, Result, Ok, Err}
+use Rattle.std.specs.Prelude.{ℕ, nat_le, ◌||◌, ◌&&◌, not, if◌then◌else◌, Bool, true, false, List, Option, Some, None, Result, Ok, Err}
 use Rattle.wtp_core.specs.declared.error.scope.ErrorScope.{ErrorScope}
 use Rattle.wtp_core.specs.declared.error.scope.ErrorScope.TheVariants as scope
 use Rattle.wtp_connection.specs.declared.connection.Connection.{Connection as Streams}
@@ -17,8 +17,12 @@ use Rattle.wtp_webtransport.specs.declared.fault.Fault.TheVariants as fault
 use Rattle.wtp_webtransport.specs.declared.event.Waits.TheVariants as wait
 use Rattle.wtp_webtransport.specs.declared.connection.Connection.{Connection}
 use Rattle.wtp_webtransport.specs.declared.stream.Stream.{Stream}
-use Rattle.wtp_webtransport.specs.Events.{Told, Joined, Reset, SessionLost, Waits, More}
+use Rattle.wtp_webtransport.specs.Events.{Told, Joined, Reset, SessionLost, StreamError, Waits, More}
 use Rattle.wtp_webtransport.specs.Receiving.{closed_by}
+use Rattle.wtp_frames.specs.declared.endpoint.Side.{Side}
+use Rattle.wtp_frames.specs.declared.endpoint.Side.TheVariants.{Server}
+use Rattle.wtp_webtransport.specs.declared.stream.Part.{Part}
+use Rattle.wtp_webtransport.specs.declared.stream.Part.TheVariants as part
 use Rattle.wtp_webtransport.specs.Streams.{with_streams, with_frames, ended, is_held, is_done}
 
 abbrev pub Outcome : Type 0
@@ -99,6 +103,30 @@ overflowed_by c s (d, t, Some f) =
 abbrev pub overflows : Connection → Stream → Outcome
 overflows c s =
     if c.over then (More, c, s) else overflowed_by c s (overflows_frames c.streams s.frames)
+
+-- a request that goes on, of which this endpoint answered nothing
+abbrev pub is_request : Side → Part → Bool
+is_request Server (part.Head m) = true
+is_request Server (part.Unanswered session m) = true
+is_request Server (part.Body m) = true
+is_request _ p = false
+
+-- the ID in the own GOAWAY is that of this request or of one before it
+abbrev pub is_beyond : Option ℕ → ℕ → Bool
+is_beyond None id = false
+is_beyond (Some first) id = nat_le first id
+
+abbrev pub rejected_by : Connection → Stream → Streams × Frames → Outcome
+rejected_by c s x =
+    (StreamError fault.Rejected, with_streams c x.0, with_frames (ended s) x.1)
+
+-- A request from the ID of the own GOAWAY on is rejected (RFC 9114, sections 4.1.1 and 5.2). A stream of
+-- a session is no request.
+abbrev pub rejects : Connection → Stream → ℕ → Option ℕ → Outcome
+rejects c s id goaway =
+    if not c.over && (is_request c.endpoint.side s.part && is_beyond goaway id)
+    then rejected_by c s (abandons_frames c.streams s.frames)
+    else (More, c, s)
 
 -- the peer asks to stop the own half of a stream: a session whose own stream it is ends by that
 abbrev pub stops_half : Connection → Stream → Outcome

@@ -12,3 +12,5 @@ pub mod Joining
 pub mod Endings
 pub mod Words
 pub mod Places
+pub mod Said
+pub mod Progress

@@ -15,7 +15,7 @@ use Rattle.wtp_connection.specs.declared.stream.Stream.TheVariants as frames
 use Rattle.wtp_connection.specs.declared.stream.Purpose.{Purpose}
 use Rattle.wtp_connection.specs.declared.stream.Purpose.TheVariants as «for»
 use Rattle.wtp_connection.specs.Opening.{remaining_of}
-use Rattle.wtp_connection.specs.Receiving.{FoundIs}
+use Rattle.wtp_connection.specs.Receiving.{FoundIs, IsNearer}
 use Rattle.wtp_connection.specs.First.{found_by, first_found}
 use Rattle.wtp_connection.specs.Streams.{Joined, tells_interim, abandons}
 use Rattle.wtp_fields.specs.declared.fields.FieldSectionError.{FieldSectionError}
@@ -391,6 +391,7 @@ pub record GoesOn (limit : ℕ) (c : Connection) (s : Stream) (bytes : List ℕ)
   pub t : Frames
   pub found : FoundIs x c.streams s.frames bytes fin d t
   pub first : found_by x bytes d t ≡ first_found fin c.streams s.frames bytes
+  pub nearer : IsNearer x s.frames bytes t
   pub gives : FoundGives limit x (with_streams c d) (with_frames s t) bytes o
 
 -- what is due comes first

@@ -97,6 +97,10 @@ member_if p = p
 abbrev pub with_session_id : Stream → Stream
 with_session_id s = with_part s (member_if s.part)
 
+abbrev pub IsOfSession : Part → Type 0
+IsOfSession part.OfSession = Unit {0}
+IsOfSession p = ⊥
+
 -- the response to a request that asked for this
 abbrev pub asking_stream : Frames → Asked → Stream
 asking_stream t a = record {

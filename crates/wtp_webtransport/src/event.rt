@@ -91,7 +91,8 @@ pub enum Event<'a> {
     /// request.
     TooLarge(Option<u64>),
     /// The message is malformed, by this rule. It is an error of its stream, with the code
-    /// H3_MESSAGE_ERROR. A server may first respond with status 400 (RFC 9114, section 4.1.2).
+    /// H3_MESSAGE_ERROR. A server may first respond with status 400 (RFC 9114, section 4.1.2). If a
+    /// field section breaks several rules, it may be any of them.
     Malformed(Malformed),
     /// An error of the stream: its own half is to be reset with the code, and the peer is to be asked
     /// to stop. If it is the own stream of an open session, the next call of `receive` returns

@@ -20,6 +20,9 @@ pub enum Fault {
     /// A capsule of a session is invalid, cut off by the end of the stream, or follows the one that
     /// closes the session (RFC 9297, section 3.3; draft-ietf-webtrans-http3-02, section 5).
     Capsule,
+    /// This endpoint does not process a request, after its GOAWAY (RFC 9114, sections 4.1.1 and 5.2).
+    /// That is no error of the peer.
+    Rejected,
 }
 
 impl Fault {
@@ -32,6 +35,7 @@ impl Fault {
             Fault::Section(_) => Code::QPACK_DECOMPRESSION_FAILED,
             Fault::SectionPrefix => Code::QPACK_DECOMPRESSION_FAILED,
             Fault::Capsule => Code::H3_MESSAGE_ERROR,
+            Fault::Rejected => Code::H3_REQUEST_REJECTED,
         }
     }
 
@@ -41,7 +45,7 @@ impl Fault {
     {
         match self {
             Fault::Streams(fault) => fault.scope(),
-            Fault::Capsule => ErrorScope::Stream,
+            Fault::Capsule | Fault::Rejected => ErrorScope::Stream,
             _ => ErrorScope::Connection,
         }
     }

@@ -4,10 +4,12 @@ ghost use Rattle.std.specs.Prelude.{◌≡◌, ◌||◌, ◌+◌, ◌<◌, ◌�
 ghost use Rattle.wtp_webtransport.specs.declared.connection.Connection.{Connection};
 ghost use Rattle.wtp_webtransport.specs.declared.stream.Stream.{Stream};
 ghost use Rattle.wtp_webtransport.specs.Receiving.{Outcome, Receives};
-ghost use Rattle.wtp_webtransport.specs.Calls.{Stops, Finishes, Reads, SaysTo, left_of, told_before, told_all, course_of, plain, moved, IsSession, IsPiece, HasMemory, HasFrames, Grown};
+ghost use Rattle.wtp_webtransport.specs.Calls.{Stops, Finishes, Continues, Reads, SaysTo, left_of, told_before, told_all, course_of, plain, moved, IsSession, IsPiece, HasMemory, HasFrames, Grown};
+ghost use Rattle.wtp_webtransport.specs.Progress.{IsSound, calls_left, GoOn};
+ghost use Rattle.wtp_webtransport.specs.Said.{of_session, said, Says, Follow, IsOpen, SessionReads, session_told, AreAlike};
 ghost use Rattle.wtp_connection.specs.Opening.{is_critical};
 ghost use Rattle.wtp_webtransport.specs.Endings.{KeepsSession, KeepsAfter, accepts_session};
-ghost use Rattle.wtp_webtransport.specs.Joining.{resets, stops_half, abandons, joins, overflows};
+ghost use Rattle.wtp_webtransport.specs.Joining.{resets, stops_half, abandons, joins, overflows, rejects};
 ghost use Rattle.wtp_webtransport.specs.Streams.{is_held, answered};
 ghost use Rattle.wtp_connection.specs.declared.connection.Known.{Known};
 ghost use Rattle.wtp_messages.specs.Content.{fits, left_after};
@@ -32,12 +34,14 @@ pub fn sessions_end_once()
     ensures abandon { (c : Connection) (s : Stream) → KeepsAfter s (abandons c s) }
     ensures join { (c : Connection) (s : Stream) (k : Known) → KeepsAfter s (joins c s k) }
     ensures overflow { (c : Connection) (s : Stream) → KeepsAfter s (overflows c s) }
+    ensures reject { (c : Connection) (s : Stream) (id : ℕ) (goaway : Option ℕ)
+        → KeepsAfter s (rejects c s id goaway) }
     ensures answer { (s : Stream) (status : ℕ) → is_held (answered s status).part
         ≡ (is_held s.part || accepts_session s.part status) }
 {}
 
-/// The bytes of a stream may be cut anywhere, but for the content of a session (of that see
-/// [`content_of_sessions_may_be_cut`]). Wherever the calls have memory:
+/// The bytes of a stream may be cut anywhere, but for those of an open session (of that see
+/// [`sessions_may_be_cut`]). Wherever the calls have memory:
 ///
 /// - `stops`: after a call on the bytes `a` that needs more bytes, or waits, a call with what it left
 ///   and `b` returns what one on `a` and `b` returns.
@@ -67,8 +71,8 @@ pub fn calls_may_be_cut()
 /// However the bytes of a stream are cut, its calls say the same: the calls on the bytes `a`, up to one
 /// that needs more bytes or waits, and then those on what it left and `b`, say together what the calls on
 /// `a` and `b` say, byte by byte of pieces, and end with the same states; up to an error or the end they
-/// say so alone. This is with memory, before a session is open on the stream, and where each call consumes
-/// bytes that came.
+/// say so alone. This is with memory, and before a session is open on the stream (of that see
+/// [`sessions_may_be_cut`]).
 pub fn streams_may_be_cut()
     ensures stops { (limit : ℕ) (os fs gs : List Outcome) (z w y : Outcome) (c : Connection) (s : Stream)
         (a b : List ℕ) (fin : Bool) → Reads limit os z c s a false → course_of z.1 ≡ Stops
@@ -79,12 +83,45 @@ pub fn streams_may_be_cut()
         → Reads limit gs y c s (a ++ b) fin → SaysTo (told_all os z) z gs y }
 {}
 
+/// However the bytes of the own stream of an open session are cut, its calls say the same of the session,
+/// as long as it is open, also where allocation failed:
+///
+/// - `call`: what is said of all bytes is what a call on the first of them says, and then what is said of
+///   those that it leaves and those that follow; or what it says alone, if the session ends with it.
+/// - `stays`: after it the session is open, or it ended with the call.
+/// - `stops`: the calls on the bytes `a`, and then those on what they left and `b`, say together what the
+///   calls on `a` and `b` say.
+/// - `alike`: and if the session is still open then, it is equally far.
+/// - `ends`: if the session ends in the bytes `a`, what follows them makes no difference.
+pub fn sessions_may_be_cut()
+    ensures call { (limit : ℕ) (c : Connection) (s : Stream) (a b : List ℕ) (fin end : Bool) (o : Outcome)
+        (h : IsOpen c s a) → Follow fin b end → Receives limit c s a fin o
+        → Says end (drop o.0 a ++ b) (of_session o.1) o (said end h.size c s (a ++ b)) }
+    ensures stays { (limit : ℕ) (c : Connection) (s : Stream) (a : List ℕ) (fin : Bool) (o : Outcome)
+        → IsOpen c s a → Receives limit c s a fin o → IsSession o.3.part
+        → IsOpen o.2 o.3 (drop o.0 a) }
+    ensures stops { (limit : ℕ) (os fs gs : List Outcome) (z w y : Outcome) (c : Connection) (s : Stream)
+        (a b : List ℕ) (fin : Bool) → IsOpen c s a → SessionReads limit os z c s a false
+        → IsSession z.3.part → SessionReads limit fs w z.2 z.3 (left_of os z a ++ b) fin
+        → SessionReads limit gs y c s (a ++ b) fin
+        → session_told gs y ≡ session_told os z ++ session_told fs w }
+    ensures alike { (limit : ℕ) (os fs gs : List Outcome) (z w y : Outcome) (c : Connection) (s : Stream)
+        (a b : List ℕ) (fin : Bool) → IsOpen c s a → SessionReads limit os z c s a false
+        → IsSession z.3.part → SessionReads limit fs w z.2 z.3 (left_of os z a ++ b) fin
+        → SessionReads limit gs y c s (a ++ b) fin → IsSession w.3.part → IsSession y.3.part
+        → AreAlike w y (left_of fs w (left_of os z a ++ b)) (left_of gs y (a ++ b)) }
+    ensures ends { (limit : ℕ) (os gs : List Outcome) (z y : Outcome) (c : Connection) (s : Stream)
+        (a b : List ℕ) (fin : Bool) → IsOpen c s a → SessionReads limit os z c s a false
+        → (IsSession z.3.part → ⊥) → SessionReads limit gs y c s (a ++ b) fin
+        → session_told gs y ≡ session_told os z }
+{}
+
 /// The content of a session may be cut anywhere, also where allocation failed: whatever follows the
 /// bytes of a call, the capsules of all are the one that it returned, and then those of the bytes that
 /// it left.
 pub fn content_of_sessions_may_be_cut()
     ensures capsules { (found : Found) (p q : Place) (a b more : List ℕ)
-        → IsProper p → IsProper q → CapsuleIs found p a q b
+        → IsProper p → CapsuleIs found p a q b
         → run p (a ++ more) ≡ after_found found (run q (b ++ more)) }
     ensures places { (begun : Option CapsuleType) (missing : ℕ) (head value : List ℕ)
         → IsPlace begun missing head value → IsProper (place_by begun missing head value) }
@@ -123,9 +160,24 @@ pub fn prefixes_that_name_a_table_are_refused()
     ensures neither { (b : ℕ) (more : List ℕ) → b < 128 → names_table (0 ∷ b ∷ more) ≡ false }
 {}
 
-/// The bytes that an event refers to are the last of those that are consumed with it.
-#[tactic(auto, using(crate::proofs::PlaceLemmas::received_placed))]
+/// No call consumes more bytes than it was passed, and those that an event refers to are the last of
+/// them.
+#[tactic(auto, using(crate::proofs::PlaceLemmas::received_placed, crate::proofs::PlaceLemmas::received_within))]
 pub fn bytes_of_events_are_consumed_last()
-    ensures { (limit : ℕ) (c : Connection) (s : Stream) (bytes : List ℕ) (fin : Bool) (o : Outcome)
+    ensures within { (limit : ℕ) (c : Connection) (s : Stream) (bytes : List ℕ) (fin : Bool) (o : Outcome)
+        → Receives limit c s bytes fin o → o.0 ≤ length bytes }
+    ensures last { (limit : ℕ) (c : Connection) (s : Stream) (bytes : List ℕ) (fin : Bool) (o : Outcome)
         → Receives limit c s bytes fin o → IsPlaced o.1 o.0 bytes }
+{}
+
+/// A loop of calls ends: of `n` bytes at most `n + 3` calls return an event after which the caller goes on
+/// with the bytes that are left, before one needs more bytes, waits, lacks memory, or returns the last
+/// event of the stream.
+#[tactic(auto, using(crate::proofs::ProgressLemmas::call_nears, crate::proofs::ProgressLemmas::calls_few))]
+pub fn calls_end()
+    ensures call { (limit : ℕ) (c : Connection) (s : Stream) (bytes : List ℕ) (fin : Bool) (o : Outcome)
+        → IsSound s → Receives limit c s bytes fin o → course_of o.1 ≡ Continues
+        → calls_left o.3 (drop o.0 bytes) < calls_left s bytes }
+    ensures all { (limit : ℕ) (os : List Outcome) (c : Connection) (s : Stream) (bytes : List ℕ) (fin : Bool)
+        → GoOn limit os c s bytes fin → length os ≤ length bytes + 3 }
 {}

@@ -1,15 +1,16 @@
 //! Streams of sessions, streams that end before their last byte, and datagrams.
 ghost use Rattle.std.specs.Prelude.{◌≡◌, Ok, Err, MatchResult, option_map};
 ghost use Rattle.wtp_webtransport.specs.Events.{told_of};
-ghost use Rattle.wtp_webtransport.specs.Joining.{joins, resets, reset_told, stops_half, abandons, overflows, joining_of, joined_told, stops, takes, after_datagram};
+ghost use Rattle.wtp_webtransport.specs.Joining.{joins, resets, reset_told, stops_half, abandons, overflows, joining_of, joined_told, stops, takes, after_datagram, rejects, is_request as is_request_is, is_beyond as is_beyond_is};
 
 use crate::connection::Connection;
 use crate::event::{Event, Waits};
 use crate::fault::Fault;
-use crate::stream::Stream;
+use crate::stream::{Part, Stream};
 use wtp_connection::connection::Known;
 use wtp_connection::stream::{Purpose, Stream as Frames};
 use wtp_core::error::ErrorScope;
+use wtp_frames::endpoint::Side;
 
 impl Connection {
     /// Says what is known of the session of a stream: after [`Event::Joins`], and when that changes.
@@ -38,7 +39,8 @@ impl Connection {
     /// Returns `SessionLost` if it is the own stream of an open session, and otherwise `Reset`.
     /// `ConnectionError` is for the control stream (RFC 9114, section 6.2.1) and those of QPACK (RFC
     /// 9204, section 4.2). After the last event of the stream, and after an error of the connection,
-    /// it returns `More`, and nothing changes.
+    /// it returns `More`, and nothing changes. [`Stream::application_code`] has the code of the
+    /// application, for a stream of a session.
     pub fn reset(&mut self, stream: &mut Stream) -> Event<'static>
         ensures { (told_of result, self.new, stream.new) ≡ resets self.old stream.old }
     {
@@ -67,7 +69,8 @@ impl Connection {
     /// Returns `SessionLost` if it is the own stream of an open session, which ends by that: the
     /// stream is over. Otherwise the other half goes on, and it returns `More`; before the answer to a
     /// request for a session [`abandon`](Self::abandon) its stream, since no session can follow. Of a
-    /// stream that is opened in one direction see [`stopped`](Self::stopped).
+    /// stream that is opened in one direction see [`stopped`](Self::stopped). [`Stream::application_code`]
+    /// has the code of the application, for a stream of a session.
     pub fn stop(&mut self, stream: &mut Stream) -> Event<'static>
         ensures { (told_of result, self.new, stream.new) ≡ stops_half self.old stream.old }
     {
@@ -98,6 +101,25 @@ impl Connection {
         } else {
             Event::More
         }
+    }
+
+    /// Says, at a server, that the stream with this ID came, where `goaway` is the ID in the last GOAWAY
+    /// that this endpoint sent. Call it after [`Event::Opened`] with a message, and before the answer for
+    /// each request that goes on when GOAWAY is sent.
+    ///
+    /// Returns `StreamError`, with the code H3_REQUEST_REJECTED, if the stream is a request from that ID
+    /// on: the client may send it again on another connection (RFC 9114, sections 4.1.1 and 5.2). Its
+    /// bytes are discarded. Otherwise it returns `More`, and nothing changes: also if the stream belongs
+    /// to a session, and after an error of the connection.
+    pub fn reject(&mut self, stream: &mut Stream, id: u64, goaway: Option<u64>) -> Event<'static>
+        ensures { (told_of result, self.new, stream.new) ≡ rejects self.old stream.old id goaway }
+    {
+        if self.over || !is_request(self.endpoint.side, stream.part) || !is_beyond(goaway, id) {
+            return Event::More;
+        }
+        stream.end();
+        self.streams.abandon(&mut stream.frames);
+        Event::StreamError(Fault::Rejected)
     }
 
     /// Says that more bytes of a stream wait than the caller keeps. The stream is over: its bytes are
@@ -182,6 +204,26 @@ fn was_reset(held: bool, fault: Option<Fault>) -> Event<'static>
         Event::SessionLost
     } else {
         Event::Reset(fault)
+    }
+}
+
+// Returns whether a stream is a request that goes on, at a server.
+fn is_request(side: Side, part: Part) -> bool
+    ensures { result ≡ is_request_is side part }
+{
+    match (side, part) {
+        (Side::Server, Part::Head(_) | Part::Unanswered(_, _) | Part::Body(_)) => true,
+        _ => false,
+    }
+}
+
+// Returns whether a request comes after the last one that is processed.
+fn is_beyond(goaway: Option<u64>, id: u64) -> bool
+    ensures { result ≡ is_beyond_is goaway id }
+{
+    match goaway {
+        Some(first) => id >= first,
+        None => false,
     }
 }
 

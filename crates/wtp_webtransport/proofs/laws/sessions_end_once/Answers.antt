@@ -1,5 +1,5 @@
 use Rattle.wtp_webtransport.proofs.EndingLemmas.{sessions_kept}
-use Rattle.wtp_webtransport.proofs.HalfLemmas.{reset_keeps, stop_keeps, abandon_keeps, join_keeps, overflow_keeps, answer_keeps}
+use Rattle.wtp_webtransport.proofs.HalfLemmas.{reset_keeps, stop_keeps, abandon_keeps, join_keeps, overflow_keeps, reject_keeps, answer_keeps}
 use Rattle.wtp_webtransport.proofs.laws.sessions_end_once.Goals as goal
 
 pub returns-clause-receive : goal.returns-clause-receive
@@ -22,3 +22,6 @@ returns-clause-overflow c = overflow_keeps
 
 pub returns-clause-answer : goal.returns-clause-answer
 returns-clause-answer c = answer_keeps
+
+pub returns-clause-reject : goal.returns-clause-reject
+returns-clause-reject c = reject_keeps

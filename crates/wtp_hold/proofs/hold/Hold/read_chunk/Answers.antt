@@ -1,5 +1,6 @@
 use Rattle.std.proofs.Common.{rules, ℕ, ◌+◌, ◌≤◌, ◌<◌, List, ◌++◌, length, drop, sym, ap, subst, ◌∙◌}
 use Rattle.wtp_hold.proofs.HoldLemmas.{not_more, empty_rest, in_chunk, chunk_found, chunk_quiet, chunk_silent, chunk_within, chunk_limit, chunk_held, chunk_last, chunk_refused, none_last, chunk_later}
+use Rattle.wtp_hold.proofs.FirstLemmas.{chunk_first}
 use Rattle.wtp_hold.proofs.hold.Hold.read_chunk.Goals as goal
 
 pub returns-then-left-limit-clause-received : goal.returns-then-left-limit-clause-received
@@ -28,3 +29,6 @@ returns-then-is_empty-clause-received c = rw c.nothing_more.ensures (chunk_held 
 
 pub returns-in-Ok-clause-brought : goal.returns-in-Ok-clause-brought
 returns-in-Ok-clause-brought c = λ e h. chunk_later c.receive-found.result c.in-More.field-0 c.args.connection.now c.args.stream.now c.split_at.result.1.now c.args.self.now.fin c.receive-found.new.self c.receive-found.new.stream _ c.receive-found.ensures.found c.in-More.is e h
+
+pub returns-clause-first : goal.returns-clause-first
+returns-clause-first c = chunk_first c.receive-found.result c.consumed.result c.args.connection.now c.args.stream.now c.split_at.result.1.now c.args.chunk.now c.args.taken c.args.self.now c.receive-found.new.self c.receive-found.new.stream c.split_at.ensures.back c.receive-found.ensures.first (not_more c.receive-found.result c.in_default.not-More) c.consumed.ensures c.requires.none

@@ -2,6 +2,7 @@ use Rattle.std.proofs.Common.{rules, ◌≡◌, ◌&&◌, ℕ, List, ◌++◌, m
 use Rattle.std.proofs.lemmas.Grind.{common_steps}
 use Rattle.wtp_hold.specs.Holding.{joined, pending, taken_by}
 use Rattle.wtp_hold.proofs.HoldLemmas.{not_empty, chunk_then, held_received, still, still_quiet, empty_rest, past_least, moved, nothing_more_held, limit_reached, memory_refused, last_of_last, fewer_held, last_moved, last_of_all, taken_room, still_later, never_brought, few_brought, none_brought, one_brought}
+use Rattle.wtp_hold.proofs.FirstLemmas.{held_first, first_then}
 use Rattle.wtp_hold.proofs.hold.Hold.receive.Goals as goal
 
 pub returns-in-Some-clause-received : goal.returns-in-Some-clause-received
@@ -69,3 +70,9 @@ returns-in-None-take_more-clause-brought c = λ e h. never_brought (c.held.self.
 
 pub returns-then-is_empty-clause-brought : goal.returns-then-is_empty-clause-brought
 returns-then-is_empty-clause-brought c = λ e h. none_brought c.read_chunk.new.self (max 16 (length (pending c.args.self.now))) (c.read_chunk.ensures.brought (c.held.invariant.early e) h)
+
+pub returns-in-Some-clause-first : goal.returns-in-Some-clause-first
+returns-in-Some-clause-first c = held_first c.in-Some.found c.held.self.fin c.is_empty-last.result c.args.connection.now c.held.connection c.args.stream.now c.held.stream (joined c.args.self.now c.args.chunk.now) c.held.self c.read_held.new.connection c.read_held.new.stream c.read_held.new.self c.held.taken c.args.chunk.now c.split_at.result.1.now c.in-Some.ensures.read c.read_held.ensures.end c.split_at.ensures.back c.is_empty-last.ensures c.held.invariant.finds
+
+pub returns-then-is_empty-clause-first : goal.returns-then-is_empty-clause-first
+returns-then-is_empty-clause-first c = first_then c.read_chunk.result c.args.connection.now c.held.connection c.args.stream.now c.held.stream (joined c.args.self.now c.args.chunk.now) c.held.self.bytes.items (drop c.held.taken c.args.chunk.now) c.args.chunk.now c.read_chunk.new.self c.read_chunk.new.connection c.read_chunk.new.stream (grind (arith, common_steps)) c.held.invariant.finds c.read_chunk.ensures.first

@@ -27,4 +27,4 @@ returns-in-Err c =
     sym c.self.view_is ∙ place_head c.self.inside.begun c.self.inside.missing c.self.inside.head.items c.self.inside.value.items c.in-None.is (omega (arith, c.if-self-gt0.false)) in
     let new : place_by c.self.inside.begun c.self.inside.missing c.take_head.new.head.items c.self.inside.value.items ≡ Head c.take_head.new.head.items =
     place_head c.self.inside.begun c.self.inside.missing c.take_head.new.head.items c.self.inside.value.items c.in-None.is (omega (arith, c.if-self-gt0.false)) in
-    rw (old, new) (head_lacks c.self.inside.head.items c.args.bytes.now.now c.take_head.new.head.items c.take_head.new.bytes.now c.in-Err.ensures.1 c.in-Err.ensures.2)
+    rw (old, new) (head_lacks c.self.inside.head.items c.args.bytes.now.now c.take_head.new.head.items c.take_head.new.bytes.now c.in-Err.ensures.0 c.in-Err.ensures.1 c.in-Err.ensures.2)

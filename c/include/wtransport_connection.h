@@ -1,0 +1,286 @@
+/* Connections: the second part of wtransport.h, which includes this file. */
+#ifndef WTRANSPORT_CONNECTION_H
+#define WTRANSPORT_CONNECTION_H
+#include "wtransport.h"
+#ifdef __cplusplus
+extern "C" {
+#endif
+
+/* ---- Connections (RFC 9114; WebTransport over HTTP/3) ----
+
+   What is next on each stream of the peer, with messages and sessions. The caller keeps a
+   wt_connection, and for each stream of the peer a wt_stream and the bytes that were not consumed:
+   a QUIC stream that the peer opened, and the peer's half of one that was opened here. What the own
+   endpoint sends is written by the calls above.
+
+   The words of the structs have no meaning for the caller, and no pointers in them: they may be
+   copied, stored and compared. Other words than those that a call made are refused with WT_INVALID,
+   and change nothing, or they are those of another state.
+
+   Limits. 16 streams wait for sessions that are to come, and the next one is refused. 64 interim
+   responses are read, 1,024 frames in a row without anything for the caller, and SETTINGS of 4,096
+   bytes. The other limits are in wt_endpoint. How many bytes the caller keeps for a stream is its
+   own limit, of which wt_stream_overflow tells. */
+
+/* The version of the structs. Another one may give their words another meaning. */
+enum { WT_ABI = 1 };
+
+typedef struct wt_connection {
+  uint64_t words[32];
+} wt_connection;
+
+typedef struct wt_stream {
+  uint64_t words[26];
+} wt_stream;
+
+enum { WT_SIDE_CLIENT = 0, WT_SIDE_SERVER = 1 };
+
+/* The own endpoint. Its limits have no default: for SETTINGS_MAX_FIELD_SECTION_SIZE announce
+   max_fields. */
+typedef struct wt_endpoint {
+  uint8_t side;         /* one of WT_SIDE_.. */
+  uint8_t webtransport; /* 1 if the own SETTINGS enable WebTransport, otherwise 0 */
+  uint8_t datagrams;    /* 1 if they enable HTTP datagrams */
+  uint8_t extended;     /* 1 if they enable extended CONNECT, as a server for sessions does */
+  uint32_t max_section; /* the largest encoded field section that is read, in bytes: 65536, say */
+  uint64_t max_fields;  /* the largest decoded field section: for each field the lengths of its name
+                           and its value, and 32 */
+  uint64_t max_datagram; /* the longest datagram of a capsule that is returned, at most 65535: a
+                            longer one is dropped */
+  uint64_t reserved[5];  /* 0 */
+} wt_endpoint;
+
+/* Begins a connection. WT_INVALID: abi is not WT_ABI, or a number of *endpoint is out of its
+   range. */
+int wt_connection_new(uint32_t abi, const wt_endpoint *endpoint, wt_connection *connection);
+
+/* Whether the settings of both ends allow sessions: 1 or 0, which it is before the SETTINGS of the
+   peer came; or WT_INVALID. A client asks before it sends a request for one. */
+int wt_connection_allows_sessions(const wt_connection *connection);
+
+/* At a client: whether the request on the stream with this ID is not processed by the server, as
+   its GOAWAY says, and may be sent again on another connection (RFC 9114, section 5.2): 1 or 0; or
+   WT_INVALID. */
+int wt_connection_unprocessed(const wt_connection *connection, uint64_t id);
+
+/* Begins a stream that the peer opened, by its ID. WT_INVALID: *connection is not valid. */
+int wt_stream_accept(wt_connection *connection, uint64_t id, wt_stream *stream);
+
+enum { WT_ASKED_OTHER = 0, WT_ASKED_HEAD = 1, WT_ASKED_CONNECT = 2, WT_ASKED_SESSION = 3 };
+
+/* Begins the response to an own request, by what that asks for: one of WT_ASKED_..
+   WT_INVALID: asked is another number, or *connection is not valid. */
+int wt_stream_of_request(const wt_connection *connection, uint32_t asked, wt_stream *stream);
+
+/* Begins the peer's half of a bidirectional stream that was opened here for a session: it has no
+   header. WT_OK. */
+int wt_stream_of_session(uint64_t session, wt_stream *stream);
+
+/* What an event is. `number` is its number, and `detail` its detail. */
+enum {
+  WT_EVENT_MORE = 0,     /* more bytes are needed */
+  WT_EVENT_WAITS = 1,    /* the stream waits: detail is one of WT_WAITS_.., number the session */
+  WT_EVENT_OPENED = 2,   /* what the stream is for: detail is one of WT_PURPOSE_.. */
+  WT_EVENT_JOINS = 3,    /* the stream belongs to the session `number`: call wt_stream_join */
+  WT_EVENT_JOINED = 4,   /* that session is open: the bytes of the stream follow */
+  WT_EVENT_SETTINGS = 5, /* its payload, for wt_settings_read, is in the bytes */
+  WT_EVENT_GOAWAY = 6,   /* number is its ID */
+  WT_EVENT_FRAME = 7,    /* another frame of the control stream: detail is its type, and its payload
+                            is in the bytes */
+  WT_EVENT_HEADERS = 8,  /* fields: detail is one of WT_HEADERS_.., number a response's status */
+  WT_EVENT_SESSION_REQUESTED = 9, /* at a server, fields: a request for a session */
+  WT_EVENT_SESSION_READY = 10,    /* at a client, fields: the response that accepts it, with the
+                                     status `number` */
+  WT_EVENT_REJECTED = 11,       /* at a client, fields: one that does not; a response follows */
+  WT_EVENT_SESSION_CLOSED = 12, /* number is the application's code; its reason is in out */
+  WT_EVENT_SESSION_LOST = 13,   /* the session ended otherwise */
+  WT_EVENT_DATAGRAM = 14, /* of a capsule: it is in out. Of wt_datagram_receive, with detail 1: it
+                             is in the bytes, and number is the session */
+  WT_EVENT_DRAINING = 15, /* the session is to be closed soon */
+  WT_EVENT_SKIPPED = 16,  /* nothing for the application */
+  WT_EVENT_DATA = 17,     /* a piece of content, in the bytes */
+  WT_EVENT_STREAM_DATA = 18, /* a piece of a stream of a session, in the bytes */
+  WT_EVENT_TOO_LARGE = 19,   /* fields above the limits; number is their size if detail is 1 */
+  WT_EVENT_MALFORMED = 20,   /* the message is malformed by the rule `detail`, one of WT_RULE_..;
+                                number is WT_H3_MESSAGE_ERROR, for its stream */
+  WT_EVENT_STREAM_ERROR = 21,     /* number is the error code, for the stream: reset and stop it */
+  WT_EVENT_CONNECTION_ERROR = 22, /* number is the error code, for the connection: close it */
+  WT_EVENT_RESET = 23, /* the peer reset the stream: reset the own half too, with the code `number`
+                          if detail is 1 */
+  WT_EVENT_END = 24    /* the stream ended */
+};
+
+/* A session is over after WT_EVENT_SESSION_CLOSED and WT_EVENT_SESSION_LOST, on its own stream:
+   reset and stop all streams that belong to it, with WT_WEBTRANSPORT_SESSION_GONE. After
+   WT_EVENT_CONNECTION_ERROR every call returns WT_EVENT_MORE, and consumes all bytes. */
+
+enum {
+  WT_PURPOSE_CONTROL = 0,
+  WT_PURPOSE_ENCODER = 2, /* QPACK's */
+  WT_PURPOSE_DECODER = 3,
+  WT_PURPOSE_SESSION = 4, /* for wt_stopped alone: a stream of a session joins it */
+  WT_PURPOSE_MESSAGE = 6, /* a request */
+  WT_PURPOSE_IGNORED = 8  /* of an unknown type */
+};
+
+enum {
+  WT_HEADERS_REQUEST = 0,
+  WT_HEADERS_INTERIM = 1,
+  WT_HEADERS_RESPONSE = 2,
+  WT_HEADERS_TRAILERS = 3
+};
+
+enum { WT_WAITS_NOTHING = 0, WT_WAITS_SESSION = 1, WT_WAITS_SETTINGS = 2, WT_WAITS_ANSWER = 3 };
+
+/* The rules of messages (RFC 9114, sections 4.1 to 4.4; RFC 9297, section 3.2). */
+enum {
+  WT_RULE_INVALID_NAME = 1,
+  WT_RULE_INVALID_VALUE = 2,
+  WT_RULE_CONNECTION_FIELD = 3,
+  WT_RULE_INVALID_TE = 4,
+  WT_RULE_UNKNOWN_PSEUDO_HEADER = 5,
+  WT_RULE_LATE_PSEUDO_HEADER = 6,
+  WT_RULE_REPEATED_PSEUDO_HEADER = 7,
+  WT_RULE_INVALID_CONTENT_LENGTH = 8,
+  WT_RULE_MISSING_METHOD = 9,
+  WT_RULE_INVALID_METHOD = 10,
+  WT_RULE_MISSING_SCHEME = 11,
+  WT_RULE_INVALID_SCHEME = 12,
+  WT_RULE_MISSING_PATH = 13,
+  WT_RULE_INVALID_PATH = 14,
+  WT_RULE_MISSING_AUTHORITY = 15,
+  WT_RULE_INVALID_AUTHORITY = 16,
+  WT_RULE_CONNECT_WITH_TARGET = 17,
+  WT_RULE_UNEXPECTED_PROTOCOL = 18,
+  WT_RULE_INVALID_PROTOCOL = 19,
+  WT_RULE_CONTENT_FIELD = 20,
+  WT_RULE_MISSING_STATUS = 21,
+  WT_RULE_INVALID_STATUS = 22,
+  WT_RULE_UNEXPECTED_STATUS = 23,
+  WT_RULE_MISSING_HEAD = 24,
+  WT_RULE_CONTENT_TOO_LONG = 25,
+  WT_RULE_CONTENT_TOO_SHORT = 26
+};
+
+/* An event. What is in the bytes that were passed is `length` bytes from bytes[offset] on. */
+typedef struct wt_event {
+  uint32_t kind; /* one of WT_EVENT_.. */
+  uint32_t detail;
+  uint64_t number;
+  size_t consumed; /* the bytes that are consumed with it: the credit for QUIC's flow control */
+  size_t offset, length;
+  size_t fields;        /* the fields that it has, in the array of the caller */
+  size_t used;          /* the bytes of their texts, or of a reason or a datagram, in out */
+  size_t held;          /* the bytes that the stream holds after it, of a capsule that is cut */
+  uint64_t reserved[4]; /* 0 */
+} wt_event;
+
+/* Reads what is next in the bytes of a stream after those that were consumed before; fin is not 0
+   if the stream ends right after them. Call it until WT_EVENT_MORE or WT_EVENT_WAITS: the bytes
+   that were not consumed are then to be passed again, with more after them, or when the wait is
+   over. It allocates.
+   `held` keeps the bytes of a capsule that is cut between two calls of a session's own stream, as
+   long as this: room for 1028 bytes, or for max_datagram if that is more, suffices. Other streams
+   hold none, and may have null. `table` is for QPACK's dynamic table, which this version does not
+   have: null, with the length 0.
+   WT_OK: *event is the event. Its fields are the first event->fields of `fields`, with their texts
+   in `out`; event->used bytes of `out` are these texts, or what the comments above say.
+   WT_BUFFER_TOO_SMALL: an array is too short; *event is the event that comes with enough room, and
+   nothing else changed. WT_INVALID: *connection, *stream or the held bytes are not valid.
+   WT_UNSUPPORTED: a table is given. WT_MEMORY. */
+int wt_receive(wt_connection *connection, wt_stream *stream, uint8_t *held, size_t held_room,
+               uint8_t *table, size_t table_length, const uint8_t *bytes, size_t length,
+               uint8_t fin, wt_event *event, wt_field *fields, size_t fields_room, uint8_t *out,
+               size_t out_room);
+
+/* Says that the CONNECT request of a stream is answered with this status, after the answer was
+   written: with 2xx its session is open. 1xx changes nothing. WT_INVALID: *stream is not valid. The
+   bytes that are held stay, here and below. */
+int wt_stream_answer(wt_stream *stream, uint32_t status);
+
+/* What is known of a session. */
+enum {
+  WT_KNOWN_COMING = 0,    /* its request has not come, or has no answer yet */
+  WT_KNOWN_OPEN = 1,      /* it is open */
+  WT_KNOWN_OVER = 2,      /* it is over */
+  WT_KNOWN_REFUSED = 3,   /* its request was refused, or ended before its HEADERS */
+  WT_KNOWN_OTHER = 4,     /* its request asked for something else */
+  WT_KNOWN_IMPOSSIBLE = 5 /* no session can have this ID */
+};
+
+/* Says what is known of a session. `its` is the stream with that ID, if the caller has it: an array
+   of 0 or 1. A client keeps the stream of each session that it asked for as long as the connection
+   lives.
+   WT_OK: *known is one of WT_KNOWN_.. WT_INVALID: there are several streams, or *connection or the
+   stream is not valid. */
+int wt_session_known(const wt_connection *connection, uint64_t session, const wt_stream *its,
+                     size_t count, uint32_t *known);
+
+/* Says what is known of the session of a stream: after WT_EVENT_JOINS, and when it changes for a
+   stream that waits for it.
+   WT_OK: *event is WT_EVENT_JOINED, and its bytes follow; WT_EVENT_WAITS, and they are to be passed
+   again after the next call; WT_EVENT_STREAM_ERROR or WT_EVENT_CONNECTION_ERROR; or WT_EVENT_MORE
+   if nothing changes. WT_INVALID: known is none of WT_KNOWN_.., or *connection or *stream is not
+   valid. */
+int wt_stream_join(wt_connection *connection, wt_stream *stream, uint32_t known, wt_event *event);
+
+/* Says what a stream waits for.
+   WT_OK: *waits is one of WT_WAITS_.., and *session is the session that it waits for, otherwise 0.
+   WT_INVALID: *stream is not valid. */
+int wt_stream_waits(const wt_stream *stream, uint32_t *waits, uint64_t *session);
+
+/* Says which session a stream belongs to, or waits for.
+   WT_OK: *belongs is 1, and *session is the session; or both are 0. WT_INVALID: *stream is not
+   valid. */
+int wt_stream_belongs(const wt_stream *stream, uint32_t *belongs, uint64_t *session);
+
+/* The peer reset a stream: what was not read of it is lost.
+   WT_OK: *event is WT_EVENT_SESSION_LOST, WT_EVENT_RESET, WT_EVENT_CONNECTION_ERROR, or
+   WT_EVENT_MORE if the stream was over before. WT_INVALID, here and in the next three calls:
+   *connection or *stream is not valid. */
+int wt_stream_reset(wt_connection *connection, wt_stream *stream, wt_event *event);
+
+/* The peer asked to stop the own half of a bidirectional stream (STOP_SENDING): reset that half.
+   WT_OK: *event is WT_EVENT_SESSION_LOST if an open session ends by that, and otherwise
+   WT_EVENT_MORE. */
+int wt_stream_stop(wt_connection *connection, wt_stream *stream, wt_event *event);
+
+/* A stream is read no further, for a reason of the application; so a session is closed, after its
+   capsule and the end were written.
+   WT_OK: *event is WT_EVENT_SESSION_LOST if an open session ends by that, and otherwise
+   WT_EVENT_MORE. The control stream and those of QPACK stay as they are. */
+int wt_stream_abandon(wt_connection *connection, wt_stream *stream, wt_event *event);
+
+/* More bytes of a stream wait than the caller keeps: it is over.
+   WT_OK: *event is WT_EVENT_STREAM_ERROR if it waits for its session, and otherwise
+   WT_EVENT_CONNECTION_ERROR; or WT_EVENT_MORE if it was over. */
+int wt_stream_overflow(wt_connection *connection, wt_stream *stream, wt_event *event);
+
+/* The peer asked to stop a unidirectional stream that was opened here, for this purpose
+   (WT_PURPOSE_CONTROL, _ENCODER, _DECODER or _SESSION): reset it. WT_ERROR: *error_code is
+   WT_H3_CLOSED_CRITICAL_STREAM, for the connection. WT_INVALID: the purpose is another, or
+   *connection is not valid. */
+int wt_stopped(wt_connection *connection, uint32_t purpose, uint64_t *error_code);
+
+/* Reads a QUIC datagram.
+   WT_OK: *event is WT_EVENT_DATAGRAM with detail 1; WT_EVENT_SKIPPED if it is to be dropped; or
+   WT_EVENT_CONNECTION_ERROR. WT_INVALID: *connection is not valid. */
+int wt_datagram_receive(wt_connection *connection, const uint8_t *bytes, size_t length,
+                        wt_event *event);
+
+enum {
+  WT_DATAGRAM_DELIVER = 0, /* it is the application's */
+  WT_DATAGRAM_EARLY = 1,   /* its session is to come: keep it for about a round trip, or drop it */
+  WT_DATAGRAM_DROP = 2,    /* drop it */
+  WT_DATAGRAM_END_STREAM = 3 /* drop it, and reset and stop the stream of that ID with
+                                WT_H3_DATAGRAM_ERROR */
+};
+
+/* What to do with a datagram, by what is known of its session: one of WT_DATAGRAM_.., or
+   WT_INVALID. */
+int wt_datagram_use(uint32_t known);
+
+#ifdef __cplusplus
+}
+#endif
+#endif

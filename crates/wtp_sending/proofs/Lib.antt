@@ -1,0 +1,7 @@
+pub mod WriteLemmas
+pub mod ReadLemmas
+pub mod SentLemmas
+pub mod ChainLemmas
+pub mod TakenLemmas
+pub mod ControlLemmas
+pub mod SessionLemmas

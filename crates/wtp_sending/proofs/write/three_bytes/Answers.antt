@@ -1,0 +1,5 @@
+use Rattle.wtp_sending.proofs.WriteLemmas.{three_encoded}
+use Rattle.wtp_sending.proofs.write.three_bytes.Goals as goal
+
+pub returns-clause-bytes : goal.returns-clause-bytes
+returns-clause-bytes c = three_encoded _ _ _ _ _ _ _ _ c.encode-one.new.buffer c.encode-two.new.buffer c.encode-three.new.buffer c.encode-one.result c.encode-two.result c.encode-three.result c.encode-one.ensures.bytes c.encode-one.ensures.size c.encode-two.ensures.bytes c.encode-two.ensures.size c.encode-three.ensures.bytes c.encode-three.ensures.size

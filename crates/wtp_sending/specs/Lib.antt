@@ -1,0 +1,5 @@
+pub mod Writing
+pub mod Message
+pub mod Session
+pub mod Control
+pub mod Sent

@@ -1,0 +1,70 @@
+//! Laws of the definitions that the contracts cite. Each function does nothing: its contract is the
+//! law.
+ghost use Rattle.std.specs.Prelude.{◌≡◌, ◌<◌, ◌^◌, ◌%◌, ◌/◌, ◌++◌, ℕ, List, false, Some, None, Ok};
+ghost use Rattle.wtp_core.specs.Varint.{shortest};
+ghost use Rattle.wtp_wire.specs.Content.{SettingsOf, WebTransportOf};
+ghost use Rattle.wtp_wire.specs.Datagram.{datagram_in};
+ghost use Rattle.wtp_wire.specs.Front.{Framed, front};
+ghost use Rattle.wtp_wire.specs.Header.{WebTransportHeader};
+ghost use Rattle.wtp_wire.specs.HeaderFront.{Headed, header_front};
+ghost use Rattle.wtp_wire.specs.Settings.{settings_wire};
+ghost use Rattle.wtp_wire.specs.Wire.{wire};
+ghost use Rattle.wtp_qpack.specs.Field.{Field};
+ghost use Rattle.wtp_frames.specs.declared.endpoint.Endpoint.{Endpoint};
+ghost use Rattle.wtp_frames.specs.declared.frame_type.FrameType.TheVariants as kind;
+ghost use Rattle.wtp_frames.specs.declared.reader.Reader.{Reader};
+ghost use Rattle.wtp_frames.specs.Item.{Whole};
+ghost use Rattle.wtp_frames.specs.Start.{message_reader, control_reader};
+ghost use Rattle.wtp_sending.specs.declared.control.ControlSending.{ControlSending};
+ghost use Rattle.wtp_sending.specs.declared.message.Place.TheVariants.{Head};
+ghost use Rattle.wtp_sending.specs.declared.message.Sending.{Sending};
+ghost use Rattle.wtp_sending.specs.Control.{after_settings, goaway_bytes, after_goaway, IsControlAt, IsControlRead};
+ghost use Rattle.wtp_sending.specs.Message.{SendsHead, SendsTrailers};
+ghost use Rattle.wtp_sending.specs.Sent.{Sent, Leads, LeadsAll, IsAt, IsRead, AreRead, Takes};
+ghost use Rattle.wtp_sending.specs.Session.{uni_head, bi_head, datagram_head};
+
+/// What is sent on the stream of a message is read by the other end as it was meant: the bytes that
+/// a call wrote give exactly its field section or its bytes of DATA, and no fault, whatever was
+/// sent before and whatever follows; and after the end of the message the stream may end. After
+/// the HEADERS of an interim response the receiver says what they are, as `wtp_frames` requires.
+/// Without those, the bytes of all calls together give all of this, however they are cut.
+pub fn sent_messages_are_read()
+    ensures start { (e : Endpoint) → IsAt e (Head 0) 0 (message_reader e) }
+    ensures calls { (e : Endpoint) (x : Sent) (old new : Sending) (r : Reader)
+        → IsAt e old.place old.owed r → Leads x old new → IsRead e x new r }
+    ensures all { (e : Endpoint) (xs : List Sent) (old new : Sending) (r : Reader)
+        → IsAt e old.place old.owed r → LeadsAll xs old new → AreRead e xs new r }
+{}
+
+/// The sections that are sent are never malformed to the receiver of the message: it accepts each,
+/// and expects the same content after it.
+pub fn sent_sections_are_accepted()
+    ensures head { (old new : Sending) (fields : List Field) → SendsHead old fields new
+        → Takes old.message fields new.message }
+    ensures trailers { (old new : Sending) (fields : List Field) → SendsTrailers old fields new
+        → Takes old.message fields new.message }
+{}
+
+/// What is sent on the control stream after its type is read by the other end as it was meant,
+/// whatever was sent before and whatever follows.
+pub fn sent_control_frames_are_read()
+    ensures start { (e : Endpoint) → IsControlAt e false None (control_reader e) }
+    ensures settings { (e : Endpoint) (old new : ControlSending) (settings : List (ℕ × ℕ))
+        (r : Reader) → IsControlAt e old.settled old.goaway r → after_settings old settings ≡ Ok new
+        → IsControlRead e (wire (SettingsOf (settings_wire settings)))
+        (Whole kind.Settings (settings_wire settings)) new r }
+    ensures goaway { (e : Endpoint) (old new : ControlSending) (id : ℕ) (r : Reader)
+        → e.side ≡ old.to → id < 2 ^ 62 → IsControlAt e old.settled old.goaway r
+        → after_goaway old id ≡ Ok new
+        → IsControlRead e (goaway_bytes id) (Whole kind.GoAway (shortest id)) new r }
+{}
+
+/// The first bytes of a session's streams and datagrams name the session, whatever follows.
+pub fn sent_sessions_are_named()
+    ensures unidirectional { (id : ℕ) (more : List ℕ) → id < 2 ^ 62 → id % 4 ≡ 0
+        → header_front (uni_head id ++ more) ≡ Headed (WebTransportHeader id) more }
+    ensures bidirectional { (id : ℕ) (more : List ℕ) → id < 2 ^ 62 → id % 4 ≡ 0
+        → front (bi_head id ++ more) ≡ Framed (WebTransportOf id) more }
+    ensures datagram { (id : ℕ) (payload : List ℕ) → id < 2 ^ 62
+        → datagram_in (datagram_head id ++ payload) ≡ Some (id / 4, payload) }
+{}

@@ -1,0 +1,302 @@
+/* A client of WebTransport that opens sessions on the server (server.c), through the proxy or not,
+   in orders that the rules allow and that a network makes: streams before the CONNECT request of
+   their session, SETTINGS after it, ends before the answer. client PORT SECONDS CERTIFICATE
+   SESSIONS SEED It prints what failed, and ends with 'N passed, M failed': a check for each
+   session. */
+#include "h3.h"
+#include <inttypes.h>
+#include <stdio.h>
+#include <stdlib.h>
+#include <string.h>
+
+enum {
+  STREAMS = 10, /* of a session */
+  EARLY = 3, /* of these before its request: 16 may wait on a connection */
+  AT_ONCE = 5, /* sessions of a connection */
+  PER_CONNECTION = 20,
+  CONNECTIONS = 8, /* at once */
+  MAX_SIZE = 20000,
+  ORDERS = 4
+};
+
+/* How a session begins. On a connection with LATE_SETTINGS all first requests come before the
+ * SETTINGS. */
+enum { PLAIN, STREAMS_FIRST, END_FIRST, ENDED_STREAMS_FIRST };
+static const char *const orders[ORDERS] = {"plain", "streams before CONNECT",
+                                           "CONNECT and its end before the answer",
+                                           "ended streams and datagrams before the answer"};
+
+typedef struct session {
+  h3_stream *s;
+  int number, order, opened, back;
+  uint64_t due; /* when its request is sent; 0: it was sent */
+  uint64_t resets, reset; /* when the stream `reset` is reset; 0: it was, or there is none */
+  bool ready, closing, over, failed;
+} session;
+
+typedef struct run { /* of a connection */
+  session *sessions[AT_ONCE];
+  int begun, left;
+  bool allowed;
+  uint64_t settings_due; /* when its SETTINGS are sent; 0: they were sent */
+} run;
+
+typedef struct echo { /* of a stream that was opened here */
+  size_t size, came;
+  uint8_t key;
+} echo;
+
+static int port, wanted, begun, running, passed, failed;
+static unsigned long streams_back, resets, datagrams_sent, datagrams_back;
+static uint64_t random_state;
+static h3_connection *live[CONNECTIONS];
+static const char url[] = "https://localhost/echo";
+
+static uint64_t random_below(uint64_t n) {
+  random_state = random_state * 6364136223846793005u + 1442695040888963407u;
+  return (random_state >> 33) % n;
+}
+
+static void *allocate(size_t size) {
+  void *memory = calloc(1, size);
+  if (memory == NULL) exit(1);
+  return memory;
+}
+
+static session *of(h3_stream *s) {
+  h3_stream *its = s->session == UINT64_MAX ? s : h3_find(s->c, s->session);
+  return its && its->is_session ? its->user : NULL;
+}
+
+static void fail(session *of_it, const char *what, uint64_t number) {
+  if (of_it == NULL || of_it->failed) return;
+  of_it->failed = true;
+  printf("session %d (%s): %s %" PRIu64 "\n", of_it->number, orders[of_it->order], what, number);
+}
+
+/* Opens a stream, sends a text on it that can be checked, and ends it. */
+static bool open_stream(session *of_it) {
+  uint8_t bytes[MAX_SIZE];
+  bool one_way = of_it->opened % 5 == 2;
+  h3_stream *s = h3_open(of_it->s, !one_way);
+  if (s == NULL) return false;
+  echo *e = s->user = allocate(sizeof *e);
+  e->size = of_it->opened % 4 == 3 ? random_below(MAX_SIZE) : random_below(200);
+  e->key = (uint8_t)(2 + 4 * random_below(50)); /* not "!", for the server */
+  if (one_way && e->size == 0) e->size = 1;
+  for (size_t i = 0; i < e->size; i++) bytes[i] = (uint8_t)(e->key + 7 * i);
+  h3_send(s, bytes, e->size, true);
+  of_it->opened++;
+  return true;
+}
+
+/* Opens a stream that is reset at once: the server resets its half, or knows nothing of it yet. */
+static void open_reset_stream(session *of_it) {
+  static const uint8_t bytes[5000] = "a stream that is reset";
+  h3_stream *s = h3_open(of_it->s, true);
+  if (s == NULL) return;
+  h3_send(s, bytes, sizeof bytes, false);
+  of_it->resets = random_below(2) ? quic_now() + random_below(20000000) : 1;
+  of_it->reset = s->id;
+}
+
+static void send_datagram(session *of_it) {
+  h3_send_datagram(of_it->s, "datagram", 8);
+  datagrams_sent++;
+}
+
+static bool begin_session(h3_connection *c, session *of_it) {
+  if ((of_it->s = h3_connect(c, url, false)) == NULL) return false;
+  of_it->s->user = of_it;
+  if (of_it->order == STREAMS_FIRST)
+    while (of_it->opened < EARLY && open_stream(of_it)) {
+    }
+  of_it->due = quic_now() + (of_it->order == STREAMS_FIRST ? random_below(50000000) : 0);
+  return true;
+}
+
+static void send_request(session *of_it) {
+  of_it->due = 0;
+  h3_request(of_it->s, url, of_it->order == END_FIRST);
+  if (of_it->order != ENDED_STREAMS_FIRST) return;
+  while (of_it->opened < EARLY && open_stream(of_it)) {
+  }
+  send_datagram(of_it);
+}
+
+/* Begins as many sessions as may run at once. */
+static void begin_sessions(h3_connection *c) {
+  run *r = c->user;
+  for (int i = 0; i < AT_ONCE; i++) {
+    if (r->sessions[i] || r->begun == PER_CONNECTION || begun == wanted) continue;
+    session *of_it = allocate(sizeof *of_it);
+    *of_it = (session){.number = begun, .order = begun % ORDERS};
+    if (!begin_session(c, of_it)) {
+      free(of_it);
+      return;
+    }
+    r->sessions[i] = of_it;
+    r->begun++;
+    begun++;
+  }
+}
+
+/* Goes on with a session: its request, its streams, its end. Returns whether it is over. */
+static bool go_on(session *of_it) {
+  if (of_it->due && quic_now() >= of_it->due) send_request(of_it);
+  if (of_it->resets && quic_now() >= of_it->resets) {
+    h3_stream *s = h3_find(of_it->s->c, of_it->reset);
+    of_it->resets = 0;
+    if (s) h3_reset(s, 7);
+  }
+  if (of_it->order != END_FIRST && of_it->ready && !of_it->over)
+    while (of_it->opened < STREAMS && open_stream(of_it)) {
+    }
+  if (of_it->order != END_FIRST && of_it->back == STREAMS && !of_it->closing) {
+    of_it->closing = true;
+    h3_close(of_it->s, (uint32_t)of_it->number, "done");
+  }
+  return of_it->s->quic == NULL;
+}
+
+static void finish(session *of_it) {
+  if (!of_it->ready) fail(of_it, "it was not accepted", 0);
+  if (of_it->order != END_FIRST && of_it->back != STREAMS)
+    fail(of_it, "streams that came back:", (uint64_t)of_it->back);
+  if (of_it->failed) failed++;
+  else passed++;
+}
+
+static void go_on_with_connection(h3_connection *c) {
+  run *r = c->user;
+  int left = 0;
+  if (!r->allowed) return;
+  if (r->settings_due && quic_now() >= r->settings_due) {
+    r->settings_due = 0;
+    h3_send_settings(c);
+  }
+  for (int i = 0; i < AT_ONCE; i++)
+    if (r->sessions[i] && go_on(r->sessions[i])) {
+      finish(r->sessions[i]);
+      r->sessions[i] = NULL;
+    }
+  begin_sessions(c);
+  for (int i = 0; i < AT_ONCE; i++) left += r->sessions[i] != NULL;
+  if (left == 0) quic_close(c->quic, WT_H3_NO_ERROR);
+}
+
+/* Between packets: begins connections and goes on with them. Returns whether all is done. */
+static bool step(void) {
+  for (int i = 0; i < CONNECTIONS; i++)
+    if (live[i] && !live[i]->broken) go_on_with_connection(live[i]);
+  while (running < CONNECTIONS && begun + running * PER_CONNECTION < wanted) {
+    quic_connect(port);
+    running++;
+  }
+  return begun >= wanted && running == 0;
+}
+
+void on_h3_ready(h3_connection *c) {
+  run *r = c->user = allocate(sizeof *r);
+  int i = 0;
+  while (i < CONNECTIONS - 1 && live[i]) i++;
+  live[i] = c;
+  r->settings_due = random_below(2) ? quic_now() : UINT64_MAX; /* half of the connections: late */
+  if (r->settings_due != UINT64_MAX) {
+    r->settings_due = 0;
+    h3_send_settings(c);
+  }
+}
+
+/* Compares bytes that came on a stream with those that were sent. */
+static void compare(h3_stream *s, session *of_it, const h3_event *e) {
+  echo *own = s->user;
+  quic_consume(s->quic, e->wt.length);
+  if (of_it && s->id == of_it->reset && s->id != 0) return;
+  if (own == NULL) { /* one that comes back */
+    own = s->user = allocate(sizeof *own);
+    own->key = e->bytes[0];
+  }
+  for (size_t i = 0; i < e->wt.length; i++)
+    if (e->bytes[i] != (uint8_t)(own->key + 7 * (own->came + i)))
+      fail(of_it, "another byte came", own->came + i);
+  own->came += e->wt.length;
+}
+
+void on_event(h3_stream *s, const h3_event *e) {
+  session *of_it = of(s);
+  echo *own = s->is_session ? NULL : s->user;
+  run *r = s->c->user;
+  switch (e->wt.kind) {
+  case WT_EVENT_SETTINGS:
+    r->allowed = wt_connection_allows_sessions(&s->c->wt) == 1;
+    if (r->settings_due) r->settings_due = quic_now() + random_below(100000000);
+    if (!r->allowed) quic_close(s->c->quic, WT_H3_NO_ERROR);
+    break;
+  case WT_EVENT_SESSION_READY:
+    of_it->ready = true;
+    if (of_it->order != END_FIRST) send_datagram(of_it);
+    if (of_it->order == PLAIN) open_reset_stream(of_it);
+    break;
+  case WT_EVENT_REJECTED: fail(of_it, "the answer was", e->wt.number); break;
+  case WT_EVENT_SESSION_CLOSED:
+  case WT_EVENT_SESSION_LOST:
+    of_it->over = true;
+    if (of_it->order != END_FIRST && !of_it->closing) fail(of_it, "the session ended", e->wt.kind);
+    break;
+  case WT_EVENT_STREAM_DATA: compare(s, of_it, e); break;
+  case WT_EVENT_END:
+    if (s->is_session || of_it == NULL) break;
+    if (!(s->id & 1) && own->came != own->size)
+      fail(of_it, "a stream came back with the length", own->came);
+    of_it->back++;
+    streams_back++;
+    break;
+  case WT_EVENT_RESET:
+    if (of_it && s->id == of_it->reset && s->id != 0) resets++;
+    else fail(of_it, "a stream was reset with", e->code);
+    break;
+  case WT_EVENT_STREAM_ERROR:
+  case WT_EVENT_MALFORMED: fail(of_it, "the event", e->wt.kind); break;
+  default: break;
+  }
+}
+
+void on_session_datagram(h3_stream *s, const uint8_t *bytes, size_t length) {
+  if (h3_is(bytes, length, "datagram")) datagrams_back++;
+  else fail(of(s), "a datagram of the length", length);
+}
+
+void on_stream_over(h3_stream *s) { free(s->user); }
+
+void on_h3_gone(h3_connection *c, uint64_t code) {
+  run *r = c->user;
+  if (code != WT_H3_NO_ERROR) printf("a connection ended with 0x%" PRIx64 "\n", code);
+  for (int i = 0; r && i < AT_ONCE; i++)
+    if (r->sessions[i]) {
+      fail(r->sessions[i], "its connection ended", code);
+      finish(r->sessions[i]);
+    }
+  for (int i = 0; i < CONNECTIONS; i++)
+    if (live[i] == c) live[i] = NULL;
+  running--;
+  free(r);
+}
+
+int main(int count, char **arguments) {
+  if (count != 6) {
+    fputs("usage: client PORT SECONDS CERTIFICATE SESSIONS SEED\n", stderr);
+    return 2;
+  }
+  port = atoi(arguments[1]);
+  wanted = atoi(arguments[4]);
+  random_state = strtoull(arguments[5], NULL, 10);
+  h3_begin(WT_SIDE_CLIENT, true);
+  quic_begin(0, arguments[3], NULL);
+  quic_run(atof(arguments[2]), step);
+  failed += wanted - passed - failed;
+  printf("%lu streams came back, %lu were reset, %lu of %lu datagrams came back\n", streams_back,
+         resets, datagrams_back, datagrams_sent);
+  printf("%d passed, %d failed\n", passed, failed);
+  return failed != 0;
+}
