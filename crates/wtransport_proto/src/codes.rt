@@ -8,7 +8,8 @@ use wtp_core::error::ErrorCode;
 use wtp_wire::frame::FrameKind;
 
 impl IoReadError {
-    /// Returns the error code, or `None` if the source gave no more bytes and cut off no frame.
+    /// Returns the error code of `H3`. For `IO` there is none: the source gave no more bytes, and
+    /// did not end inside a frame or a header.
     pub fn code(&self) -> Option<ErrorCode>
         ensures { result ≡ stream_code self.now }
     {
@@ -24,7 +25,8 @@ impl ReceiveError {
     /// frame of a message is not permitted (RFC 9114, section 4.1).
     ///
     /// Returns `None` if nothing invalid was received: the source was not ready, or gave no more
-    /// bytes and cut off no frame; memory allocation failed; or the frame is of another kind.
+    /// bytes and did not end inside a frame; memory allocation failed; or the frame is of another
+    /// kind.
     pub fn code(&self) -> Option<ErrorCode>
         ensures { result ≡ receive_code self.now }
     {

@@ -21,7 +21,7 @@ use wtp_wire::frame::{Frame, FrameKind, FrameOwned, FrameReading, GenerateError}
 /// The reason a frame was not sent completely.
 #[derive(Debug, Drop, PartialEq, Eq, thiserror::Error)]
 pub enum SendError {
-    /// The sink was not ready in any turn.
+    /// Each turn ended with a sink that was not ready.
     #[error("the sink is not ready")]
     Waiting,
     /// The sink accepts no more bytes.

@@ -60,7 +60,7 @@ impl Lines {
         }
     }
 
-    /// Appends `words` as a line. It must not contain a line feed.
+    /// Appends `words` and a line feed. It is one line if `words` contains none.
     ///
     /// Returns [`AllocError`] if allocation fails. The lines are then unspecified.
     pub fn add(&mut self, words: &str) -> Result<(), AllocError>

@@ -25,7 +25,8 @@ const POLLS: u32 = 1024;
 /// call and is not ready once before each of these calls and once before its end. `k` is at least
 /// 1; the listing does not depend on it.
 ///
-/// The last line says that the stream ends after a frame, or gives the error code that ends it.
+/// The last line says that the stream ends, and not within a frame, or gives the error code that
+/// ends it.
 ///
 /// Returns [`AllocError`] if allocation fails.
 pub fn list_stepped(alloc: Global, k: usize, input: &[u8]) -> Result<Listing, AllocError>

@@ -204,8 +204,8 @@ pub enum Driven {
 ///
 /// - `Ended(fault)`: the first fault. As after the poll that found it, the source is positioned
 ///   right after a refused frame, or after the bytes that decided, and nothing is held; if the
-///   source ended inside a frame, all bytes received of it are held, or skipped if they are the
-///   payload of an unknown frame.
+///   source gave no more bytes inside a frame, those received of it are held, or skipped if they
+///   are the payload of an unknown frame.
 /// - `Waiting`: the source was not ready.
 /// - `Spent`: all polls were made, and each took a frame, or skipped an unknown one or 4096 bytes
 ///   of its payload.

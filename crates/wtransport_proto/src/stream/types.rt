@@ -59,7 +59,7 @@ impl Default for UniLocal {
     }
 }
 
-/// A stream of QUIC. Nothing has been read or written yet.
+/// A stream of QUIC. What opens it has not been read or written completely.
 #[derive(Debug, Drop)]
 pub struct Quic;
 
