@@ -15,3 +15,5 @@ pub mod RunLemmas
 pub mod SaidLemmas
 pub mod SaidRunLemmas
 pub mod ProgressLemmas
+pub mod ErrorLemmas
+pub mod LossLemmas

@@ -3,14 +3,23 @@
 ghost use Rattle.std.specs.Prelude.{◌≡◌, ◌||◌, ◌+◌, ◌<◌, ◌≤◌, ℕ, Bool, true, false, List, ◌∷◌, ◌++◌, length, drop, Option};
 ghost use Rattle.wtp_webtransport.specs.declared.connection.Connection.{Connection};
 ghost use Rattle.wtp_webtransport.specs.declared.stream.Stream.{Stream};
-ghost use Rattle.wtp_webtransport.specs.Receiving.{Outcome, Receives};
+ghost use Rattle.wtp_webtransport.specs.Events.{More, Waits};
+ghost use Rattle.wtp_webtransport.specs.Receiving.{Outcome, Receives, SectionGives};
 ghost use Rattle.wtp_webtransport.specs.Calls.{Stops, Finishes, Continues, Reads, SaysTo, left_of, told_before, told_all, course_of, plain, moved, IsSession, IsPiece, HasMemory, HasFrames, Grown};
 ghost use Rattle.wtp_webtransport.specs.Progress.{IsSound, calls_left, GoOn};
 ghost use Rattle.wtp_webtransport.specs.Said.{of_session, said, Says, Follow, IsOpen, SessionReads, session_told, AreAlike};
 ghost use Rattle.wtp_connection.specs.Opening.{is_critical};
-ghost use Rattle.wtp_webtransport.specs.Endings.{KeepsSession, KeepsAfter, accepts_session};
+ghost use Rattle.wtp_webtransport.specs.Endings.{KeepsSession, KeepsAfter, accepts_session, Marks, MarksAfter, IsQuiet, IsLoss, had_session, AreOver, IsDone};
 ghost use Rattle.wtp_webtransport.specs.Joining.{resets, stops_half, abandons, joins, overflows, rejects};
-ghost use Rattle.wtp_webtransport.specs.Streams.{is_held, answered};
+ghost use Rattle.wtp_webtransport.specs.Streams.{is_held, answered, stream_of};
+ghost use Rattle.wtp_webtransport.specs.Sessions.{known_of};
+ghost use Rattle.wtp_webtransport.specs.declared.stream.Part.TheVariants as part;
+ghost use Rattle.wtp_webtransport.specs.declared.stream.Unread.TheVariants as unread;
+ghost use Rattle.wtp_webtransport.specs.declared.event.Waits.TheVariants as wait;
+ghost use Rattle.wtp_connection.specs.declared.stream.Stream.TheVariants as frames;
+ghost use Rattle.wtp_frames.specs.declared.endpoint.Side.TheVariants.{Server};
+ghost use Rattle.wtp_messages.specs.declared.message.Message.{Message};
+ghost use Rattle.wtp_connection.specs.declared.connection.Known.TheVariants.{Coming, Over};
 ghost use Rattle.wtp_connection.specs.declared.connection.Known.{Known};
 ghost use Rattle.wtp_messages.specs.Content.{fits, left_after};
 ghost use Rattle.wtp_qpack.specs.Integer.{IsInt};
@@ -38,6 +47,70 @@ pub fn sessions_end_once()
         → KeepsAfter s (rejects c s id goaway) }
     ensures answer { (s : Stream) (status : ℕ) → is_held (answered s status).part
         ≡ (is_held s.part || accepts_session s.part status) }
+{}
+
+/// An error of the connection is its last event. The connection is over after a call exactly if it was
+/// before, or if the call returned `ConnectionError`. Then no call of any stream returns anything or
+/// changes anything, and bytes are consumed (`quiet`, `consumed`).
+pub fn errors_are_last()
+    ensures receive { (limit : ℕ) (c : Connection) (s : Stream) (bytes : List ℕ) (fin : Bool) (o : Outcome)
+        → Receives limit c s bytes fin o → Marks c o }
+    ensures reset { (c : Connection) (s : Stream) → MarksAfter c (resets c s) }
+    ensures stop { (c : Connection) (s : Stream) → MarksAfter c (stops_half c s) }
+    ensures abandon { (c : Connection) (s : Stream) → MarksAfter c (abandons c s) }
+    ensures join { (c : Connection) (s : Stream) (k : Known) → MarksAfter c (joins c s k) }
+    ensures overflow { (c : Connection) (s : Stream) → MarksAfter c (overflows c s) }
+    ensures reject { (c : Connection) (s : Stream) (id : ℕ) (goaway : Option ℕ)
+        → MarksAfter c (rejects c s id goaway) }
+    ensures consumed { (limit : ℕ) (c : Connection) (s : Stream) (bytes : List ℕ) (fin : Bool) (o : Outcome)
+        → c.over ≡ true → Receives limit c s bytes fin o → o ≡ (length bytes, More, c, s) }
+    ensures quiet { (c : Connection) (s : Stream) → c.over ≡ true → IsQuiet c s }
+{}
+
+/// A stream that is over stays so. Once its frames are over and its last event was returned, every call
+/// consumes all bytes, returns `More`, and changes nothing.
+pub fn streams_end_once()
+    ensures { (limit : ℕ) (c : Connection) (s : Stream) (bytes : List ℕ) (fin : Bool) (o : Outcome)
+        → AreOver s.frames → IsDone s.part → s.unread ≡ unread.Nothing
+        → Receives limit c s bytes fin o → o ≡ (length bytes, More, c, s) }
+{}
+
+/// A session is closed by its CLOSE capsule or the end of its stream alone. If its stream is reset or
+/// abandoned, or the peer stops the own half, it is lost, or the connection is.
+pub fn sessions_are_lost()
+    ensures reset { (c : Connection) (s : Stream) → c.over ≡ false → is_held s.part ≡ true
+        → IsLoss (resets c s).0 }
+    ensures stop { (c : Connection) (s : Stream) → c.over ≡ false → is_held s.part ≡ true
+        → IsLoss (stops_half c s).0 }
+    ensures abandon { (c : Connection) (s : Stream) → c.over ≡ false → is_held s.part ≡ true
+        → IsLoss (abandons c s).0 }
+{}
+
+/// A session is over exactly if its stream had it and has it no longer. So a stream that overtakes its
+/// session is never told that it is gone: before its request came, before the header section is whole,
+/// and before the answer the session is to come.
+pub fn early_streams_wait()
+    ensures over { (c : Connection) (s : Stream) → known_of c s ≡ Over → had_session s.part ≡ true }
+    ensures past { (c : Connection) (s : Stream) → had_session s.part ≡ true → known_of c s ≡ Over }
+    ensures new { (c : Connection) → c.endpoint.side ≡ Server → known_of c (stream_of frames.Bi) ≡ Coming }
+    ensures begun { (c : Connection) (s : Stream) (m : Message) → c.endpoint.side ≡ Server
+        → s.part ≡ part.Head m → known_of c s ≡ Coming }
+    ensures asked { (c : Connection) (s : Stream) (m : Message) → s.part ≡ part.Unanswered true m
+        → known_of c s ≡ Coming }
+{}
+
+/// A stream that waits loses nothing. While a request has no answer, a call consumes nothing and changes
+/// nothing, so its bytes are read after the answer as if they came then. A request that waited for the
+/// peer's SETTINGS is read, by whatever connection they made, as the section that comes next.
+pub fn waits_change_nothing()
+    ensures answer { (limit : ℕ) (c : Connection) (s : Stream) (m : Message) (session : Bool) (bytes : List ℕ)
+        (fin : Bool) (o : Outcome) → c.over ≡ false → s.unread ≡ unread.Nothing
+        → s.part ≡ part.Unanswered session m → Receives limit c s bytes fin o
+        → o ≡ (0, Waits wait.Answer, c, s) }
+    ensures settings { (size limit : ℕ) (c : Connection) (s : Stream) (bytes : List ℕ) (fin : Bool) (o : Outcome)
+        → Receives limit c (record s { unread = unread.Early size }) bytes fin o → c.over ≡ false
+        → size ≤ length bytes
+        → SectionGives limit c (record s { unread = unread.Nothing }) 0 size bytes o }
 {}
 
 /// The bytes of a stream may be cut anywhere, but for those of an open session (of that see
