@@ -104,7 +104,8 @@ abbrev pub overflows : Connection → Stream → Outcome
 overflows c s =
     if c.over then (More, c, s) else overflowed_by c s (overflows_frames c.streams s.frames)
 
--- a request that goes on, of which this endpoint answered nothing
+-- A request that goes on: its end was not given. Whether it was answered is known of a CONNECT that was
+-- accepted alone.
 abbrev pub is_request : Side → Part → Bool
 is_request Server (part.Head m) = true
 is_request Server (part.Unanswered session m) = true

@@ -104,8 +104,8 @@ impl Connection {
         Stream::of_response(Frames::of_request(self.endpoint), asked)
     }
 
-    /// Returns the settings of the peer. Until its SETTINGS come each one has its default (RFC 9114,
-    /// section 7.2.4.2).
+    /// Returns the settings of the peer. Until its SETTINGS come each one has its default, or the value
+    /// that is remembered of the session that is [resumed](Self::resuming) (RFC 9114, section 7.2.4.2).
     pub fn peer_settings(&self) -> PeerSettings
         ensures { result ≡ self.now.streams.peer }
     {

@@ -18,8 +18,10 @@ impl Connection {
     /// Returns `Joined` once the session is open: the bytes of the stream follow. Returns `Waits` if
     /// the session is to come: the bytes of the stream are to be passed again after the call that says
     /// what became of it. Returns `StreamError` if the session is over or refused, and if 16 streams
-    /// wait already, and `ConnectionError` if no session can have the ID. Otherwise nothing changes,
-    /// and it returns `More`.
+    /// wait already, and `ConnectionError` if no session can have the ID. A request that asked for no
+    /// session (`Known::Other`) is a `StreamError` at a server, and a `ConnectionError` at a client,
+    /// which knows what it asked for. Otherwise, also if the stream has joined its session before,
+    /// nothing changes, and it returns `More`.
     pub fn join(&mut self, stream: &mut Stream, known: Known) -> Event<'static>
         ensures { (told_of result, self.new, stream.new) ≡ joins self.old stream.old known }
     {
@@ -67,10 +69,14 @@ impl Connection {
     /// own half is to be reset (RFC 9000, section 3.5).
     ///
     /// Returns `SessionLost` if it is the own stream of an open session, which ends by that: the
-    /// stream is over. Otherwise the other half goes on, and it returns `More`; before the answer to a
-    /// request for a session [`abandon`](Self::abandon) its stream, since no session can follow. Of a
-    /// stream that is opened in one direction see [`stopped`](Self::stopped). [`Stream::application_code`]
-    /// has the code of the application, for a stream of a session.
+    /// stream is over. Otherwise the other half goes on, and it returns `More`.
+    ///
+    /// No session can follow a stop that comes before the answer to its request. A server then
+    /// [abandons](Self::abandon) the stream. A client reads on, since a response counts although its
+    /// request was stopped (RFC 9114, section 4.1), and abandons the stream after `SessionReady`.
+    ///
+    /// Of a stream that is opened in one direction see [`stopped`](Self::stopped).
+    /// [`Stream::application_code`] has the code of the application, for a stream of a session.
     pub fn stop(&mut self, stream: &mut Stream) -> Event<'static>
         ensures { (told_of result, self.new, stream.new) ≡ stops_half self.old stream.old }
     {
@@ -108,9 +114,12 @@ impl Connection {
     /// each request that goes on when GOAWAY is sent.
     ///
     /// Returns `StreamError`, with the code H3_REQUEST_REJECTED, if the stream is a request from that ID
-    /// on: the client may send it again on another connection (RFC 9114, sections 4.1.1 and 5.2). Its
-    /// bytes are discarded. Otherwise it returns `More`, and nothing changes: also if the stream belongs
-    /// to a session, and after an error of the connection.
+    /// on that is not complete: the client may send it again on another connection (RFC 9114, sections
+    /// 4.1.1 and 5.2). Its bytes are discarded. Otherwise it returns `More`, and nothing changes: also if
+    /// the stream belongs to a session, and after an error of the connection.
+    ///
+    /// A request whose `End` was returned is the caller's to reject. One that was processed must not be
+    /// rejected, and the connection does not know which were: do not call this after the answer.
     pub fn reject(&mut self, stream: &mut Stream, id: u64, goaway: Option<u64>) -> Event<'static>
         ensures { (told_of result, self.new, stream.new) ≡ rejects self.old stream.old id goaway }
     {
