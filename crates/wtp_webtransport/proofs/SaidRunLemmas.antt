@@ -313,6 +313,11 @@ session_stops limit os fs gs z w y c s a b fin h r i f g =
     ∙ ap (λ (x : Said). x.told) first
     ∙ ap (λ (l : List Told). session_told os z ++ l) next.told_is
 
+-- a session that is still open when the calls end has no content that was not read
+at_rest : (fin : Bool) (z : Outcome) (left : List ℕ) → IsSession z.3.part → LastSays fin left z → (course_of z.1 ≡ Stops) ⊎ (IsSession z.3.part → ⊥) → z.3.part ≡ part.Session 0
+at_rest fin z left i last (inl st) = (last.idle st).0
+at_rest fin z left i last (inr over) = absurd (over i)
+
 pub session_alike : (limit : ℕ) (os fs gs : List Outcome) (z w y : Outcome) (c : Connection) (s : Stream) (a b : List ℕ) (fin : Bool) → IsOpen c s a → SessionReads limit os z c s a false → IsSession z.3.part → SessionReads limit fs w z.2 z.3 (left_of os z a ++ b) fin → SessionReads limit gs y c s (a ++ b) fin → IsSession w.3.part → IsSession y.3.part → AreAlike w y (left_of fs w (left_of os z a ++ b)) (left_of gs y (a ++ b))
 session_alike limit os fs gs z w y c s a b fin h r i f g wi yi =
     let after : IsOpen z.2 z.3 (left_of os z a) = (last_says limit os z c s a false h r).stays i in
@@ -322,9 +327,18 @@ session_alike limit os fs gs z w y c s a b fin h r i f g wi yi =
     let whole = (all_told limit gs y c s (a ++ b) fin (wider c s a b h) g).rest yi in
     let same : said fin h.size c s (a ++ b) ≡ preceded (session_told os z) (record (resting w next.0 (left_of fs w (left_of os z a ++ b))) { told = session_told fs w }) =
     first ∙ ap (λ (x : Said). preceded (session_told os z) x) next.2 in
+    let inner : w.3.part ≡ part.Session 0 =
+    at_rest fin w (left_of fs w (left_of os z a ++ b)) wi
+    (last_says limit fs w z.2 z.3 (left_of os z a ++ b) fin (wider z.2 z.3 (left_of os z a) b after) f)
+    (all_inside limit fs w z.2 z.3 (left_of os z a ++ b) fin f) in
+    let outer : y.3.part ≡ part.Session 0 =
+    at_rest fin y (left_of gs y (a ++ b)) yi
+    (last_says limit gs y c s (a ++ b) fin (wider c s a b h) g)
+    (all_inside limit gs y c s (a ++ b) fin g) in
     let both : record (resting y whole.0 (left_of gs y (a ++ b))) { told = session_told gs y } ≡ preceded (session_told os z) (record (resting w next.0 (left_of fs w (left_of os z a ++ b))) { told = session_told fs w }) =
     sym whole.2 ∙ same in
     record {
+      part = inner ∙ sym outer;
       capsules = next.1 ∙ sym (ap (λ (x : Said). x.place) both) ∙ sym whole.1;
       frames = sym (ap (λ (x : Said). x.frames) both);
       streams = sym (ap (λ (x : Said). x.streams) both);

@@ -171,6 +171,7 @@ session_told (o ∷ os) z = of_session o.1 ++ session_told os z
 
 -- two outcomes with a session that is equally far, where these bytes are left
 pub record AreAlike (w y : Outcome) (left rest : List ℕ) : Type 0 where
+  pub part : w.3.part ≡ y.3.part
   pub capsules : w.3.capsules ≡ y.3.capsules
   pub frames : w.3.frames ≡ y.3.frames
   pub streams : w.2.streams ≡ y.2.streams
