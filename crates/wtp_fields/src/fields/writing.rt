@@ -123,9 +123,10 @@ impl FieldList {
         ensures octets { IfOk result (λ _. AreOctets self.now) }
     {
         let mut out = section::empty_prefix(alloc)?;
-        for field in &self.fields {
-            let name = octets(field.name.as_slice());
-            let value = octets(field.value.as_slice());
+        let mut fields = self.iter();
+        while let Some(field) = fields.next() {
+            let name = octets(field.name);
+            let value = octets(field.value);
             section::write_octet_line(&mut out, name, value)?;
         }
         Ok(out)
