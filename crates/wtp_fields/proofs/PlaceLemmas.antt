@@ -1,22 +1,30 @@
 -- Fields at their places.
-use Rattle.std.proofs.Common.{◌≡◌, ℕ, ◌+◌, ◌≤◌, List, [], ◌∷◌, ◌++◌, length, take, drop, map, refl, ap, append_assoc, length-append, arith}
+use Rattle.std.proofs.Common.{◌≡◌, ℕ, zero, suc, get_or, ◌<◌, ◌+◌, ◌≤◌, List, [], ◌∷◌, ◌++◌, length, take, drop, map, refl, ap, append_assoc, length-append, arith}
 use Rattle.std.proofs.lemmas.List.{take-append-le, take_at, drop_at, take_all}
-use Rattle.wtp_fields.specs.FieldList.{stored, all_stored, place_after, AreWithin}
+use Rattle.wtp_fields.specs.FieldList.{stored, all_stored, place_after, IsWithin, AreWithin}
 use Rattle.wtp_fields.specs.declared.fields.texts.Place.{Place}
 
 -- more texts leave a field as it is
 pub stored_again : (texts more : List ℕ) (places : List Place) → AreWithin (length texts) places → all_stored (texts ++ more) places ≡ all_stored texts places
 stored_again texts more [] within = refl
-stored_again texts more (place ∷ places) (middle, end, others) =
-    rw (take-append-le place.middle texts more middle, take-append-le place.end texts more end, stored_again texts more places others) refl
+stored_again texts more (place ∷ places) (within, others) =
+    let middle : place.middle ≤ length texts = let value = within.value in let end = within.end in omega arith in
+    rw (take-append-le place.middle texts more middle, take-append-le place.end texts more within.end, stored_again texts more places others) refl
 
 pub within_more : (len more : ℕ) (places : List Place) → len ≤ more → AreWithin len places → AreWithin more places
 within_more len more [] h within = tt
-within_more len more (place ∷ places) h (middle, end, others) = (omega arith, omega arith, within_more len more places h others)
+within_more len more (place ∷ places) h (within, others) =
+    (record { name = within.name; value = within.value; end = let end = within.end in omega arith }, within_more len more places h others)
 
-pub within_push : (len : ℕ) (place : Place) (places : List Place) → place.middle ≤ len → place.end ≤ len → AreWithin len places → AreWithin len (places ++ place ∷ [])
-within_push len place [] middle end within = (middle, end, tt)
-within_push len place (first ∷ places) middle end (a, b, others) = (a, b, within_push len place places middle end others)
+pub within_push : (len : ℕ) (place : Place) (places : List Place) → IsWithin len place → AreWithin len places → AreWithin len (places ++ place ∷ [])
+within_push len place [] within all = (within, tt)
+within_push len place (first ∷ places) within (one, others) = (one, within_push len place places within others)
+
+-- the place at an index
+pub within_at : (len index : ℕ) (place other : Place) (places : List Place) → AreWithin len places → index < length places → place ≡ get_or places index other → IsWithin len place
+within_at len index place other [] all h e = absurd (omega (arith, h))
+within_at len zero place other (first ∷ places) (one, others) h e = rw e one
+within_at len (suc index) place other (first ∷ places) (one, others) h e = within_at len index place other places others (omega (arith, h)) e
 
 map_push : {X Y : Type 0} (f : X → Y) (xs : List X) (x : X) → map f (xs ++ x ∷ []) ≡ map f xs ++ f x ∷ []
 map_push f [] x = refl
@@ -41,4 +49,4 @@ pub within_appended : (texts name value : List ℕ) (places : List Place) → Ar
     → AreWithin (length (texts ++ (name ++ value))) (places ++ place_after texts name value ∷ [])
 within_appended texts name value places within =
     let all : length (texts ++ (name ++ value)) ≡ length texts + length name + length value = simp length-append (omega arith) in
-    within_push _ (place_after texts name value) places (omega (arith, all)) (omega (arith, all)) (within_more (length texts) _ places (omega (arith, all)) within)
+    within_push _ (place_after texts name value) places (record { name = omega arith; value = omega arith; end = omega (arith, all) }) (within_more (length texts) _ places (omega (arith, all)) within)

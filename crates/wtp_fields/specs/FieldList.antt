@@ -28,10 +28,16 @@ place_after texts name value = record {
   end = length texts + length name + length value;
 }
 
--- the places are within texts of so many bytes
+-- the place is within texts of so many bytes
+pub record IsWithin (len : ℕ) (place : Place) : Type 0 where
+  pub name : place.start ≤ place.middle
+  pub value : place.middle ≤ place.end
+  pub end : place.end ≤ len
+
+-- all these places are
 abbrev pub AreWithin : ℕ → List Place → Type 0
 AreWithin len [] = Unit {0}
-AreWithin len (place ∷ places) = (place.middle ≤ len) × (place.end ≤ len) × AreWithin len places
+AreWithin len (place ∷ places) = IsWithin len place × AreWithin len places
 
 -- the field has this name
 abbrev pub has_name : List ℕ → Field → Bool

@@ -21,9 +21,9 @@ pub use iter::{Fields, Values};
 pub use message::{RequestTarget, ToHeadersError, three_digits};
 use std::alloc::{AllocError, Global};
 use std::marker::Model;
-use texts::{Place, append_field, line_at};
+use texts::{Place, append_field, line_at, with_room};
 use thiserror::Error;
-pub use writing::{PushError, check_field, is_field_value, is_token};
+pub use writing::{PushError, check_field, is_field_value, is_lower_token, is_token};
 use wtp_core::error::ErrorCode;
 pub use wtp_qpack::qpack::FieldLine;
 use wtp_qpack::qpack::{DecodingError, FieldBuffer, FieldLines};
@@ -112,6 +112,16 @@ impl FieldList {
         }
     }
 
+    /// Returns the empty list, with memory for a list of this size if there is any.
+    fn with_room(alloc: Global, size: usize) -> Self
+        ensures { result ≡ [] }
+    {
+        FieldList {
+            texts: with_room(alloc, size),
+            places: with_room(alloc, size / 32),
+        }
+    }
+
     /// Appends a field. If allocation fails, the list is unchanged.
     fn append(&mut self, name: &[u8], value: &[u8]) -> Result<(), AllocError>
         ensures ok { OnOk result (self.new ≡ self.old ++ (name.now, value.now) ∷ []) }
@@ -139,7 +149,9 @@ impl FieldList {
     {
         let mut lines = FieldLines::new(section)?;
         let mut room = FieldBuffer::new(alloc);
-        let mut list = FieldList::empty(alloc);
+        // A Huffman-encoded text is rarely longer than twice its encoding.
+        let size = section.len().saturating_mul(2) as u64;
+        let mut list = FieldList::with_room(alloc, size.min(limit) as usize);
         let mut left = limit;
         'lines: loop {
             match lines.next_line(&mut room) {

@@ -1,8 +1,8 @@
 //! Iterators over field lists.
-ghost use Rattle.std.specs.Prelude.{◌≡◌};
+ghost use Rattle.std.specs.Prelude.{◌≡◌, length};
 ghost use Rattle.std.specs.Iterator.{YieldsFirstBy, YieldsFirstRef, item_count};
 ghost use Rattle.wtp_qpack.specs.FieldLines.{seen_line};
-ghost use Rattle.wtp_fields.specs.FieldList.{all_stored, values_of};
+ghost use Rattle.wtp_fields.specs.FieldList.{all_stored, values_of, AreWithin};
 
 use super::FieldLine;
 use super::texts::{Place, line_at};
@@ -17,18 +17,21 @@ pub struct Fields<'a> {
 
 // In contracts, the iterator is the list of fields left.
 impl<'a> Model for Fields<'a> {
-    ghost use Rattle.std.specs.Prelude.{List};
+    ghost use Rattle.std.specs.Prelude.{List, length};
     ghost use Rattle.wtp_qpack.specs.Field.{Field};
-    ghost use Rattle.wtp_fields.specs.FieldList.{all_stored};
+    ghost use Rattle.wtp_fields.specs.FieldList.{all_stored, AreWithin};
 
     ghost Value = { List Field };
 
     ghost view = { λ fields. all_stored fields.texts.now fields.rest.now };
+
+    ghost invariant = { λ fields. AreWithin (length fields.texts.now) fields.rest.now };
 }
 
 impl<'a> Fields<'a> {
     /// Creates an iterator over the fields.
     pub(super) fn new(texts: &'a [u8], places: &'a [Place]) -> Self
+        requires { AreWithin (length texts.now) places.now }
         ensures { result ≡ all_stored texts.now places.now }
     {
         Fields {

@@ -1,10 +1,10 @@
 //! The texts of a field list: its names and values, one after the other, in one block of memory.
 ghost use Rattle.std.specs.Prelude.{◌≡◌, ◌+◌, ◌++◌, [], ◌∷◌, length, take, drop, OnOk, OnErr, IfOk};
 ghost use Rattle.wtp_qpack.specs.FieldLines.{seen_line};
-ghost use Rattle.wtp_fields.specs.FieldList.{stored, all_stored, place_after, AreWithin};
+ghost use Rattle.wtp_fields.specs.FieldList.{stored, all_stored, place_after, IsWithin, AreWithin};
 
 use super::FieldLine;
-use std::alloc::AllocError;
+use std::alloc::{AllocError, Global};
 
 /// Where the texts of a field are: its name from `start` to `middle`, its value from there to `end`.
 #[derive(Clone, Copy, Debug)]
@@ -14,27 +14,15 @@ pub(super) struct Place {
     end: usize,
 }
 
-/// Returns the bytes from `start` to `end`, as far as there are any.
-fn part(texts: &[u8], start: usize, end: usize) -> &[u8]
-    ensures { result.now ≡ drop start (take end texts.now) }
-{
-    let front = match texts.split_at_checked(end) {
-        Some((front, _)) => front,
-        None => texts,
-    };
-    match front.split_at_checked(start) {
-        Some((_, part)) => part,
-        None => &[],
-    }
-}
-
 /// Returns the name and the value of the field at a place.
+#[tactic(auto, using(std::proofs::lemmas::Slice::between_is))]
 pub(super) fn line_at(texts: &[u8], place: Place) -> FieldLine<'_>
+    requires { IsWithin (length texts.now) place }
     ensures { seen_line result ≡ stored texts.now place }
 {
     FieldLine {
-        name: part(texts, place.start, place.middle),
-        value: part(texts, place.middle, place.end),
+        name: &texts[place.start..place.middle],
+        value: &texts[place.middle..place.end],
     }
 }
 
@@ -72,4 +60,14 @@ pub(super) fn append_field(
     let place = append_texts(texts, name, value)?;
     places.push_reserved(place);
     Ok(())
+}
+
+/// Returns an empty vector, with memory for so many elements if there is any.
+pub(super) fn with_room<T: Drop>(alloc: Global, room: usize) -> Vec<T>
+    ensures { result.items ≡ [] }
+{
+    match Vec::with_capacity(alloc, room) {
+        Ok(room) => room,
+        Err(_) => Vec::new(alloc),
+    }
 }
