@@ -1,24 +1,43 @@
 -- Field lists: the fields of a section in order, with repeated names, as bytes (RFC 9110, sections
 -- 5.2 and 5.3; RFC 9114, section 4.2).
-use Rattle.std.specs.Prelude.{◌≡◌, ◌⊎◌, ℕ, ◌+◌, ◌<◌, ◌≤◌, List, [], map, filter, length, sum_by}
+use Rattle.std.specs.Prelude.{◌≡◌, ◌⊎◌, ℕ, ◌+◌, ◌<◌, ◌≤◌, List, [], ◌∷◌, map, filter, length, take, drop, sum_by}
 use Rattle.std.specs.Prelude.{Bool, Result, Ok, Err, IsTrue}
 use Rattle.std.specs.Str.{bytes_eq}
 use Rattle.wtp_qpack.specs.declared.qpack.DecodingError.{DecodingError}
 use Rattle.wtp_qpack.specs.Field.{Field}
 use Rattle.wtp_qpack.specs.FieldSection.{after_prefix}
 use Rattle.wtp_qpack.specs.FieldLines.{octet_line_at, AreOctetLines, is_coded_line}
-use Rattle.wtp_fields.specs.declared.fields.StoredField.{StoredField}
+use Rattle.wtp_fields.specs.declared.fields.texts.Place.{Place}
 use Rattle.wtp_fields.specs.declared.fields.FieldSectionError.{FieldSectionError}
 use Rattle.wtp_fields.specs.declared.fields.FieldSectionError.TheVariants.{Decoding, TooLarge}
 use Rattle.wtp_fields.specs.declared.fields.FieldSectionError.TheVariants.{Memory}
 
--- the name and the value of a stored field
-abbrev pub stored : StoredField → Field
-stored field = (field.name.items, field.value.items)
+-- the name and the value of the field at a place of the texts
+abbrev pub stored : List ℕ → Place → Field
+stored texts place = (drop place.start (take place.middle texts), drop place.middle (take place.end texts))
 
--- the stored fields, in order
-abbrev pub all_stored : List StoredField → List Field
-all_stored fields = map stored fields
+-- the fields at these places, in order
+abbrev pub all_stored : List ℕ → List Place → List Field
+all_stored texts places = map (stored texts) places
+
+-- the place of a field whose name and value are appended to the texts
+abbrev pub place_after : List ℕ → List ℕ → List ℕ → Place
+place_after texts name value = record {
+  start = length texts;
+  middle = length texts + length name;
+  end = length texts + length name + length value;
+}
+
+-- the place is within texts of so many bytes
+pub record IsWithin (len : ℕ) (place : Place) : Type 0 where
+  pub name : place.start ≤ place.middle
+  pub value : place.middle ≤ place.end
+  pub end : place.end ≤ len
+
+-- all these places are
+abbrev pub AreWithin : ℕ → List Place → Type 0
+AreWithin len [] = Unit {0}
+AreWithin len (place ∷ places) = IsWithin len place × AreWithin len places
 
 -- the field has this name
 abbrev pub has_name : List ℕ → Field → Bool

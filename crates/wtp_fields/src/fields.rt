@@ -9,19 +9,21 @@ ghost use Rattle.std.specs.Option.{option_copied};
 ghost use Rattle.wtp_qpack.specs.Field.{Field, field_value, last_value};
 ghost use Rattle.wtp_qpack.specs.FieldLines.{seen_line};
 ghost use Rattle.wtp_qpack.specs.declared.qpack.DecodingError.TheVariants as decoding;
-ghost use Rattle.wtp_fields.specs.FieldList.{stored, values_of, field_size, DecodesTo};
+ghost use Rattle.wtp_fields.specs.FieldList.{values_of, field_size, DecodesTo};
 ghost use Rattle.wtp_fields.specs.FieldCodes.{section_error, field_section_code};
 
 mod iter;
 mod message;
+mod texts;
 mod writing;
 
 pub use iter::{Fields, Values};
 pub use message::{RequestTarget, ToHeadersError, three_digits};
 use std::alloc::{AllocError, Global};
 use std::marker::Model;
+use texts::{Place, append_field, line_at, with_room};
 use thiserror::Error;
-pub use writing::{PushError, check_field, is_field_value, is_token};
+pub use writing::{PushError, check_field, is_field_value, is_lower_token, is_token};
 use wtp_core::error::ErrorCode;
 pub use wtp_qpack::qpack::FieldLine;
 use wtp_qpack::qpack::{DecodingError, FieldBuffer, FieldLines};
@@ -77,41 +79,26 @@ impl FieldSectionError {
     }
 }
 
-/// A field of a list, which owns its name and value.
-#[derive(Debug, Drop)]
-struct StoredField {
-    name: Vec<u8>,
-    value: Vec<u8>,
-}
-
-/// Returns the name and the value of a stored field.
-fn line_of(field: &StoredField) -> FieldLine<'_>
-    ensures { seen_line result ≡ stored field.now }
-{
-    FieldLine {
-        name: field.name.as_slice(),
-        value: field.value.as_slice(),
-    }
-}
-
 /// A list of fields, each with a name and a value, both bytes. Names may be repeated. The order is
 /// that of the section.
 #[derive(Debug, Drop)]
 pub struct FieldList {
-    fields: Vec<StoredField>,
-    // the allocator for fields appended later
-    alloc: Global,
+    // the names and values of all fields
+    texts: Vec<u8>,
+    places: Vec<Place>,
 }
 
 // In contracts, a list is its fields: pairs of name and value, as bytes.
 impl Model for FieldList {
-    ghost use Rattle.std.specs.Prelude.{List};
+    ghost use Rattle.std.specs.Prelude.{List, length};
     ghost use Rattle.wtp_qpack.specs.Field.{Field};
-    ghost use Rattle.wtp_fields.specs.FieldList.{all_stored};
+    ghost use Rattle.wtp_fields.specs.FieldList.{all_stored, AreWithin};
 
     ghost Value = { List Field };
 
-    ghost view = { λ list. all_stored list.fields.items };
+    ghost view = { λ list. all_stored list.texts.items list.places.items };
+
+    ghost invariant = { λ list. AreWithin (length list.texts.items) list.places.items };
 }
 
 impl FieldList {
@@ -120,8 +107,18 @@ impl FieldList {
         ensures { result ≡ [] }
     {
         FieldList {
-            fields: Vec::new(alloc),
-            alloc,
+            texts: Vec::new(alloc),
+            places: Vec::new(alloc),
+        }
+    }
+
+    /// Returns the empty list, with memory for a list of this size if there is any.
+    fn with_room(alloc: Global, size: usize) -> Self
+        ensures { result ≡ [] }
+    {
+        FieldList {
+            texts: with_room(alloc, size),
+            places: with_room(alloc, size / 32),
         }
     }
 
@@ -130,10 +127,7 @@ impl FieldList {
         ensures ok { OnOk result (self.new ≡ self.old ++ (name.now, value.now) ∷ []) }
         ensures err { OnErr result (self.new ≡ self.old) }
     {
-        let name = Vec::from_slice(self.alloc, name)?;
-        let value = Vec::from_slice(self.alloc, value)?;
-        self.fields.push(StoredField { name, value })?;
-        Ok(())
+        append_field(&mut self.texts, &mut self.places, name, value)
     }
 
     /// Decodes a field section to its fields, in order (RFC 9204, section 4.5).
@@ -155,7 +149,9 @@ impl FieldList {
     {
         let mut lines = FieldLines::new(section)?;
         let mut room = FieldBuffer::new(alloc);
-        let mut list = FieldList::empty(alloc);
+        // A Huffman-encoded text is rarely longer than twice its encoding.
+        let size = section.len().saturating_mul(2) as u64;
+        let mut list = FieldList::with_room(alloc, size.min(limit) as usize);
         let mut left = limit;
         'lines: loop {
             match lines.next_line(&mut room) {
@@ -176,22 +172,22 @@ impl FieldList {
     pub fn len(&self) -> usize
         ensures { result ≡ length self.now }
     {
-        self.fields.len()
+        self.places.len()
     }
 
     /// Returns whether the list is empty.
     pub fn is_empty(&self) -> bool
         ensures { result ≡ (length self.now == 0) }
     {
-        self.fields.is_empty()
+        self.places.is_empty()
     }
 
     /// Returns the field at an index, or `None` if the index is out of bounds.
     pub fn get(&self, index: usize) -> Option<FieldLine<'_>>
         ensures { option_map seen_line result ≡ slice_get self.now index }
     {
-        match self.fields.get(index) {
-            Some(field) => Some(line_of(field)),
+        match self.places.get(index) {
+            Some(place) => Some(line_at(self.texts.as_slice(), *place)),
             None => None,
         }
     }
@@ -200,23 +196,24 @@ impl FieldList {
     pub fn iter(&self) -> Fields<'_>
         ensures { result ≡ self.now }
     {
-        Fields::new(self.fields.as_slice())
+        Fields::new(self.texts.as_slice(), self.places.as_slice())
     }
 
     /// Returns an iterator over the values of all fields with a name, in order.
     pub fn all<'a>(&'a self, name: &'a [u8]) -> Values<'a>
         ensures { result ≡ values_of name.now self.now }
     {
-        Values::new(self.fields.as_slice(), name)
+        Values::new(self.iter(), name)
     }
 
     /// Returns the value of the first field with a name, or `None` if there is none.
     pub fn first(&self, name: &[u8]) -> Option<&[u8]>
         ensures { option_copied result ≡ field_value name.now self.now }
     {
-        for field in &self.fields {
-            if field.name.as_slice() == name {
-                return Some(field.value.as_slice());
+        let mut fields = self.iter();
+        while let Some(field) = fields.next() {
+            if field.name == name {
+                return Some(field.value);
             }
         }
         None
@@ -227,17 +224,19 @@ impl FieldList {
         ensures { option_copied result ≡ last_value name.now self.now }
     {
         let mut found: Option<&[u8]> = None;
-        for field in &self.fields {
-            if field.name.as_slice() == name {
-                found = Some(field.value.as_slice());
+        let mut fields = self.iter();
+        while let Some(field) = fields.next() {
+            if field.name == name {
+                found = Some(field.value);
             }
         }
         found
     }
 }
 
-/// Subtracts the size of a field from a limit. Returns `None` if the size exceeds the limit.
-fn left_after(left: u64, line: FieldLine<'_>) -> Option<u64>
+/// Subtracts the size of a field from a limit: the lengths of its name and its value in bytes, plus
+/// 32 (RFC 9114, section 4.2.2). Returns `None` if the size exceeds the limit.
+pub fn left_after(left: u64, line: FieldLine<'_>) -> Option<u64>
     ensures { SomeIff result (field_size (seen_line line.entry) ≤ left)
         (left - field_size (seen_line line.entry)) }
 {

@@ -1,12 +1,10 @@
 //! Names and values of fields.
 ghost use Rattle.std.specs.Prelude.{◌≡◌};
-ghost use Rattle.std.specs.List.{list_any};
 ghost use Rattle.std.specs.Str.{str_eq_ignore_ascii_case};
 ghost use Rattle.wtp_qpack.specs.FieldLines.{seen_line};
-ghost use Rattle.wtp_fields.specs.FieldWriting.{is_upper};
 ghost use Rattle.wtp_messages.specs.Names.{is_pseudo as is_pseudo_field, is_whole_token as is_whole_token_text, is_field_name as is_field_name_text, has_field as has_field_of, has_value as has_value_of};
 
-use wtp_fields::fields::{FieldLine, FieldList, is_token};
+use wtp_fields::fields::{FieldLine, FieldList, is_lower_token, is_token};
 
 /// Returns whether a field is a pseudo-header field (RFC 9114, section 4.3).
 pub(crate) fn is_pseudo(line: FieldLine<'_>) -> bool
@@ -26,19 +24,7 @@ pub(crate) fn is_whole_token(text: &[u8]) -> bool
 pub(crate) fn is_field_name(name: &[u8]) -> bool
     ensures { result ≡ is_field_name_text name.now }
 {
-    is_whole_token(name) && !has_upper(name)
-}
-
-/// Returns whether a name has an upper-case letter.
-fn has_upper(name: &[u8]) -> bool
-    ensures { result ≡ list_any is_upper name.now }
-{
-    for byte in name {
-        if byte.is_ascii_uppercase() {
-            return true;
-        }
-    }
-    false
+    !name.is_empty() && is_lower_token(name)
 }
 
 /// Returns whether two texts are equal but for the case of ASCII letters.

@@ -1,8 +1,7 @@
 //! The sending side of a message's stream (RFC 9114, sections 4.1 and 4.4).
-ghost use Rattle.std.specs.Prelude.{◌≡◌, ◌-◌, ◌<◌, ◌≤◌, ◌^◌, Ok, Err, OnOk, OnErr, IfErr, MatchResult, SomeIff, length, nat_le};
-ghost use Rattle.wtp_qpack.specs.FieldLines.{seen_line};
+ghost use Rattle.std.specs.Prelude.{◌≡◌, ◌<◌, ◌^◌, Ok, Err, OnOk, OnErr, IfErr, MatchResult, length, nat_le};
 ghost use Rattle.wtp_qpack.specs.FieldSection.{section_of};
-ghost use Rattle.wtp_fields.specs.FieldList.{field_size, list_size};
+ghost use Rattle.wtp_fields.specs.FieldList.{list_size};
 ghost use Rattle.wtp_messages.specs.declared.message.Role.TheVariants as role;
 ghost use Rattle.wtp_messages.specs.Names.{has_value as has_value_is};
 ghost use Rattle.wtp_sending.specs.Writing.{WritesAll, Fails};
@@ -20,7 +19,7 @@ use std::alloc::Global;
 use wtp_core::bytes::BytesWriter;
 use wtp_core::ids::SessionId;
 use wtp_core::varint::VarInt;
-use wtp_fields::fields::{FieldLine, FieldList};
+use wtp_fields::fields::{FieldList, left_after};
 use wtp_messages::malformed::Malformed;
 use wtp_messages::message::{Message, Role, Section};
 use wtp_messages::response::Asked;
@@ -420,14 +419,4 @@ fn fits(list: &FieldList, limit: u64) -> bool
         left = less;
     }
     true
-}
-
-/// Subtracts the size of a field from a limit. Returns `None` if the size exceeds the limit.
-fn left_after(left: u64, line: FieldLine<'_>) -> Option<u64>
-    ensures { SomeIff result (field_size (seen_line line.entry) ≤ left)
-        (left - field_size (seen_line line.entry)) }
-{
-    let left = left.checked_sub(32)?;
-    let left = left.checked_sub(line.name.len() as u64)?;
-    left.checked_sub(line.value.len() as u64)
 }

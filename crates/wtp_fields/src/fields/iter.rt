@@ -1,35 +1,43 @@
 //! Iterators over field lists.
-ghost use Rattle.std.specs.Prelude.{◌≡◌};
+ghost use Rattle.std.specs.Prelude.{◌≡◌, length};
 ghost use Rattle.std.specs.Iterator.{YieldsFirstBy, YieldsFirstRef, item_count};
 ghost use Rattle.wtp_qpack.specs.FieldLines.{seen_line};
-ghost use Rattle.wtp_fields.specs.FieldList.{all_stored, values_of};
+ghost use Rattle.wtp_fields.specs.FieldList.{all_stored, values_of, AreWithin};
 
-use super::{FieldLine, StoredField, line_of};
+use super::FieldLine;
+use super::texts::{Place, line_at};
 use std::marker::Model;
 
 /// An iterator over the fields of a list. See [`FieldList::iter`](super::FieldList::iter).
 #[derive(Drop)]
 pub struct Fields<'a> {
-    rest: &'a [StoredField],
+    texts: &'a [u8],
+    rest: &'a [Place],
 }
 
 // In contracts, the iterator is the list of fields left.
 impl<'a> Model for Fields<'a> {
-    ghost use Rattle.std.specs.Prelude.{List};
+    ghost use Rattle.std.specs.Prelude.{List, length};
     ghost use Rattle.wtp_qpack.specs.Field.{Field};
-    ghost use Rattle.wtp_fields.specs.FieldList.{all_stored};
+    ghost use Rattle.wtp_fields.specs.FieldList.{all_stored, AreWithin};
 
     ghost Value = { List Field };
 
-    ghost view = { λ fields. all_stored fields.rest.now };
+    ghost view = { λ fields. all_stored fields.texts.now fields.rest.now };
+
+    ghost invariant = { λ fields. AreWithin (length fields.texts.now) fields.rest.now };
 }
 
 impl<'a> Fields<'a> {
     /// Creates an iterator over the fields.
-    pub(super) fn new(fields: &'a [StoredField]) -> Self
-        ensures { result ≡ all_stored fields.now }
+    pub(super) fn new(texts: &'a [u8], places: &'a [Place]) -> Self
+        requires { AreWithin (length texts.now) places.now }
+        ensures { result ≡ all_stored texts.now places.now }
     {
-        Fields { rest: fields }
+        Fields {
+            texts,
+            rest: places,
+        }
     }
 }
 
@@ -43,7 +51,7 @@ impl<'a> Iterator for Fields<'a> {
     fn next(&mut self) -> Option<FieldLine<'a>> {
         let (first, others) = self.rest.split_first()?;
         self.rest = others;
-        Some(line_of(first))
+        Some(line_at(self.texts, *first))
     }
 }
 
@@ -51,26 +59,26 @@ impl<'a> Iterator for Fields<'a> {
 /// [`FieldList::all`](super::FieldList::all).
 #[derive(Drop)]
 pub struct Values<'a> {
-    rest: &'a [StoredField],
+    fields: Fields<'a>,
     name: &'a [u8],
 }
 
 // In contracts, the iterator is the list of values left.
 impl<'a> Model for Values<'a> {
     ghost use Rattle.std.specs.Prelude.{List, ℕ};
-    ghost use Rattle.wtp_fields.specs.FieldList.{all_stored, values_of};
+    ghost use Rattle.wtp_fields.specs.FieldList.{values_of};
 
     ghost Value = { List (List ℕ) };
 
-    ghost view = { λ values. values_of values.name.now (all_stored values.rest.now) };
+    ghost view = { λ values. values_of values.name.now values.fields };
 }
 
 impl<'a> Values<'a> {
     /// Creates an iterator over the values of a name in the fields.
-    pub(super) fn new(fields: &'a [StoredField], name: &'a [u8]) -> Self
-        ensures { result ≡ values_of name.now (all_stored fields.now) }
+    pub(super) fn new(fields: Fields<'a>, name: &'a [u8]) -> Self
+        ensures { result ≡ values_of name.now fields.entry }
     {
-        Values { rest: fields, name }
+        Values { fields, name }
     }
 }
 
@@ -82,10 +90,9 @@ impl<'a> Iterator for Values<'a> {
     ghost remaining = { item_count (λ values. values) };
 
     fn next(&mut self) -> Option<&'a [u8]> {
-        while let Some((first, others)) = self.rest.split_first() {
-            self.rest = others;
-            if first.name.as_slice() == self.name {
-                return Some(first.value.as_slice());
+        while let Some(field) = self.fields.next() {
+            if field.name == self.name {
+                return Some(field.value);
             }
         }
         None

@@ -115,10 +115,9 @@ impl FieldList {
     pub fn is_utf8(&self) -> bool
         ensures { IsTrue result ↔ AreUtf8Fields self.now }
     {
-        for field in &self.fields {
-            if text_of(field.name.as_slice()).is_none()
-                || text_of(field.value.as_slice()).is_none()
-            {
+        let mut fields = self.iter();
+        while let Some(field) = fields.next() {
+            if text_of(field.name).is_none() || text_of(field.value).is_none() {
                 return false;
             }
         }
@@ -136,11 +135,12 @@ impl FieldList {
             return Err(ToHeadersError::NotUtf8);
         }
         let mut headers = Headers::new(alloc);
-        for field in &self.fields {
-            let Some(name) = text_of(field.name.as_slice()) else {
+        let mut fields = self.iter();
+        while let Some(field) = fields.next() {
+            let Some(name) = text_of(field.name) else {
                 return Err(ToHeadersError::NotUtf8);
             };
-            let Some(value) = text_of(field.value.as_slice()) else {
+            let Some(value) = text_of(field.value) else {
                 return Err(ToHeadersError::NotUtf8);
             };
             headers.insert(name, value)?;

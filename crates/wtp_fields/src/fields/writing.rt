@@ -1,8 +1,8 @@
 //! Field lists of messages to send, and their HEADERS frames (RFC 9114, sections 4.1.2, 4.2, 4.3
 //! and 7.2.2).
-ghost use Rattle.std.specs.Prelude.{◌≡◌, ◌≢◌, ◌⊎◌, ◌++◌, ◌==◌, ◌≤◌, ◌^◌, List, [], ◌∷◌, length};
+ghost use Rattle.std.specs.Prelude.{◌≡◌, ◌≢◌, ◌⊎◌, ◌&&◌, ◌++◌, ◌==◌, ◌≤◌, ◌^◌, List, [], ◌∷◌, length};
 ghost use Rattle.std.specs.Prelude.{Some, None, Ok, Err};
-ghost use Rattle.std.specs.Prelude.{MatchResult, OnOk, OnErr, IfOk, codes};
+ghost use Rattle.std.specs.Prelude.{MatchResult, OnOk, OnErr, IfOk, codes, not};
 ghost use Rattle.std.specs.List.{list_all, list_any};
 ghost use Rattle.std.specs.Option.{option_copied};
 ghost use Rattle.url.specs.Parser.{parse_url};
@@ -123,9 +123,10 @@ impl FieldList {
         ensures octets { IfOk result (λ _. AreOctets self.now) }
     {
         let mut out = section::empty_prefix(alloc)?;
-        for field in &self.fields {
-            let name = octets(field.name.as_slice());
-            let value = octets(field.value.as_slice());
+        let mut fields = self.iter();
+        while let Some(field) = fields.next() {
+            let name = octets(field.name);
+            let value = octets(field.value);
             section::write_octet_line(&mut out, name, value)?;
         }
         Ok(out)
@@ -225,11 +226,31 @@ pub fn is_token(name: &[u8]) -> bool
     true
 }
 
+/// Returns whether all bytes are allowed in tokens and none is an upper-case letter, as in the names
+/// of fields (RFC 9114, section 4.2). Such a name has at least one byte, which is not checked.
+pub fn is_lower_token(name: &[u8]) -> bool
+    ensures { result ≡ (list_all is_tchar name.now && not (list_any is_upper name.now)) }
+{
+    for byte in name {
+        if !is_name_byte(*byte) {
+            return false;
+        }
+    }
+    true
+}
+
+/// Returns whether a byte is allowed in tokens and is no upper-case letter.
+fn is_name_byte(byte: u8) -> bool
+    ensures { result ≡ (is_tchar byte && not (is_upper byte)) }
+{
+    byte.is_ascii_lowercase() || (is_tchar(byte) && !byte.is_ascii_uppercase())
+}
+
 /// Returns whether a byte is allowed in tokens (RFC 9110, section 5.6.2).
 fn is_tchar(byte: u8) -> bool
     ensures { result ≡ is_tchar byte }
 {
-    byte.is_ascii_alphanumeric() || is_mark(byte)
+    byte.is_ascii_alphanumeric() || byte == b'-' || is_mark(byte)
 }
 
 /// Returns whether a byte is one of the token characters other than letters and digits.
@@ -251,12 +272,12 @@ pub fn is_field_value(value: &[u8]) -> bool
 fn are_value_bytes(value: &[u8]) -> bool
     ensures { result ≡ list_all is_value_byte value.now }
 {
+    // Each byte is tested, so that several are at a time.
+    let mut valid = true;
     for byte in value {
-        if !is_value_byte(*byte) {
-            return false;
-        }
+        valid = is_value_byte(*byte) && valid;
     }
-    true
+    valid
 }
 
 /// Returns whether a byte is allowed in a field value: a tab, or any byte but a control character.

@@ -1,8 +1,7 @@
-use Rattle.std.proofs.Common.{◌≡◌, drop}
+use Rattle.std.proofs.Common.{◌≡◌}
 use Rattle.std.specs.Option.{option_copied}
 use Rattle.wtp_qpack.specs.Field.{last_value, or_else}
-use Rattle.wtp_fields.specs.FieldList.{all_stored}
 use Rattle.wtp_fields.proofs.fields.FieldList.last.Given as goal
 
 abbrev pub invariant-loop-field : goal.invariant-loop-field
-invariant-loop-field l = or_else (last_value l.name (all_stored (drop l.field-index l.field-items))) (option_copied l.found) ≡ last_value l.name l.fn.self
+invariant-loop-field l = or_else (last_value l.name l.fields) (option_copied l.found) ≡ last_value l.name l.fn.self
