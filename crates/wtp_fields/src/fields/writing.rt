@@ -268,23 +268,37 @@ pub fn is_field_value(value: &[u8]) -> bool
     are_value_bytes(value) && !is_blank_at(value.first()) && !is_blank_at(value.last())
 }
 
-/// Returns whether all bytes are allowed in a field value.
+/// Returns whether all bytes are allowed in a field value. Takes four at a time.
 fn are_value_bytes(value: &[u8]) -> bool
     ensures { result ≡ list_all is_value_byte value.now }
 {
-    // Each byte is tested, so that several are at a time.
-    let mut valid = true;
-    for byte in value {
-        valid = is_value_byte(*byte) && valid;
+    let mut rest = value;
+    while let [a, b, c, d, others @ ..] = rest {
+        if !(is_value_byte(*a) && is_value_byte(*b) && is_value_byte(*c) && is_value_byte(*d)) {
+            return false;
+        }
+        rest = others;
     }
-    valid
+    is_each_value_byte(rest)
+}
+
+/// Returns whether each byte is allowed in a field value.
+fn is_each_value_byte(value: &[u8]) -> bool
+    ensures { result ≡ list_all is_value_byte value.now }
+{
+    for byte in value {
+        if !is_value_byte(*byte) {
+            return false;
+        }
+    }
+    true
 }
 
 /// Returns whether a byte is allowed in a field value: a tab, or any byte but a control character.
 fn is_value_byte(byte: u8) -> bool
     ensures { result ≡ is_value_byte byte }
 {
-    byte == b'\t' || (byte > 31 && byte != 127)
+    (byte > 31 && byte < 127) || byte > 127 || byte == b'\t'
 }
 
 /// Returns whether there is a byte and it is a space or a tab.
