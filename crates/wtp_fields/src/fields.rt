@@ -118,6 +118,7 @@ impl FieldList {
     {
         FieldList {
             texts: with_room(alloc, size),
+            // the size of each field is at least 32
             places: with_room(alloc, size / 32),
         }
     }

@@ -1,6 +1,7 @@
 pub mod LengthLemmas
 pub mod LineLemmas
 pub mod NameLemmas
+pub mod PseudoLemmas
 pub mod RequestLemmas
 pub mod ResponseLemmas
 pub mod WordLemmas

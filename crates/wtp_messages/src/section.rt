@@ -2,7 +2,7 @@
 ghost use Rattle.std.specs.Prelude.{◌≡◌, true, false, not, MatchResult};
 ghost use Rattle.std.specs.List.{list_any};
 ghost use Rattle.wtp_qpack.specs.FieldLines.{seen_line};
-ghost use Rattle.wtp_messages.specs.Names.{is_one_of};
+ghost use Rattle.wtp_messages.specs.Names.{is_one_of, starts_with};
 ghost use Rattle.wtp_messages.specs.Section.{connection_names, allows_te as allows_te_value, are_pseudo_first, is_repeated as is_repeated_name, pseudo_names, line_breaks, section_breaks, announces as announces_is, announced, IsSection};
 
 use crate::length::read_length;
@@ -160,21 +160,47 @@ fn has_late_pseudo(list: &FieldList) -> bool
     false
 }
 
-/// Returns whether a pseudo-header field of this kind of section is repeated.
+/// Returns whether a pseudo-header field of this kind of section is repeated, in a list that begins
+/// with its pseudo-header fields.
 fn has_repeated_pseudo(list: &FieldList, kind: SectionKind) -> bool
+    requires { are_pseudo_first list.now ≡ true }
     ensures { result ≡ list_any (is_repeated_name list.now) (pseudo_names kind) }
 {
     match kind {
         SectionKind::Request => {
-            is_repeated(list, b":method")
-                || is_repeated(list, b":scheme")
-                || is_repeated(list, b":authority")
-                || is_repeated(list, b":path")
-                || is_repeated(list, b":protocol")
+            is_repeated_pseudo(list, b":method")
+                || is_repeated_pseudo(list, b":scheme")
+                || is_repeated_pseudo(list, b":authority")
+                || is_repeated_pseudo(list, b":path")
+                || is_repeated_pseudo(list, b":protocol")
         }
-        SectionKind::Response | SectionKind::Tunnel => is_repeated(list, b":status"),
+        SectionKind::Response | SectionKind::Tunnel => is_repeated_pseudo(list, b":status"),
         SectionKind::Trailers => false,
     }
+}
+
+/// Returns whether two fields or more have this name of a pseudo-header field, in a list that begins
+/// with its pseudo-header fields. Reads only these.
+#[tactic(auto, using(crate::proofs::PseudoLemmas::other_name, crate::proofs::PseudoLemmas::first_named, crate::proofs::PseudoLemmas::second_named, crate::proofs::PseudoLemmas::none_follow))]
+fn is_repeated_pseudo(list: &FieldList, name: &[u8]) -> bool
+    requires first { are_pseudo_first list.now ≡ true }
+    requires pseudo { starts_with 58 name.now ≡ true }
+    ensures { result ≡ is_repeated_name list.now name.now }
+{
+    let mut found = false;
+    let mut lines = list.iter();
+    while let Some(line) = lines.next() {
+        if !is_pseudo(line) {
+            return false;
+        }
+        if line.name == name {
+            if found {
+                return true;
+            }
+            found = true;
+        }
+    }
+    false
 }
 
 /// Returns whether two fields or more have this name.
