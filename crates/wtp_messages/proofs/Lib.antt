@@ -1,3 +1,4 @@
+pub mod AuthorityLemmas
 pub mod LengthLemmas
 pub mod LineLemmas
 pub mod NameLemmas

@@ -1,6 +1,7 @@
 pub mod Names
 pub mod Section
 pub mod Length
+pub mod Authority
 pub mod Request
 pub mod Response
 pub mod Content
