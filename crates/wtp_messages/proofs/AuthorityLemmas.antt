@@ -234,7 +234,7 @@ parts_visible : (parts : List Part) (rest : List ℕ) → ValidParts parts → l
 parts_visible [] rest v h = h
 parts_visible (part ∷ parts) rest v h = part_visible part _ v.0 (parts_visible parts rest v.1 h)
 
-digits_visible : (text : List ℕ) → list_all is_digit text ≡ true → list_all is_visible text ≡ true
+pub digits_visible : (text : List ℕ) → list_all is_digit text ≡ true → list_all is_visible text ≡ true
 digits_visible [] h = refl
 digits_visible (digit ∷ text) h = and_from _ _ (between 47 58 digit (omega arith) (omega arith) (and_parts _ _ h).0) (digits_visible text (and_parts _ _ h).1)
 

@@ -4,6 +4,7 @@ pub mod Length
 pub mod Authority
 pub mod Request
 pub mod Response
+pub mod Plain
 pub mod Content
 pub mod Message
 pub mod Words
