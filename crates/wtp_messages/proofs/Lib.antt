@@ -1,4 +1,5 @@
 pub mod AuthorityLemmas
+pub mod BrokenLemmas
 pub mod LengthLemmas
 pub mod LineLemmas
 pub mod NameLemmas

@@ -5,6 +5,7 @@ pub mod Authority
 pub mod Request
 pub mod Response
 pub mod Plain
+pub mod Broken
 pub mod Content
 pub mod Message
 pub mod Words
