@@ -8,6 +8,12 @@ import re
 
 TOKEN = re.compile(rb"[!#$%&'*+.^_`|~0-9A-Za-z-]+")
 SCHEME = re.compile(rb"[A-Za-z][A-Za-z0-9+.-]*")
+# A host and maybe a port (RFC 3986, sections 3.2.2 and 3.2.3); of an IP literal no more than its bytes.
+AUTHORITY = re.compile(
+    rb"(?:\[(?:[0-9A-Fa-f:.]+|[vV][\w.~!$&'()*+,;=:-]*)\]"
+    rb"|(?:%[0-9A-Fa-f]{2}|[\w.~!$&'()*+,;=-])+)(?::(?P<port>[0-9]*))?",
+    re.ASCII,
+)
 CONTROL = re.compile(rb"[\x00-\x08\x0a-\x1f\x7f]")
 OF_CONNECTION = {b"connection", b"keep-alive", b"proxy-connection", b"upgrade"}
 OF_CONNECTION |= {b"transfer-encoding"}
@@ -70,13 +76,15 @@ def is_malformed_request(fields, extended):
         # (a host alone is not enough: RFC 9114, section 4.4)
         if b":scheme" in first or b":path" in first or b":authority" not in first:
             return True
-        return has_wrong_authority(fields)
+        return has_wrong_authority(fields) or not port_of(first[b":authority"])
     scheme, path = first.get(b":scheme"), first.get(b":path")
     if scheme is None or path is None or not SCHEME.fullmatch(scheme):
         return True
-    if scheme.lower() in (b"http", b"https"):
-        if is_wrong_path(path, method) or has_wrong_authority(fields):
-            return True
+    is_http = scheme.lower() in (b"http", b"https")
+    if is_http and is_wrong_path(path, method):
+        return True
+    if (is_http or method == b"CONNECT") and has_wrong_authority(fields):
+        return True
     if protocol == b"webtransport":
         return scheme.lower() != b"https" or has_content_fields(first)
     return False
@@ -94,13 +102,19 @@ def is_wrong_path(path, method):
 
 
 def has_wrong_authority(fields):
-    """Returns whether there is no authority, or an invalid one, or two that differ."""
+    """Returns whether there is no authority, or an invalid one, or two that differ (RFC 3986,
+    sections 3.2.2 and 3.2.3)."""
     given = [value for name, value in fields if name == b":authority"]
     hosts = [value for name, value in fields if name == b"host"]
     both = {value.lower() for value in given + hosts}
     if len(both) != 1 or len(hosts) > 1:
         return True
-    return b"" in both or any(b"@" in value for value in both)
+    return not all(AUTHORITY.fullmatch(value) for value in both)
+
+
+def port_of(authority):
+    """Returns the digits of a valid authority's port, or None (RFC 9110, section 9.3.6)."""
+    return AUTHORITY.fullmatch(authority)["port"]
 
 
 def status_of(fields):
@@ -126,8 +140,8 @@ def expected_length(fields, status=None, asked=""):
     """Returns how many bytes of content a message has to have, or None if any number is right. A
     request has no status (RFC 9110, sections 6.4.1, 8.6 and 9.3.6)."""
     if status is not None:
-        if asked == "head" or status in (204, 304):
-            return 0
         if asked in ("connect", "session") and 200 <= status < 300:
             return None
+        if asked == "head" or status in (204, 304):
+            return 0
     return content_length(fields)

@@ -5,7 +5,8 @@ import unittest
 
 from connection_model import Side, events_of
 from connection_rows import ROWS
-from message_rules import content_length, is_malformed_request, is_malformed_response
+from message_rules import content_length, expected_length
+from message_rules import is_malformed_request, is_malformed_response
 from recorded_connections import connections_in
 from recorded_sessions import RecordedSessions
 from replay import TOP, difference, ends_connection, is_start
@@ -51,6 +52,8 @@ class SessionModelTest(unittest.TestCase):
         self.assertTrue(is_malformed_request([*GET, (b"X", b"y")], False))
         self.assertFalse(is_malformed_request(CONNECT, False))
         self.assertTrue(is_malformed_request([CONNECT[0], (b"host", b"a")], False))
+        self.assertTrue(is_malformed_request([CONNECT[0], (b":authority", b"a")], False))
+        self.assertEqual(expected_length([], 204, "connect"), None)
         self.assertFalse(is_malformed_response([(b":status", b"204")], ""))
         self.assertTrue(is_malformed_response([(b":status", b"204")], "session"))
         accepted = [(b":status", b"200"), (b"content-length", b"abc")]

@@ -1,7 +1,10 @@
+pub mod AuthorityLemmas
+pub mod BrokenLemmas
 pub mod LengthLemmas
 pub mod LineLemmas
 pub mod NameLemmas
 pub mod PseudoLemmas
+pub mod PlainLemmas
 pub mod RequestLemmas
 pub mod ResponseLemmas
 pub mod WordLemmas

@@ -71,10 +71,10 @@ response_error kind fields rule (Err x) is e = rw is e
 
 -- with success or without it
 tunnel_length : (none success : Bool) (fields : List Field)
-    → (if none then Some 0 else if success then None else announced (kind_if success) fields)
-    ≡ (if none then Some 0 else if success then None else content_length fields)
-tunnel_length true success fields = refl
-tunnel_length false true fields = refl
+    → (if success then None else if none then Some 0 else announced (kind_if success) fields)
+    ≡ (if success then None else if none then Some 0 else content_length fields)
+tunnel_length none true fields = refl
+tunnel_length true false fields = refl
 tunnel_length false false fields = refl
 
 -- the length that its section announces is that of a content-length, as far as it matters

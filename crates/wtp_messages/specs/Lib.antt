@@ -1,8 +1,11 @@
 pub mod Names
 pub mod Section
 pub mod Length
+pub mod Authority
 pub mod Request
 pub mod Response
+pub mod Plain
+pub mod Broken
 pub mod Content
 pub mod Message
 pub mod Words

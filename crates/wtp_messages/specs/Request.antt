@@ -1,13 +1,14 @@
 -- Requests (RFC 9114, sections 4.3.1 and 4.4; RFC 8441, section 4; RFC 9297, section 3.2).
 use Rattle.std.specs.Prelude.{ℕ, ◌≡◌, ◌==◌, nat_lt, Bool, false, not, ◌&&◌, ◌||◌, List, [], ◌∷◌, length, codes}
 use Rattle.std.specs.Prelude.{Option, Some, None, is_some}
-use Rattle.std.specs.List.{list_all, list_any}
+use Rattle.std.specs.List.{list_all}
 use Rattle.std.specs.Option.{option_copied}
 use Rattle.std.specs.Str.{bytes_eq, str_eq_ignore_ascii_case}
 use Rattle.wtp_qpack.specs.Field.{Field, field_value}
 use Rattle.wtp_fields.specs.FieldWriting.{is_alphanumeric, is_upper}
 use Rattle.wtp_fields.specs.FieldList.{values_of}
 use Rattle.wtp_messages.specs.Names.{starts_with, is_some_text, is_whole_token, has_field, is_and, is_and_not, has_value}
+use Rattle.wtp_messages.specs.Authority.{is_authority}
 use Rattle.wtp_messages.specs.Section.{section_breaks}
 use Rattle.wtp_messages.specs.Length.{content_length}
 use Rattle.wtp_messages.specs.Content.{content_of}
@@ -117,22 +118,20 @@ lacks_authority fields =
     || is_and_not is_some_text (authority_of fields)
     || is_and_not is_some_text (host_of fields)
 
--- the text has user information, which ends with an at sign (RFC 3986, section 3.2.1)
-abbrev pub has_user : List ℕ → Bool
-has_user text = list_any (λ byte. byte == 64) text
-
 -- both are there and differ, whatever the case of their letters
 abbrev pub differ : Option (List ℕ) → Option (List ℕ) → Bool
 differ None host = false
 differ (Some authority) host =
     is_and (λ other. not (str_eq_ignore_ascii_case authority other)) host
 
--- the authority is invalid
+-- There are two hosts, or the authority is invalid: it is none of RFC 3986, section 3.2, or it has user
+-- information (RFC 9110, section 4.2.4), or it has no port in a CONNECT without :protocol (RFC 9114,
+-- section 4.4), or :authority and host differ.
 abbrev pub has_bad_authority : List Field → Bool
 has_bad_authority fields =
     nat_lt 1 (length (values_of (codes "host") fields))
-    || is_and has_user (authority_of fields)
-    || is_and has_user (host_of fields)
+    || is_and_not (is_authority (is_plain_connect fields)) (authority_of fields)
+    || is_and_not (is_authority (is_plain_connect fields)) (host_of fields)
     || differ (authority_of fields) (host_of fields)
 
 -- ---- the table

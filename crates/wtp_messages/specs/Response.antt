@@ -116,11 +116,12 @@ response_breaks kind fields rule =
 abbrev pub has_no_content : ℕ → Bool
 has_no_content code = nat_lt code 200 || code == 204 || code == 304
 
--- the length of the content that is to come, if it is known
+-- The length of the content that is to come, if it is known. After any 2xx response to a CONNECT
+-- request come the bytes of a tunnel (RFC 9110, section 9.3.6).
 abbrev pub expected : Asked → ℕ → Option ℕ → Option ℕ
 expected kind code announced =
-    if is_head kind || has_no_content code then Some 0 else
-    if is_tunnel kind && is_success (Some code) then None else announced
+    if is_tunnel kind && is_success (Some code) then None else
+    if is_head kind || has_no_content code then Some 0 else announced
 
 -- what a well-formed response says
 pub record IsResponse (kind : Asked) (fields : List Field) (response : Response) : Type 0 where

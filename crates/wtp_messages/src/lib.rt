@@ -2,7 +2,9 @@
 //! content a message has (RFC 9114, section 4).
 #![tactic(auto)]
 
+mod authority;
 pub mod content;
+pub mod laws;
 mod length;
 pub mod malformed;
 pub mod message;

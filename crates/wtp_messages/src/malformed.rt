@@ -63,8 +63,10 @@ pub enum Malformed {
     /// one (RFC 9114, sections 4.3.1 and 4.4).
     #[error("there is no authority")]
     MissingAuthority,
-    /// In such a request `:authority` and `host` differ, there are two `host` fields, or there is
-    /// user information (RFC 9114, section 4.3.1; RFC 9110, section 7.2).
+    /// In such a request `:authority` and `host` differ, there are two `host` fields, or one is no
+    /// host with at most a port (RFC 3986, section 3.2): its host is empty, it has user information,
+    /// or a byte that is not allowed. In a CONNECT request without `:protocol` it has no port (RFC
+    /// 9114, sections 4.3.1 and 4.4; RFC 9110, sections 4.2.2, 7.2 and 9.3.6).
     #[error("the authority is invalid")]
     InvalidAuthority,
     /// A CONNECT request without `:protocol` has a `:scheme` or a `:path` (RFC 9114, section 4.4).

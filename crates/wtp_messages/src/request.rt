@@ -2,15 +2,18 @@
 ghost use Rattle.std.specs.Prelude.{◌≡◌, true, MatchResult};
 ghost use Rattle.std.specs.List.{list_all};
 ghost use Rattle.std.specs.Option.{option_copied};
-ghost use Rattle.wtp_messages.specs.Names.{is_and};
+ghost use Rattle.wtp_qpack.specs.Field.{field_value};
+ghost use Rattle.wtp_messages.specs.Names.{is_and_not};
+ghost use Rattle.wtp_messages.specs.Authority.{is_authority as is_authority_text};
 ghost use Rattle.wtp_messages.specs.Request.{is_connect as is_connect_request, is_plain_connect as is_plain_connect_request};
 ghost use Rattle.wtp_messages.specs.Request.{has_scheme as has_scheme_in, is_http as is_http_request};
 ghost use Rattle.wtp_messages.specs.Request.{is_scheme as is_scheme_text, is_scheme_byte as is_scheme_byte_of};
 ghost use Rattle.wtp_messages.specs.Request.{is_path as is_path_text, is_path_byte as is_path_byte_of};
 ghost use Rattle.wtp_messages.specs.Request.{authority_of as authority_in, host_of, lacks_authority as lacks_authority_in};
-ghost use Rattle.wtp_messages.specs.Request.{has_user as has_user_in, differ as differ_in, has_bad_authority as has_bad_authority_in};
+ghost use Rattle.wtp_messages.specs.Request.{differ as differ_in, has_bad_authority as has_bad_authority_in};
 ghost use Rattle.wtp_messages.specs.Request.{head_breaks, request_breaks, or_host, IsRequest, HasMethod, HasTarget, HasAuthority, HasNoContentField};
 
+use crate::authority::is_authority;
 use crate::content::Content;
 use crate::malformed::Malformed;
 use crate::names::{equal_ignoring_case, has_field, has_value, is_whole_token};
@@ -24,8 +27,9 @@ pub struct Request<'a> {
     pub method: &'a [u8],
     /// The value of `:scheme`. Only a CONNECT request without `:protocol` has none.
     pub scheme: Option<&'a [u8]>,
-    /// The value of `:authority`, or else that of `host`. It is neither missing nor empty in a CONNECT
-    /// request, nor if the scheme is `http` or `https`.
+    /// The value of `:authority`, or else that of `host`. In a CONNECT request, and if the scheme is
+    /// `http` or `https`, it is there: a host that is not empty, and maybe a port after a colon (RFC
+    /// 3986, section 3.2). A CONNECT request without `:protocol` has a port.
     pub authority: Option<&'a [u8]>,
     /// The value of `:path`. Only a CONNECT request without `:protocol` has none.
     pub path: Option<&'a [u8]>,
@@ -271,25 +275,25 @@ fn lacks_authority(list: &FieldList) -> bool
     }
 }
 
-/// Returns whether `:authority` and `host` differ, there are two `host` fields, or one has user
-/// information.
+/// Returns whether `:authority` and `host` differ, there are two `host` fields, or one is no
+/// authority.
 fn has_bad_authority(list: &FieldList) -> bool
     ensures { result ≡ has_bad_authority_in list.now }
 {
-    if is_repeated(list, b"host") {
-        return true;
-    }
-    let authority = list.first(b":authority");
-    let host = list.first(b"host");
-    has_user(authority) || has_user(host) || differ(authority, host)
+    is_repeated(list, b"host")
+        || is_invalid(list, b":authority")
+        || is_invalid(list, b"host")
+        || differ(list.first(b":authority"), list.first(b"host"))
 }
 
-/// Returns whether there is an authority with user information (RFC 3986, section 3.2.1).
-fn has_user(authority: Option<&[u8]>) -> bool
-    ensures { result ≡ is_and has_user_in (option_copied authority.entry) }
+/// Returns whether there is a field of this name whose value is no authority, or has no port where
+/// one must be there.
+fn is_invalid(list: &FieldList, name: &[u8]) -> bool
+    ensures { result ≡ is_and_not (is_authority_text (is_plain_connect_request list.now))
+        (field_value name.now list.now) }
 {
-    match authority {
-        Some(authority) => authority.contains(&b'@'),
+    match list.first(name) {
+        Some(text) => !is_authority(text, is_plain_connect(list)),
         None => false,
     }
 }

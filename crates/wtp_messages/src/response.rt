@@ -30,9 +30,9 @@ pub struct Response {
     /// The status code: from 100 to 999, and not 101. One from 600 on is to be handled as 5xx (RFC
     /// 9110, section 15).
     pub status: u32,
-    /// The content that is to come. Of an interim response, one with status 204 or 304, and one to
-    /// a HEAD request it is none. Of any other 2xx response to a CONNECT request it is any number of
-    /// bytes.
+    /// The content that is to come. Of a 2xx response to a CONNECT request it is any number of bytes,
+    /// since a tunnel or a session follows (RFC 9110, section 9.3.6). Of an interim response, of any
+    /// other one with status 204 or 304, and of one to a HEAD request it is none.
     pub content: Content,
 }
 
@@ -126,11 +126,11 @@ fn is_success(status: u32) -> bool
 fn expected(asked: Asked, status: u32, announced: Option<u64>) -> Option<u64>
     ensures { result ≡ expected_length asked status announced }
 {
+    if (asked == Asked::Connect || asked == Asked::Session) && is_success(status) {
+        return None;
+    }
     if asked == Asked::Head || status < 200 || status == 204 || status == 304 {
         return Some(0);
     }
-    match asked {
-        Asked::Connect | Asked::Session if is_success(status) => None,
-        _ => announced,
-    }
+    announced
 }

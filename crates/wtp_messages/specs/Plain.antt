@@ -1,0 +1,118 @@
+-- Messages of plain fields: lists that are well formed whatever their values are, and what they say
+-- (RFC 9114, section 4).
+use Rattle.std.specs.Prelude.{◌≡◌, ℕ, Bool, true, false, not, ◌&&◌, List, [], ◌∷◌, ◌++◌, codes}
+use Rattle.std.specs.Prelude.{Option, Some, None, Result, MatchResult}
+use Rattle.std.specs.List.{list_all}
+use Rattle.std.specs.Option.{option_copied}
+use Rattle.wtp_qpack.specs.Field.{Field}
+use Rattle.wtp_fields.specs.FieldWriting.{is_field_value, request_fields}
+use Rattle.wtp_fields.specs.FieldMessages.{three_digits}
+use Rattle.wtp_messages.specs.declared.malformed.Malformed.{Malformed}
+use Rattle.wtp_messages.specs.declared.request.Request.{Request}
+use Rattle.wtp_messages.specs.declared.response.Asked.{Asked}
+use Rattle.wtp_messages.specs.declared.response.Asked.TheVariants as asked
+use Rattle.wtp_messages.specs.declared.response.Response.{Response}
+use Rattle.wtp_messages.specs.Authority.{IsAuthority}
+use Rattle.wtp_messages.specs.Content.{content_of}
+use Rattle.wtp_messages.specs.Length.{is_digit}
+use Rattle.wtp_messages.specs.Names.{starts_with, is_whole_token, is_field_name, is_one_of}
+use Rattle.wtp_messages.specs.Request.{is_path_byte, request_breaks, IsRequest}
+use Rattle.wtp_messages.specs.Response.{is_status, is_unexpected, expected, response_breaks, IsResponse}
+use Rattle.wtp_messages.specs.Section.{is_connection_field}
+
+-- ---- plain fields
+
+-- names of regular fields to which rules of their own apply, besides those of connections
+abbrev pub own_names : List (List ℕ)
+own_names =
+    codes "te" ∷ codes "host" ∷ codes "content-length" ∷ codes "content-type" ∷ []
+
+-- The name is a token without upper-case letters, the value is valid, and no rule of its own applies.
+abbrev pub is_plain : Field → Bool
+is_plain field =
+    is_field_name field.0
+    && is_field_value field.1
+    && not (is_connection_field field)
+    && not (is_one_of own_names field.0)
+
+-- ---- requests
+
+-- an https request other than CONNECT
+abbrev pub request_list : List ℕ → List ℕ → List ℕ → List Field → List Field
+request_list method authority path others =
+    (codes ":method", method)
+    ∷ (codes ":scheme", codes "https")
+    ∷ (codes ":authority", authority)
+    ∷ (codes ":path", path)
+    ∷ others
+
+-- a request for a session of WebTransport, as a client writes it
+abbrev pub session_list : List ℕ → List ℕ → List Field → List Field
+session_list authority path others = request_fields authority path ++ others
+
+-- a CONNECT without :protocol
+abbrev pub tunnel_list : List ℕ → List Field → List Field
+tunnel_list authority others =
+    (codes ":method", codes "CONNECT") ∷ (codes ":authority", authority) ∷ others
+
+-- an authority, a path that starts with a slash, and plain fields
+pub record IsTarget (authority path : List ℕ) (others : List Field) : Type 0 where
+  pub host : IsAuthority false authority
+  pub slash : starts_with 47 path ≡ true
+  pub bytes : list_all is_path_byte path ≡ true
+  pub plain : list_all is_plain others ≡ true
+
+-- a method, which is another than CONNECT
+pub record IsMethod (method : List ℕ) : Type 0 where
+  pub token : is_whole_token method ≡ true
+  pub other : method ≡ codes "CONNECT" → ⊥
+
+-- The request has these values, and announces no length.
+pub record Says (m : List ℕ) (s : Option (List ℕ)) (a : List ℕ) (p t : Option (List ℕ))
+    (request : Request) : Type 0 where
+  pub method : request.method.now ≡ m
+  pub scheme : option_copied request.scheme ≡ s
+  pub authority : option_copied request.authority ≡ Some a
+  pub path : option_copied request.path ≡ p
+  pub protocol : option_copied request.protocol ≡ t
+  pub content : request.content ≡ content_of None
+
+-- each result that the contract of `Request::read` allows for these fields is a request of which
+-- this holds
+abbrev pub ReadsRequest : Bool → List Field → (Request → Type 0) → Type 0
+ReadsRequest extended fields says =
+    (r : Result Request Malformed)
+    → MatchResult r (IsRequest extended fields) (λ rule. request_breaks extended fields rule ≡ true)
+    → MatchResult r says (λ rule. ⊥)
+
+-- ---- responses
+
+abbrev pub response_list : List ℕ → List Field → List Field
+response_list text others = (codes ":status", text) ∷ others
+
+-- three digits that denote this status, which is from 100 on and not 101
+pub record IsStatus (text : List ℕ) (code : ℕ) : Type 0 where
+  pub digits : list_all is_digit text ≡ true
+  pub is : three_digits text ≡ Some code
+  pub valid : is_status (Some code) ≡ true
+
+-- A response to the request may have this status. A session is not accepted with 204, 205 or 206 (RFC
+-- 9297, section 3.2).
+abbrev pub allows : Asked → ℕ → Bool
+allows asked.Session code = not (is_unexpected (Some code))
+allows asked.Head code = true
+allows asked.Connect code = true
+allows asked.Other code = true
+
+-- The response has this status, and content as its request and its status have it.
+pub record SaysStatus (kind : Asked) (code : ℕ) (response : Response) : Type 0 where
+  pub status : response.status ≡ code
+  pub content : response.content ≡ content_of (expected kind code None)
+
+-- each result that the contract of `Response::read` allows for these fields is a response of which
+-- this holds
+abbrev pub ReadsResponse : Asked → List Field → (Response → Type 0) → Type 0
+ReadsResponse kind fields says =
+    (r : Result Response Malformed)
+    → MatchResult r (IsResponse kind fields) (λ rule. response_breaks kind fields rule ≡ true)
+    → MatchResult r says (λ rule. ⊥)

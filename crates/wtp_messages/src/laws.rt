@@ -1,0 +1,218 @@
+//! Laws of the definitions that the contracts cite. Each function does nothing: its contract is the
+//! law.
+ghost use Rattle.std.specs.Prelude.{◌≡◌, ◌⊎◌, ◌<◌, ◌≤◌, ℕ, Bool, true, false, List, [], ◌∷◌, ◌++◌, Some, None, codes};
+ghost use Rattle.std.specs.List.{list_all, list_any};
+ghost use Rattle.std.specs.Str.{str_eq_ignore_ascii_case};
+ghost use Rattle.wtp_qpack.specs.Field.{Field};
+ghost use Rattle.wtp_fields.specs.FieldMessages.{three_digits};
+ghost use Rattle.wtp_fields.specs.FieldWriting.{is_upper, is_tchar};
+ghost use Rattle.wtp_messages.specs.declared.response.Asked.{Asked};
+ghost use Rattle.wtp_messages.specs.declared.response.Asked.TheVariants as asked;
+ghost use Rattle.wtp_messages.specs.declared.section.SectionKind.{SectionKind};
+ghost use Rattle.wtp_messages.specs.declared.section.SectionKind.TheVariants as section;
+ghost use Rattle.wtp_messages.specs.Broken.{RefusesLine, IsControl, IsBlank, Has, Lacks, IsConnect, IsHttp, IsForSession, NeedsAuthority, IsRefused, IsWellFormedResponse, IsRefusedResponse};
+ghost use Rattle.wtp_messages.specs.Names.{starts_with, is_pseudo, is_whole_token, has_field};
+ghost use Rattle.wtp_messages.specs.Request.{is_scheme, is_path_byte, IsWellFormed};
+ghost use Rattle.wtp_messages.specs.Authority.{is_authority, IsAuthority};
+ghost use Rattle.wtp_messages.specs.Plain.{is_plain, request_list, session_list, tunnel_list, response_list, IsTarget, IsMethod, Says, ReadsRequest, IsStatus, allows, SaysStatus, ReadsResponse};
+ghost use Rattle.wtp_messages.specs.Section.{IsSection};
+
+/// The test of an authority succeeds for the texts that the grammar has, and for no others. `must`: it
+/// must have a port.
+pub fn authorities_are_those_of_the_grammar()
+    ensures taken { (must : Bool) (text : List ℕ) → IsAuthority must text
+        → is_authority must text ≡ true }
+    ensures no_other { (must : Bool) (text : List ℕ) → is_authority must text ≡ true
+        → IsAuthority must text }
+    ensures name { is_authority true (codes "localhost:4433") ≡ true }
+    ensures version_4 { is_authority true (codes "127.0.0.1:4433") ≡ true }
+    ensures version_6 { is_authority true (codes "[::1]:4433") ≡ true }
+    ensures later { is_authority false (codes "[v7.a:b]") ≡ true }
+    ensures encoded { is_authority false (codes "%C3%a9.example:") ≡ true }
+    ensures empty_port { is_authority true (codes "example.com:") ≡ false }
+    ensures no_port { is_authority true (codes "example.com") ≡ false }
+    ensures no_host { is_authority false (codes ":443") ≡ false }
+    ensures user { is_authority false (codes "me@example.com") ≡ false }
+    ensures path { is_authority false (codes "example.com/") ≡ false }
+    ensures no_brackets { is_authority false (codes "::1") ≡ false }
+    ensures no_digits { is_authority false (codes "example.com:https") ≡ false }
+{}
+
+/// Requests of plain fields are read, whatever their values are, and say exactly these: `https` requests
+/// of any method, requests for a session where extended CONNECT is allowed, and CONNECT requests for a
+/// tunnel.
+pub fn plain_requests_are_read()
+    ensures request { (extended : Bool) (method authority path : List ℕ) (others : List Field)
+        → IsMethod method → IsTarget authority path others
+        → ReadsRequest extended (request_list method authority path others)
+        (Says method (Some (codes "https")) authority (Some path) None) }
+    ensures session { (authority path : List ℕ) (others : List Field)
+        → IsTarget authority path others
+        → ReadsRequest true (session_list authority path others)
+        (Says (codes "CONNECT") (Some (codes "https")) authority (Some path) (Some (codes "webtransport"))) }
+    ensures tunnel { (extended : Bool) (authority : List ℕ) (others : List Field)
+        → IsAuthority true authority → list_all is_plain others ≡ true
+        → ReadsRequest extended (tunnel_list authority others)
+        (Says (codes "CONNECT") None authority None None) }
+{}
+
+/// Responses and trailers of plain fields are read: any status from 100 on but 101, and but 204, 205 and
+/// 206 in the answer to a request for a session.
+pub fn plain_responses_are_read()
+    ensures response { (kind : Asked) (text : List ℕ) (code : ℕ) (others : List Field)
+        → IsStatus text code → allows kind code ≡ true → list_all is_plain others ≡ true
+        → ReadsResponse kind (response_list text others) (SaysStatus kind code) }
+    ensures trailers { (others : List Field) → list_all is_plain others ≡ true
+        → IsSection section.Trailers others }
+{}
+
+/// A section with one of these lines is malformed, whatever is beside it, and whatever its value is.
+pub fn broken_lines_are_refused()
+    ensures empty_name { (kind : SectionKind) (value : List ℕ) → RefusesLine kind [] value }
+    ensures upper_case { (kind : SectionKind) (name value : List ℕ)
+        → list_any is_upper name ≡ true → RefusesLine kind name value }
+    ensures no_token { (kind : SectionKind) (name value : List ℕ) → starts_with 58 name ≡ false
+        → list_all is_tchar name ≡ false → RefusesLine kind name value }
+    ensures control { (kind : SectionKind) (name front back : List ℕ) (byte : ℕ) → IsControl byte
+        → RefusesLine kind name (front ++ byte ∷ back) }
+    ensures blank_first { (kind : SectionKind) (name others : List ℕ) (byte : ℕ) → IsBlank byte
+        → RefusesLine kind name (byte ∷ others) }
+    ensures blank_last { (kind : SectionKind) (name front : List ℕ) (byte : ℕ) → IsBlank byte
+        → RefusesLine kind name (front ++ byte ∷ []) }
+    ensures connection { (kind : SectionKind) (value : List ℕ)
+        → RefusesLine kind (codes "connection") value }
+    ensures keep_alive { (kind : SectionKind) (value : List ℕ)
+        → RefusesLine kind (codes "keep-alive") value }
+    ensures proxy_connection { (kind : SectionKind) (value : List ℕ)
+        → RefusesLine kind (codes "proxy-connection") value }
+    ensures transfer_encoding { (kind : SectionKind) (value : List ℕ)
+        → RefusesLine kind (codes "transfer-encoding") value }
+    ensures upgrade { (kind : SectionKind) (value : List ℕ)
+        → RefusesLine kind (codes "upgrade") value }
+    ensures te { (value : List ℕ) → str_eq_ignore_ascii_case value (codes "trailers") ≡ false
+        → RefusesLine section.Request (codes "te") value }
+    ensures te_elsewhere { (kind : SectionKind) (value : List ℕ) → (kind ≡ section.Request → ⊥)
+        → RefusesLine kind (codes "te") value }
+    ensures unknown_in_request { (name value : List ℕ) → starts_with 58 name ≡ true
+        → (name ≡ codes ":method" → ⊥) → (name ≡ codes ":scheme" → ⊥)
+        → (name ≡ codes ":authority" → ⊥) → (name ≡ codes ":path" → ⊥)
+        → (name ≡ codes ":protocol" → ⊥) → RefusesLine section.Request name value }
+    ensures unknown_in_response { (name value : List ℕ) → starts_with 58 name ≡ true
+        → (name ≡ codes ":status" → ⊥) → RefusesLine section.Response name value }
+    ensures unknown_in_tunnel { (name value : List ℕ) → starts_with 58 name ≡ true
+        → (name ≡ codes ":status" → ⊥) → RefusesLine section.Tunnel name value }
+    ensures pseudo_in_trailers { (name value : List ℕ) → starts_with 58 name ≡ true
+        → RefusesLine section.Trailers name value }
+{}
+
+/// So is a section with a pseudo-header field after a regular field, or with two of one name. The rules
+/// of sections are those of requests and of responses.
+pub fn broken_sections_are_refused()
+    ensures late { (kind : SectionKind) (before between after : List Field) (field pseudo : Field)
+        → is_pseudo field ≡ false → is_pseudo pseudo ≡ true
+        → IsSection kind (before ++ field ∷ (between ++ pseudo ∷ after)) → ⊥ }
+    ensures repeated { (kind : SectionKind) (name : List ℕ) (before between after : List Field)
+        (v w : List ℕ) → starts_with 58 name ≡ true
+        → IsSection kind (before ++ (name, v) ∷ (between ++ (name, w) ∷ after)) → ⊥ }
+    ensures request_section { (extended : Bool) (fields : List Field)
+        → IsWellFormed extended fields → IsSection section.Request fields }
+    ensures response_section { (kind : Asked) (fields : List Field)
+        → IsWellFormedResponse kind fields
+        → IsSection section.Response fields ⊎ IsSection section.Tunnel fields }
+{}
+
+/// A request without a method, a target or an authority that it must have is malformed, or with
+/// invalid ones, whatever is beside them.
+pub fn broken_requests_are_refused()
+    ensures no_method { (fields : List Field) → Lacks (codes ":method") fields → IsRefused fields }
+    ensures method { (fields : List Field) (value : List ℕ) → Has (codes ":method") value fields
+        → is_whole_token value ≡ false → IsRefused fields }
+    ensures no_scheme { (fields : List Field) → (IsConnect fields → ⊥)
+        → Lacks (codes ":scheme") fields → IsRefused fields }
+    ensures no_scheme_extended { (fields : List Field)
+        → has_field (codes ":protocol") fields ≡ true
+        → Lacks (codes ":scheme") fields → IsRefused fields }
+    ensures no_path { (fields : List Field) → (IsConnect fields → ⊥)
+        → Lacks (codes ":path") fields → IsRefused fields }
+    ensures no_path_extended { (fields : List Field)
+        → has_field (codes ":protocol") fields ≡ true
+        → Lacks (codes ":path") fields → IsRefused fields }
+    ensures scheme { (fields : List Field) (value : List ℕ) → Has (codes ":scheme") value fields
+        → is_scheme value ≡ false → IsRefused fields }
+    ensures session_scheme { (fields : List Field) (value : List ℕ) → IsForSession fields
+        → Has (codes ":scheme") value fields
+        → str_eq_ignore_ascii_case value (codes "https") ≡ false → IsRefused fields }
+    ensures no_slash { (fields : List Field) (value : List ℕ) → IsHttp fields
+        → Has (codes ":path") value fields → starts_with 47 value ≡ false
+        → (value ≡ codes "*" → ⊥) → IsRefused fields }
+    ensures path_byte { (fields : List Field) (value : List ℕ) → IsHttp fields
+        → Has (codes ":path") value fields → list_all is_path_byte value ≡ false
+        → (value ≡ codes "*" → ⊥) → IsRefused fields }
+    ensures asterisk { (fields : List Field) → IsHttp fields
+        → Has (codes ":path") (codes "*") fields
+        → (Has (codes ":method") (codes "OPTIONS") fields → ⊥) → IsRefused fields }
+    ensures no_authority { (fields : List Field) → NeedsAuthority fields
+        → Lacks (codes ":authority") fields → Lacks (codes "host") fields → IsRefused fields }
+    ensures host_of_tunnel { (fields : List Field) → IsConnect fields
+        → Lacks (codes ":protocol") fields → Lacks (codes ":authority") fields → IsRefused fields }
+    ensures authority { (fields : List Field) (value : List ℕ) → NeedsAuthority fields
+        → Has (codes ":authority") value fields → (IsAuthority false value → ⊥)
+        → IsRefused fields }
+    ensures host { (fields : List Field) (value : List ℕ) → NeedsAuthority fields
+        → Has (codes "host") value fields → (IsAuthority false value → ⊥) → IsRefused fields }
+    ensures no_port { (fields : List Field) (value : List ℕ) → IsConnect fields
+        → Lacks (codes ":protocol") fields → Has (codes ":authority") value fields
+        → (IsAuthority true value → ⊥) → IsRefused fields }
+    ensures two_hosts { (before between after : List Field) (v w : List ℕ)
+        → NeedsAuthority (before ++ (codes "host", v) ∷ (between ++ (codes "host", w) ∷ after))
+        → IsRefused (before ++ (codes "host", v) ∷ (between ++ (codes "host", w) ∷ after)) }
+    ensures another_host { (fields : List Field) (v w : List ℕ) → NeedsAuthority fields
+        → Has (codes ":authority") v fields → Has (codes "host") w fields
+        → str_eq_ignore_ascii_case v w ≡ false → IsRefused fields }
+    ensures tunnel_scheme { (fields : List Field) → IsConnect fields
+        → Lacks (codes ":protocol") fields → has_field (codes ":scheme") fields ≡ true
+        → IsRefused fields }
+    ensures tunnel_path { (fields : List Field) → IsConnect fields
+        → Lacks (codes ":protocol") fields → has_field (codes ":path") fields ≡ true
+        → IsRefused fields }
+    ensures protocol_without_connect { (fields : List Field)
+        → has_field (codes ":protocol") fields ≡ true → (IsConnect fields → ⊥)
+        → IsRefused fields }
+    ensures protocol_not_allowed { (fields : List Field)
+        → has_field (codes ":protocol") fields ≡ true → IsWellFormed false fields → ⊥ }
+    ensures protocol { (fields : List Field) (value : List ℕ)
+        → Has (codes ":protocol") value fields → is_whole_token value ≡ false → IsRefused fields }
+    ensures session_length { (fields : List Field) → IsForSession fields
+        → has_field (codes "content-length") fields ≡ true → IsRefused fields }
+    ensures session_type { (fields : List Field) → IsForSession fields
+        → has_field (codes "content-type") fields ≡ true → IsRefused fields }
+{}
+
+/// A response without a status is malformed, or with one that HTTP/3 does not have, or that does not
+/// accept a session.
+pub fn broken_responses_are_refused()
+    ensures no_status { (kind : Asked) (fields : List Field) → Lacks (codes ":status") fields
+        → IsRefusedResponse kind fields }
+    ensures no_digits { (kind : Asked) (fields : List Field) (text : List ℕ)
+        → Has (codes ":status") text fields → three_digits text ≡ None
+        → IsRefusedResponse kind fields }
+    ensures low_status { (kind : Asked) (fields : List Field) (text : List ℕ) (code : ℕ)
+        → Has (codes ":status") text fields → three_digits text ≡ Some code → code < 100
+        → IsRefusedResponse kind fields }
+    ensures switching { (kind : Asked) (fields : List Field)
+        → Has (codes ":status") (codes "101") fields → IsRefusedResponse kind fields }
+    ensures session_204 { (fields : List Field) → Has (codes ":status") (codes "204") fields
+        → IsRefusedResponse asked.Session fields }
+    ensures session_205 { (fields : List Field) → Has (codes ":status") (codes "205") fields
+        → IsRefusedResponse asked.Session fields }
+    ensures session_206 { (fields : List Field) → Has (codes ":status") (codes "206") fields
+        → IsRefusedResponse asked.Session fields }
+    ensures accepted_length { (fields : List Field) (text : List ℕ) (code : ℕ)
+        → Has (codes ":status") text fields → three_digits text ≡ Some code
+        → 200 ≤ code → code < 300 → has_field (codes "content-length") fields ≡ true
+        → IsRefusedResponse asked.Session fields }
+    ensures accepted_type { (fields : List Field) (text : List ℕ) (code : ℕ)
+        → Has (codes ":status") text fields → three_digits text ≡ Some code
+        → 200 ≤ code → code < 300 → has_field (codes "content-type") fields ≡ true
+        → IsRefusedResponse asked.Session fields }
+{}
