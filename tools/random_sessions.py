@@ -14,8 +14,8 @@ from connection_rows import frame
 from nghttp3_sections import fields_of
 from random_scripts import Maker, is_critical
 from random_streams import Batch, StreamOfScript, mixed
-from session_events import Sessions, decision_in, difference, is_done, is_last, is_start
-from session_events import of_streams, session_events_in
+from session_events import Sessions, are_alike, cut_by_session, decision_in, difference, is_done
+from session_events import is_last, is_start, of_streams, session_events_in
 from session_model import CLOSE, DRAIN, Surroundings, session_events
 from session_rows import CONNECT as TUNNEL
 from session_rows import GET, SESSION, capsule, line, prefixed
@@ -221,6 +221,7 @@ class SessionScript:
         self.answers = {one: rng.choice((200, 200, 200, 299, 404, 503)) for one in chosen}
         self.datagrams = [self.datagram() for _ in range(rng.choice((0, 0, 1, 3)))]
         self.asked = {s.stream: s.asked for s in self.streams if s.opened == "request"}
+        self.own = {s.stream: s.session for s in self.streams if s.opened == "session"}
         self.twins = self.find_twins()
 
     def datagram(self):
@@ -309,7 +310,7 @@ class SessionScript:
             return None
         shown, other = of_streams(whole), of_streams(cut)
         for stream in {*shown, *other}:
-            if shown.get(stream) != other.get(stream):
+            if not are_alike(shown.get(stream, []), other.get(stream, [])):
                 return f"stream {stream}: whole {shown.get(stream)}, cut {other.get(stream)}"
         return None
 
@@ -331,7 +332,7 @@ class SessionScript:
             fault = self.starts_fault(found, ends, shown, wanted)
         else:
             fault = difference(found, wanted)
-        known = Sessions(self.side.is_server, self.asked)
+        known = Sessions(self.side.is_server, self.asked, self.own)
         return fault or known.fault(found_until) or self.datagram_fault(found)
 
     def starts_fault(self, found, ends, shown, wanted):
@@ -379,6 +380,7 @@ class SessionScript:
             *(self.side, stream.stream, stream.content, stream.fin, around),
             *(stream.opened, stream.asked),
         )
+        wanted = cut_by_session(events, wanted)
         return self.with_leave(stream, wanted, purpose, events) if stream.left_by else wanted
 
     def allows(self, settings):

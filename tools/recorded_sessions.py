@@ -3,7 +3,8 @@ and the streams and datagrams in random orders, cut into pieces."""
 
 from connection_model import Side
 from recorded_connections import REQUEST, SESSION, Connection
-from session_events import Sessions, decision_in, difference, is_done, is_last, of_streams
+from session_events import Sessions, cut_by_session, decision_in, difference, is_done, is_last
+from session_events import of_streams
 from session_model import Surroundings, session_events
 
 # Settings, as the index names them.
@@ -30,6 +31,7 @@ class RecordedSessions:
         settings = [pair for s in self.streams for thing in s.found for pair in thing.get("is", [])]
         self.answers, self.settings = {}, dict(settings)
         self.asked = {s.stream: asked_by(s.other) for s in self.streams if s.opened == REQUEST}
+        self.own = {s.stream: s.session for s in self.streams if s.opened == SESSION}
         for stream in self.streams:
             if self.side.is_server and (status := final_status(stream.other)):
                 self.answers[stream.stream] = status
@@ -72,15 +74,17 @@ class RecordedSessions:
 
     def wanted(self, shown):
         """Returns the events of each stream, where these were found."""
-        return {
-            stream.stream: self.wanted_of(stream, decision_in(shown.get(stream.stream, [])))
-            for stream in self.streams
-        }
+        wanted = {}
+        for stream in self.streams:
+            events = shown.get(stream.stream, [])
+            whole = self.wanted_of(stream, decision_in(events))
+            wanted[stream.stream] = cut_by_session(events, whole)
+        return wanted
 
     def fault(self, found):
         """Returns what is wrong with what was found."""
         wanted = self.wanted(of_streams(found))
-        known = Sessions(self.side.is_server, self.asked)
+        known = Sessions(self.side.is_server, self.asked, self.own)
         return difference(found, wanted) or known.fault(found) or self.datagram_fault(found)
 
     def datagram_fault(self, found):

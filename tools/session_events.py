@@ -2,12 +2,15 @@
 
 What is known of a session follows from the events of its own stream, in the order in which they
 come. By that each stream of a session has to be joined with it, to wait, or to be refused (draft-
-ietf-webtrans-http3-02, section 4), and each datagram to be delivered or not (RFC 9297, section 2).
+ietf-webtrans-http3-02, section 4), and to end with it (section 5), and each datagram to be
+delivered or not (RFC 9297, section 2).
 """
 
 from session_model import DECISIONS, joined_events
 
 GONE, REJECTED, NO_SESSION = 0x170D7B68, 0x3994BD84, 0x108
+# The error of a stream whose session is over.
+GONE_FAULT = ("fault", GONE)
 # How many streams may wait for sessions.
 MAX_WAITING = 16
 # The last events of streams.
@@ -109,12 +112,44 @@ def decision_in(events):
     return "coming"
 
 
+def place_of_gone(events):
+    """Returns the place of the error of a stream whose session ended before it, or None. (An error
+    of a stream that came after the end of its session follows `joins`.)"""
+    for place, event in enumerate(events):
+        if event == (*GONE_FAULT, "stream") and (not place or events[place - 1][0] != "joins"):
+            return place
+    return None
+
+
+def cut_by_session(events, wanted):
+    """Returns the events that are wanted of a stream, of which these were found: if its session
+    ended before it a start of its events, and the error."""
+    place = place_of_gone(events)
+    if place is None or any(event[0] == "end" for event in events[:place]):
+        return wanted
+    is_cut = is_start(events[:place], [event for event in wanted if event[0] != "left"])
+    return events[: place + 1] if is_cut else wanted
+
+
+def are_alike(events, others):
+    """Returns whether two ways gave the same events of a stream, which may be cut by the end of its
+    session."""
+    places = place_of_gone(events), place_of_gone(others)
+    if places == (None, None):
+        return events == others
+    parts = events[: places[0]], others[: places[1]]
+    return is_start(*parts) or is_start(*reversed(parts))
+
+
 class Sessions:
     """What is known of the sessions of a connection, of which each event is taken in turn. `asked`
-    has what each request of this end asks for."""
+    has what each request of this end asks for, and `own` the session of each stream that this end
+    opened for one."""
 
-    def __init__(self, is_server, asked):
+    def __init__(self, is_server, asked, own):
         self.is_server, self.waiting, self.due, self.begun = is_server, {}, [], set()
+        # The sessions of the streams that are joined with them, and not over.
+        self.joined = dict(own)
         self.asked = {stream for stream, asks in asked.items() if asks == "session"}
         self.states = {
             stream: "coming" if asks == "session" else "other"
@@ -141,18 +176,29 @@ class Sessions:
             due = self.due.pop(0)
             if (stream, *event[:2]) != due:
                 return f"{due} has to come, and not that of stream {stream}: {event}"
+            self.note(stream, event)
             self.change(stream, self.after(stream, event))
             return None
         if stream is None:
             return self.take_datagram(event)
         if stream in self.waiting and (event[0] == "joined" or self.is_decision(event)):
             return f"stream {stream} does not wait: {event}"
+        if stream in self.joined and event[:2] == GONE_FAULT:
+            return f"the session of stream {stream} is not over: {event}"
         if event[0] in ("reset", "abandoned"):
             self.waiting.pop(stream, None)
         if event[0] == "joins":
             self.join(stream, event[1])
+        self.note(stream, event)
         self.change(stream, self.after(stream, event))
         return None
+
+    def note(self, stream, event):
+        """Notes whether a stream is joined with its session."""
+        if event[0] == "joined":
+            self.joined[stream] = event[1]
+        elif event[0] in OVER:
+            self.joined.pop(stream, None)
 
     def is_decision(self, event):
         return event[0] == "fault" and event[1] in DECISIONS
@@ -189,12 +235,14 @@ class Sessions:
             self.due.append(decision)
 
     def change(self, session, state):
-        """Has a session in this state, which each stream that waits for it is told."""
+        """Has a session in this state, which each stream that waits for it is told, and if it is
+        over each stream of it."""
         if state is None or self.known(session) == state and session in self.states:
             return
         self.states[session] = state
-        for stream in sorted(self.waiting):
-            if self.waiting[stream] == session and (due := self.decision(stream, session)):
+        members = self.waiting | (self.joined if state == "over" else {})
+        for stream in sorted(members):
+            if members[stream] == session and (due := self.decision(stream, session)):
                 self.due.append(due)
         for stream, *_ in self.due:
             self.waiting.pop(stream, None)
@@ -230,7 +278,8 @@ class Sessions:
         if not ends or stream % 4 or before == "over":
             return None
         if before == "open":
-            return "over"
+            # (`lost` follows the end of reading)
+            return None if name == "abandoned" else "over"
         return "refused" if self.is_server or stream in self.asked else "impossible"
 
 

@@ -97,12 +97,14 @@ def in_accepted(shows, *frames, code=None, end=False, **more):
 
 def late(shows, before, code):
     """Returns the row of a stream of session 0, after these lines."""
-    return Row(shows, OTHER, b"\x40\x54\0abc", code, before=before)
+    return Row(shows, OTHER, MEMBER, code, before=before)
 
 
 # A section with the method alone, and the first byte of the next frame.
 METHOD_ALONE = frame(1, b"\0\0\xd1") + b"\1"
 SESSION_HEX = headers(*SESSION).hex()
+# A stream of session 0.
+MEMBER = b"\x40\x54\0abc"
 OPEN = f"bytes 2 {OF_CLIENT}\nanswer 0 200\nbytes 0 {SESSION_HEX}\n"
 SESSION_ROWS = [
     # Field sections (RFC 9204, sections 2.2.3, 3.1, 4.5 and 6).
@@ -326,10 +328,14 @@ SESSION_ROWS = [
     in_session("0x41 in a session (webtrans 4.2)", b"\x40\x41\0", code=FRAME),
     in_session("an unknown frame in a session", frame(0x21, b"abc"), frame(0xF0700), end=True),
     in_session("an end within DATA (7.1)", b"\0\5a", code=FRAME, end=True),
+    in_session("1024 frames without content", frame(0x21) * 1024, end=True),
     in_session("1025 frames without content", frame(0x21) * 1025, code=0x107),
     in_session("a reset session", after="reset 0"),
     in_session(
-        "a reset session with a stream", before=f"bytes {LATE} 404100616263\n", after="reset 0"
+        "a reset session with a stream",
+        code=SESSION_GONE,
+        before=f"bytes {LATE} 404100616263\n",
+        after="reset 0",
     ),
     in_session("an abandoned session", data(b"\x17"), after="abandon 0\nbytes 0 00\nend 0"),
     in_accepted("an accepted session that ends", end=True),
@@ -377,32 +383,69 @@ SESSION_ROWS = [
     Row(
         "a stream that waits, and its session is refused",
         OTHER,
-        b"\x40\x54\0abc",
+        MEMBER,
         REJECTED,
         after=OPEN.replace("200", "403"),
     ),
     Row(
         "a stream that waits, and its session ends",
         OTHER,
-        b"\x40\x54\0abc",
-        None,
+        MEMBER,
+        SESSION_GONE,
         after=OPEN + "end 0",
+    ),
+    *(
+        Row(f"a stream whose session {how}", OTHER, MEMBER, SESSION_GONE, before=OPEN, after=after)
+        for how, after in (
+            *(("ends after it", "end 0"), ("is reset after it", "reset 0")),
+            *(("is abandoned after it", "abandon 0"), ("is stopped after it", "stop 0")),
+            ("is closed after it", f"bytes 0 {data(capsule(0x2843, bytes(4))).hex()}"),
+        )
+    ),
+    Row(
+        "a stream whose session has an error after it",
+        OTHER,
+        MEMBER,
+        before=OPEN,
+        after=f"bytes 0 {data(capsule(0x2843, b'abc')).hex()}",
+    ),
+    Row(
+        "a stream that ends before its session",
+        *(OTHER, MEMBER),
+        end=True,
+        before=OPEN,
+        after="end 0",
+    ),
+    Row(
+        "a stream of the server whose session ends after it",
+        1,
+        b"abc",
+        SESSION_GONE,
+        before=OPEN + "session 1 0",
+        after="end 0",
+    ),
+    Row(
+        "a stream of another session than the one that ends",
+        OTHER,
+        b"\x40\x54\x04abc",
+        before=OPEN + f"answer 4 200\nbytes 4 {SESSION_HEX}",
+        after="end 0",
     ),
     Row(
         "a stream that waits, and its request is malformed",
         OTHER,
-        b"\x40\x54\0abc",
+        MEMBER,
         None,
         after=f"bytes 0 {headers(*GET[:3]).hex()}",
     ),
-    Row("a stream of no request of the client", 7, b"\x40\x54\0abc", ID, client=True),
+    Row("a stream of no request of the client", 7, MEMBER, ID, client=True),
     Row(
-        "one of a request for no session", 7, b"\x40\x54\0abc", ID, client=True, before="request 0"
+        "one of a request for no session", 7, MEMBER, ID, client=True, before="request 0"
     ),
     Row(
         "one of a session that waits for its answer",
         7,
-        b"\x40\x54\0abc",
+        MEMBER,
         client=True,
         before="request 0 session",
     ),
@@ -433,6 +476,7 @@ SESSION_ROWS = [
 ]
 # Errors besides that of the row's code.
 BESIDES = {
+    "a stream whose session has an error after it": [(MESSAGE, "stream"), (SESSION_GONE, "stream")],
     "one of a malformed request": [(MESSAGE, "stream"), (REJECTED, "stream")],
     "a stream that waits, and its request is malformed": [
         (MESSAGE, "stream"), (REJECTED, "stream")

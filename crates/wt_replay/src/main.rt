@@ -25,7 +25,8 @@
 //!   what is left of it.
 //!
 //! Commands for messages and sessions, where streams are joined with their sessions by what the
-//! connection knows of these, and those that wait are read again when that may have changed:
+//! connection knows of these. When that may have changed each stream of a session is told, and those that
+//! wait are read again:
 //!
 //! - `answer ID STATUS`: the request on stream ID is answered with this status, as soon as it waits for
 //!   that.

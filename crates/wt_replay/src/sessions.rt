@@ -21,6 +21,8 @@ const LIMIT: u64 = 65_536;
 #[derive(Drop)]
 struct Entry {
     stream: Stream,
+    /// The session that it belongs to.
+    session: Option<u64>,
     /// How many bytes came before `bytes`.
     at: u64,
     bytes: Vec<u8>,
@@ -33,10 +35,11 @@ struct Entry {
 }
 
 impl Entry {
-    /// Creates a stream without bytes.
-    fn new(alloc: Global, stream: Stream) -> Self {
+    /// Creates a stream without bytes, which was opened here for a session or not.
+    fn new(alloc: Global, stream: Stream, session: Option<u64>) -> Self {
         Entry {
             stream,
+            session,
             at: 0,
             bytes: Vec::new(alloc),
             consumed: 0,
@@ -127,9 +130,11 @@ impl Sessions {
             }
             Command::Request(id, asked) => {
                 let stream = self.connection.open(asked);
-                self.insert(id, stream)?;
+                self.insert(id, stream, None)?;
             }
-            Command::Session(id, session) => self.insert(id, Stream::of_session(session))?,
+            Command::Session(id, session) => {
+                self.insert(id, Stream::of_session(session), Some(session))?;
+            }
             Command::Bytes(id, bytes, fin) => self.receive(id, bytes.as_slice(), fin, out)?,
             Command::Reset(id) => self.reset(id, out)?,
             Command::Abandon(id) => self.abandon(id, out)?,
@@ -151,8 +156,9 @@ impl Sessions {
     }
 
     /// Adds a stream.
-    fn insert(&mut self, id: u64, stream: Stream) -> Result<(), AllocError> {
-        self.streams.insert(id, Entry::new(self.alloc, stream))?;
+    fn insert(&mut self, id: u64, stream: Stream, session: Option<u64>) -> Result<(), AllocError> {
+        self.streams
+            .insert(id, Entry::new(self.alloc, stream, session))?;
         Ok(())
     }
 
@@ -166,7 +172,7 @@ impl Sessions {
     ) -> Result<(), AllocError> {
         if self.streams.get(&id).is_none() {
             let stream = self.connection.accept(id);
-            self.insert(id, stream)?;
+            self.insert(id, stream, None)?;
         }
         if let Some(entry) = self.streams.get_mut(&id) {
             entry.add(self.alloc, bytes, fin)?;
@@ -213,13 +219,15 @@ impl Sessions {
         Ok(next)
     }
 
-    /// Joins a stream with its session.
+    /// Says what is known of a session to a stream that belongs to it.
     fn join(&mut self, id: u64, session: u64, out: &mut String) -> Result<(), AllocError> {
         let known = self.known(session);
         let Some(entry) = self.streams.get_mut(&id) else {
             return Ok(());
         };
+        entry.session = Some(session);
         let event = self.connection.join(&mut entry.stream, known);
+        entry.ready |= matches!(event, Event::StreamError(_));
         add_event(out, self.alloc, id, entry.offset(), &event)
     }
 
@@ -245,24 +253,22 @@ impl Sessions {
         Ok(true)
     }
 
-    /// Tells the streams that wait, if something came for which they may wait. They are to be read
-    /// again.
+    /// Tells each stream of a session what is known of it, if something came that may change that. Those
+    /// that wait or are over by it are to be read again.
     fn tell(&mut self, out: &mut String) -> Result<(), AllocError> {
         if !self.changed {
             return Ok(());
         }
         self.changed = false;
-        let mut waiting = Vec::new(self.alloc);
+        let mut members = Vec::new(self.alloc);
         for (id, entry) in self.streams.iter_mut() {
-            if let Some(wait) = entry.stream.waits() {
-                entry.ready = true;
-                waiting.push((*id, wait))?;
+            entry.ready |= entry.stream.waits().is_some();
+            if let Some(session) = entry.session {
+                members.push((*id, session))?;
             }
         }
-        for (id, wait) in waiting.iter() {
-            if let Waits::Session(session) = *wait {
-                self.join(*id, session, out)?;
-            }
+        for (id, session) in members.iter() {
+            self.join(*id, *session, out)?;
         }
         Ok(())
     }
