@@ -329,6 +329,8 @@ static void connection(const uint8_t *d, size_t n) {
   MUST(whole.sum == cut.sum && whole.events == cut.events && whole.content == cut.content);
 }
 
+#include "schedule.h"
+
 int LLVMFuzzerTestOneInput(const uint8_t *data, size_t size);
 int LLVMFuzzerTestOneInput(const uint8_t *data, size_t size) {
   uint8_t *copy = malloc(size > 0 ? size : 1);

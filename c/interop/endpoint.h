@@ -22,7 +22,7 @@ static void count_same(const transcript *read, const transcript *wanted, const c
 
 /* ---- What is read ---- */
 
-static void tell_frame(uint64_t type, const uint8_t *payload, size_t size, transcript *t) {
+static inline void tell_frame(uint64_t type, const uint8_t *payload, size_t size, transcript *t) {
   static wt_field fields[LINES];
   static wt_setting settings[LINES];
   static uint8_t texts[STREAM];
@@ -46,7 +46,7 @@ static void tell_frame(uint64_t type, const uint8_t *payload, size_t size, trans
 }
 
 /* Tells the frames of a stream that comes in random pieces, and its end or its fault. */
-static void read_frames(uint8_t kind, const uint8_t *bytes, size_t size, transcript *t) {
+static inline void read_frames(uint8_t kind, const uint8_t *bytes, size_t size, transcript *t) {
   size_t at = 0, held = 0, consumed;
   uint64_t code = 0;
   wt_reader reader;

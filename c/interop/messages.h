@@ -123,11 +123,18 @@ static inline int is_same(const transcript *a, const transcript *b) {
   return a->size == b->size && memcmp(a->bytes, b->bytes, a->size) == 0;
 }
 
+static uint64_t random_state = 0x9e3779b97f4a7c15u;
+
 static inline size_t below(size_t n) {
-  static uint64_t state = 0x9e3779b97f4a7c15u;
-  state ^= state << 13;
-  state ^= state >> 7;
-  state ^= state << 17;
-  return (size_t)(state % n);
+  random_state ^= random_state << 13;
+  random_state ^= random_state >> 7;
+  random_state ^= random_state << 17;
+  return (size_t)(random_state % n);
+}
+
+/* Begins the numbers that a seed has. */
+static inline void seed(uint64_t number) {
+  random_state = (number + 1) * 0x9e3779b97f4a7c15u;
+  for (int i = 0; i < 8; i++) below(2);
 }
 #endif

@@ -1,8 +1,10 @@
 /* A client of WebTransport that opens sessions on the server (server.c), through the proxy or not,
    in orders that the rules allow and that a network makes: streams before the CONNECT request of
-   their session, SETTINGS after it, ends before the answer. client PORT SECONDS CERTIFICATE
-   SESSIONS SEED It prints what failed, and ends with 'N passed, M failed': a check for each
-   session. */
+   their session, SETTINGS after it, ends before the answer.
+     client PORT SECONDS CERTIFICATE SESSIONS SEED [PID]
+   It prints what failed, and ends with 'N passed, M failed': a check for each session. PID is the
+   server's: then all sessions are plain, and one more check is that the server's memory after the
+   last hundred of them is that after the first. */
 #include "h3.h"
 #include <inttypes.h>
 #include <stdio.h>
@@ -16,7 +18,10 @@ enum {
   PER_CONNECTION = 20,
   CONNECTIONS = 8, /* at once */
   MAX_SIZE = 20000,
-  ORDERS = 4
+  ORDERS = 4,
+  HUNDREDS = 100, /* of sessions: after each the server's memory is noted */
+  QUIET = 300000000, /* nanoseconds before that, in which the server forgets closed connections */
+  GROWTH = 512 /* KiB that it may grow by, from the first to the last */
 };
 
 /* How a session begins. On a connection with LATE_SETTINGS all first requests come before the
@@ -47,6 +52,9 @@ typedef struct echo { /* of a stream that was opened here */
 } echo;
 
 static int port, wanted, begun, running, passed, failed;
+static const char *server; /* its process, whose memory is noted; or null */
+static long resident[HUNDREDS]; /* KiB */
+static int noted; /* so many of these */
 static unsigned long streams_back, resets, datagrams_sent, datagrams_back;
 static uint64_t random_state;
 static h3_connection *live[CONNECTIONS];
@@ -124,13 +132,54 @@ static void send_request(session *of_it) {
   send_datagram(of_it);
 }
 
+/* The resident memory of the server, in KiB; 0 if it is not known. */
+static long resident_now(void) {
+  char name[64], line[128];
+  long size = 0;
+  snprintf(name, sizeof name, "/proc/%s/status", server);
+  FILE *file = fopen(name, "r");
+  while (file && fgets(line, sizeof line, file))
+    if (sscanf(line, "VmRSS: %ld", &size) == 1) break;
+  if (file) fclose(file);
+  return size;
+}
+
+/* Prints the memory after each hundred sessions. Returns whether it is flat. */
+static bool is_flat(void) {
+  bool known = noted > 1;
+  printf("the server's memory after each 100 sessions, in KiB:");
+  for (int i = 0; i < noted; i++) {
+    printf(" %ld", resident[i]);
+    known &= resident[i] > 0;
+  }
+  puts("");
+  return known && resident[noted - 1] - resident[0] <= GROWTH;
+}
+
+/* How many sessions may begin: the next hundred when the memory was noted. */
+static int limit(void) {
+  int next = 100 * (noted + 1);
+  return server && next < wanted ? next : wanted;
+}
+
+/* Notes the memory if the sessions so far are over, and their connections gone for a while. */
+static void note(void) {
+  static uint64_t since;
+  if (running > 0 || begun < limit() || noted == HUNDREDS) since = 0;
+  else if (since == 0) since = quic_now();
+  else if (quic_now() - since >= QUIET) {
+    resident[noted++] = resident_now();
+    since = 0;
+  }
+}
+
 /* Begins as many sessions as may run at once. */
 static void begin_sessions(h3_connection *c) {
   run *r = c->user;
   for (int i = 0; i < AT_ONCE; i++) {
-    if (r->sessions[i] || r->begun == PER_CONNECTION || begun == wanted) continue;
+    if (r->sessions[i] || r->begun == PER_CONNECTION || begun == limit()) continue;
     session *of_it = allocate(sizeof *of_it);
-    *of_it = (session){.number = begun, .order = begun % ORDERS};
+    *of_it = (session){.number = begun, .order = server ? PLAIN : begun % ORDERS};
     if (!begin_session(c, of_it)) {
       free(of_it);
       return;
@@ -187,13 +236,14 @@ static void go_on_with_connection(h3_connection *c) {
 
 /* Between packets: begins connections and goes on with them. Returns whether all is done. */
 static bool step(void) {
+  if (server) note();
   for (int i = 0; i < CONNECTIONS; i++)
     if (live[i] && !live[i]->broken) go_on_with_connection(live[i]);
-  while (running < CONNECTIONS && begun + running * PER_CONNECTION < wanted) {
+  while (running < CONNECTIONS && begun + running * PER_CONNECTION < limit()) {
     quic_connect(port);
     running++;
   }
-  return begun >= wanted && running == 0;
+  return begun >= wanted && running == 0 && (!server || noted * 100 >= wanted);
 }
 
 void on_h3_ready(h3_connection *c) {
@@ -284,17 +334,19 @@ void on_h3_gone(h3_connection *c, uint64_t code) {
 }
 
 int main(int count, char **arguments) {
-  if (count != 6) {
-    fputs("usage: client PORT SECONDS CERTIFICATE SESSIONS SEED\n", stderr);
+  if (count != 6 && count != 7) {
+    fputs("usage: client PORT SECONDS CERTIFICATE SESSIONS SEED [PID]\n", stderr);
     return 2;
   }
   port = atoi(arguments[1]);
   wanted = atoi(arguments[4]);
   random_state = strtoull(arguments[5], NULL, 10);
+  server = count == 7 ? arguments[6] : NULL;
   h3_begin(WT_SIDE_CLIENT, true);
   quic_begin(0, arguments[3], NULL);
   quic_run(atof(arguments[2]), step);
   failed += wanted - passed - failed;
+  if (server) *(is_flat() ? &passed : &failed) += 1;
   printf("%lu streams came back, %lu were reset, %lu of %lu datagrams came back\n", streams_back,
          resets, datagrams_back, datagrams_sent);
   printf("%d passed, %d failed\n", passed, failed);

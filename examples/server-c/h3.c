@@ -1,4 +1,5 @@
 /* A connection of HTTP/3 and WebTransport over QUIC (h3.h). */
+#include "fields.h"
 #include "h3_internal.h"
 #include <stdio.h>
 #include <stdlib.h>
@@ -72,15 +73,21 @@ void h3_close_connection(h3_connection *c, uint64_t code) {
 }
 
 /* Ends both halves of a stream with an error code. */
-void h3_end_stream(h3_stream *s, uint64_t code) {
+static void end_halves(h3_stream *s, uint64_t code) {
   quic_stream *q = s->quic;
   if (q == NULL) return;
   quic_reset(q, code);
   quic_stop(q, code);
-  s->ended = true;
   s->length = 0;
   s->waits = false;
   if (!s->writes) quic_done(q);
+}
+
+/* The same for a reason of its own, and reads the stream no further. */
+void h3_end_stream(h3_stream *s, uint64_t code) {
+  h3_event e = {0};
+  end_halves(s, code);
+  if (wt_stream_abandon(&s->c->wt, &s->wt, &e.wt) == WT_OK) h3_act(s, &e);
 }
 
 /* Ends the streams of a session that is over, and the own half of its own stream. */
@@ -97,14 +104,7 @@ bool h3_is(const uint8_t *text, size_t length, const char *other) {
 }
 
 const uint8_t *h3_field(const h3_event *e, const char *name, size_t *length) {
-  *length = 0;
-  for (size_t i = 0; i < e->wt.fields; i++) {
-    const wt_field *f = &e->fields[i];
-    if (!h3_is(e->out + f->name_offset, f->name_length, name)) continue;
-    *length = f->value_length;
-    return e->out + f->value_offset;
-  }
-  return NULL;
+  return field_value(e->fields, e->wt.fields, e->out, name, length);
 }
 
 /* Says what is known of the session of a stream. */
@@ -136,6 +136,9 @@ void h3_act(h3_stream *s, const h3_event *e) {
   case WT_EVENT_WAITS: s->waits = true; return;
   case WT_EVENT_JOINS: join(s, e->wt.number); return;
   case WT_EVENT_CONNECTION_ERROR: h3_close_connection(c, e->wt.number); return;
+  case WT_EVENT_OPENED:
+    if (e->wt.detail == WT_PURPOSE_IGNORED) h3_end_stream(s, WT_H3_STREAM_CREATION_ERROR);
+    return;
   case WT_EVENT_SESSION_REQUESTED:
     s->is_session = true;
     if (s->held == NULL) s->held = h3_allocate(HELD);
@@ -150,7 +153,7 @@ void h3_act(h3_stream *s, const h3_event *e) {
   case WT_EVENT_SESSION_CLOSED:
   case WT_EVENT_SESSION_LOST: end_session(s); break;
   case WT_EVENT_STREAM_ERROR:
-  case WT_EVENT_MALFORMED: h3_end_stream(s, e->wt.number); break;
+  case WT_EVENT_MALFORMED: end_halves(s, e->wt.number); break; /* its session ends next */
   case WT_EVENT_RESET:
     if (e->wt.detail == 1 && s->quic) quic_reset(s->quic, e->wt.number);
     break;

@@ -1,4 +1,5 @@
 /* What an endpoint of HTTP/3 and WebTransport sends (h3.h). */
+#include "fields.h"
 #include "h3_internal.h"
 #include <stdlib.h>
 #include <string.h>
@@ -31,25 +32,15 @@ void h3_send_settings(h3_connection *c) {
   quic_send(q, bytes, head + frame, false);
 }
 
-/* Adds a field with these texts. */
-static size_t add_field(wt_field *f, uint8_t *texts, size_t used, const char *name,
-                        const char *value) {
-  *f = (wt_field){used, strlen(name), used + strlen(name), strlen(value)};
-  memcpy(texts + used, name, f->name_length);
-  memcpy(texts + f->value_offset, value, f->value_length);
-  return f->value_offset + f->value_length;
-}
-
 void h3_respond(h3_stream *s, uint32_t status, const char *name, const char *value, bool fin) {
-  wt_field list[2];
-  uint8_t texts[256], bytes[512];
-  size_t count = 0, used = 0, size;
+  field_list f = {.count = 0};
+  uint8_t bytes[1200];
+  size_t size;
   if (s->quic == NULL) return;
-  if (name && strlen(name) + strlen(value) < 200)
-    used = add_field(&list[count++], texts, used, name, value);
-  if (s->is_session)
-    used = add_field(&list[count++], texts, used, "sec-webtransport-http3-draft", "draft02");
-  if (wt_response_write(status, list, count, texts, used, bytes, sizeof bytes, &size) != WT_OK ||
+  if ((name && !field_add(&f, name, value)) ||
+      (s->is_session && !field_add(&f, "sec-webtransport-http3-draft", "draft02")) ||
+      wt_response_write(status, f.list, f.count, f.texts, f.used, bytes, sizeof bytes, &size) !=
+          WT_OK ||
       (s->is_session && wt_stream_answer(&s->wt, status) != WT_OK)) {
     h3_end_stream(s, WT_H3_INTERNAL_ERROR);
     return;

@@ -3,6 +3,7 @@
 #include "quic_internal.h"
 #include <arpa/inet.h>
 #include <gnutls/crypto.h>
+#include <malloc.h>
 #include <ngtcp2/ngtcp2_crypto_gnutls.h>
 #include <poll.h>
 #include <stdio.h>
@@ -373,7 +374,9 @@ static bool serve_connections(void) {
     more |= write_packets(c);
     if (c->over && quic_now() >= c->end) free_connection(c);
   }
+  bool none = table_end == 0;
   while (table_end > 0 && table[table_end - 1] == NULL) table_end--;
+  if (!none && table_end == 0) malloc_trim(0); /* all memory that is free goes back */
   return more;
 }
 

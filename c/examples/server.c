@@ -1,0 +1,181 @@
+/* A server for sessions at /chat: what comes on a bidirectional stream of a session goes back on
+   it. In place of QUIC it reads standard input, where each piece of a stream has four bytes before
+   it: the stream's ID, 1 if the stream ends after it and otherwise 0, and its size, the higher byte
+   first. It prints what QUIC would have to do.
+     cat pieces | server */
+#include "fields.h"
+#include <stdio.h>
+#include <stdlib.h>
+
+enum { WINDOW = 1 << 16, HELD = 1200, FIELDS = 64, OUT = 1 << 14 };
+
+typedef struct stream {
+  uint64_t id;
+  wt_stream state;
+  uint8_t held[HELD];    /* of a capsule that is cut */
+  uint8_t bytes[WINDOW]; /* that were not consumed */
+  size_t length;
+  uint8_t fin; /* the stream ends after them */
+} stream;
+
+static stream *streams[256];
+static size_t count;
+static wt_connection connection;
+static wt_field fields[FIELDS];
+static uint8_t out[OUT];
+
+/* ---- What QUIC does ---- */
+
+/* Sends bytes on the own half of a stream, and ends it if fin is set. A half that ended, or that a
+   unidirectional stream of the peer does not have, sends nothing. */
+static void quic_send(uint64_t id, const uint8_t *bytes, size_t length, int fin) {
+  static uint8_t ended[256];
+  size_t i;
+  if (id % 4 == 2 || ended[id % 256]) return;
+  ended[id % 256] = (uint8_t)fin;
+  printf("%u:", (unsigned)id);
+  for (i = 0; i < length; i++) printf(" %02x", bytes[i]);
+  puts(fin ? " end" : "");
+}
+
+/* Resets the own half of a stream, and asks the peer to stop its half. */
+static void quic_end(uint64_t id, uint64_t code) {
+  printf("%u: reset and stop 0x%lx\n", (unsigned)id, (unsigned long)code);
+}
+
+static void quic_close(uint64_t code) { printf("close 0x%lx\n", (unsigned long)code); }
+
+/* ---- The streams of the connection ---- */
+
+static stream *find(uint64_t id) {
+  size_t i;
+  for (i = 0; i < count; i++)
+    if (streams[i]->id == id) return streams[i];
+  return NULL;
+}
+
+/* Ends the streams of a session that is over, and then its own. */
+static void end_streams(uint64_t session) {
+  size_t i;
+  for (i = 0; i < count; i++) {
+    stream *s = streams[i];
+    uint32_t belongs = 0;
+    uint64_t its = 0;
+    wt_event e;
+    if (wt_stream_belongs(&s->state, &belongs, &its) != WT_OK || !belongs || its != session)
+      continue;
+    quic_end(s->id, WT_WEBTRANSPORT_SESSION_GONE);
+    wt_stream_abandon(&connection, &s->state, &e);
+  }
+  quic_send(session, NULL, 0, 1);
+}
+
+/* Whether the path of a request is /chat, before its query. */
+static int is_chat(const wt_event *e) {
+  size_t length, size = 0;
+  const uint8_t *path = field_value(fields, e->fields, out, ":path", &length);
+  while (path != NULL && size < length && path[size] != '?') size++;
+  return size == 5 && memcmp(path, "/chat", size) == 0;
+}
+
+/* ---- The server ---- */
+
+static void begin(void) {
+  static const wt_endpoint endpoint = {WT_SIDE_SERVER, 1, 1, 1, 16384, 16384, 1200, {0}};
+  static const uint8_t control[] = {0, 4, 9, 8, 1, 0x33, 1, 0xab, 0x60, 0x37, 0x42, 1};
+  wt_connection_new(WT_ABI, &endpoint, &connection);
+  quic_send(3, control, sizeof control, 0); /* SETTINGS: 0x08, 0x33 and 0x2b603742 are 1 */
+}
+static wt_event join(stream *s, uint64_t session) {
+  const stream *its = find(session); uint32_t known; wt_event e;
+  wt_session_known(&connection, session, its ? &its->state : NULL, its != NULL, &known);
+  wt_stream_join(&connection, &s->state, known, &e);
+  return e;
+}
+static void answer(stream *s, uint32_t status) {
+  uint8_t bytes[16]; size_t size;
+  wt_response_write(status, NULL, 0, NULL, 0, bytes, sizeof bytes, &size);
+  quic_send(s->id, bytes, size, status != 200);
+  wt_stream_answer(&s->state, status);
+}
+static void act(stream *s, wt_event e, const uint8_t *bytes) {
+  switch (e.kind) {
+  case WT_EVENT_SESSION_REQUESTED: answer(s, is_chat(&e) ? 200 : 404); break;
+  case WT_EVENT_HEADERS: if (e.detail == WT_HEADERS_REQUEST) answer(s, 404); break;
+  case WT_EVENT_JOINS: act(s, join(s, e.number), bytes); break;
+  case WT_EVENT_STREAM_DATA: quic_send(s->id, bytes + e.offset, e.length, 0); break;
+  case WT_EVENT_END: quic_send(s->id, NULL, 0, 1); break;
+  case WT_EVENT_SESSION_CLOSED: case WT_EVENT_SESSION_LOST: end_streams(s->id); break;
+  case WT_EVENT_STREAM_ERROR: case WT_EVENT_MALFORMED: quic_end(s->id, e.number); break;
+  case WT_EVENT_CONNECTION_ERROR: quic_close(e.number); break;
+  }
+}
+static size_t read_events(stream *s, const uint8_t *bytes, size_t length, uint8_t fin) {
+  size_t start = 0; wt_event e;
+  do {
+    if (wt_receive(&connection, &s->state, s->held, HELD, NULL, 0, bytes + start, length - start,
+                   fin, &e, fields, FIELDS, out, OUT) != WT_OK) break;
+    act(s, e, bytes + start);
+    start += e.consumed;
+  } while (e.kind != WT_EVENT_MORE && e.kind != WT_EVENT_WAITS);
+  return start;
+}
+
+/* ---- The pieces ---- */
+
+/* Reads what a stream has, and keeps what was not consumed. */
+static void read_stream(stream *s) {
+  size_t consumed = read_events(s, s->bytes, s->length, s->fin);
+  s->length -= consumed;
+  memmove(s->bytes, s->bytes + consumed, s->length);
+}
+
+static uint32_t waits_for(const stream *s, uint64_t *session) {
+  uint32_t waits = WT_WAITS_NOTHING;
+  if (wt_stream_waits(&s->state, &waits, session) != WT_OK) return WT_WAITS_NOTHING;
+  return waits;
+}
+
+/* Reads again the streams that wait, until no wait ends by that: one may end that of another. */
+static void wake(void) {
+  size_t i;
+  uint64_t session;
+  int changed = 1;
+  while (changed)
+    for (changed = 0, i = 0; i < count; i++) {
+      stream *s = streams[i];
+      uint32_t waits = waits_for(s, &session);
+      if (waits == WT_WAITS_NOTHING) continue;
+      if (waits == WT_WAITS_SESSION) act(s, join(s, session), NULL);
+      read_stream(s);
+      changed |= waits_for(s, &session) != waits;
+    }
+}
+
+/* The stream with an ID: a new one if it is not known. */
+static stream *stream_of(uint64_t id) {
+  stream *s = find(id);
+  if (s != NULL) return s;
+  s = (stream *)calloc(1, sizeof *s);
+  if (s == NULL || count == 256) exit(1);
+  s->id = id;
+  if (wt_stream_accept(&connection, id, &s->state) != WT_OK) exit(1);
+  return streams[count++] = s;
+}
+
+int main(void) {
+  uint8_t head[4];
+  begin();
+  while (fread(head, 1, 4, stdin) == 4) {
+    stream *s = stream_of(head[0]);
+    size_t size = (size_t)head[2] << 8 | head[3];
+    if (size > sizeof s->bytes - s->length) return 1;
+    if (fread(s->bytes + s->length, 1, size, stdin) != size) return 1;
+    s->length += size;
+    s->fin = head[1];
+    read_stream(s);
+    wake();
+  }
+  while (count > 0) free(streams[--count]);
+  return 0;
+}
