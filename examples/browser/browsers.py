@@ -19,16 +19,9 @@ WHOLE = [[size, True] for size in SIZES]
 EMPTY = WHOLE[:1]
 PATIENCE = 60  # seconds for a browser
 NO_CODE = "Firefox tells the page no code of a reset"
-NOT_EMPTY = (
-    "Firefox closes the connection with H3_GENERAL_PROTOCOL_ERROR when a stream of the "
-    "server ends together with its header"
-)
 LEFT_OUT = {  # by the name of the row: why
     "chromium": {},
     "firefox": {
-        "page: an empty stream of the page, one way, and back": NOT_EMPTY,
-        "page: empty streams of the server": NOT_EMPTY,
-        "server: empty streams that the page sent back": NOT_EMPTY,
         **{f"page: {who} resets {code}": NO_CODE for who in ("page", "server") for code in CODES},
         "page: server stops 4294967295": "Firefox tells the page 0",
         "server: codes of stops that came": "Firefox stops a stream only when the session ends, "

@@ -13,6 +13,7 @@ import browsers
 import faults
 import limits
 import load
+import rules
 from client import client_of, log_of, number, settle
 
 GROWTH = 512  # KiB that the server may grow by, over 900 sessions
@@ -74,10 +75,20 @@ async def check_faults(report, port, frames):
             report.check("fault: " + row.name, await faults.answer(port, row), wanted)
             if row.listing:
                 report.check(f"wt_frames: {row.name}", faults.listed(frames, row), row.code)
+        for row in faults.LISTED:
+            report.check(f"wt_frames: {row.name}", faults.listed(frames, row), row.code)
         saw = await faults.endless_frame(port)
         report.check("fault: an unknown frame of 2^40 bytes", saw, "goes on")
         goes_on = await bystander.echoes(session, b"still here")
         report.check("fault: a session of another connection goes on", goes_on, True)
+
+
+async def check_rules(report, port):
+    for row in rules.FAULTS:
+        wanted = ("stream" if row.ends_stream else "connection", row.code)
+        report.check("rule: " + row.name, await faults.answer(port, row), wanted)
+    for name, action, wanted in rules.ROWS:
+        report.check("rule: " + name, await action(port), wanted)
 
 
 async def check_limits(report, port):
@@ -130,6 +141,7 @@ def main():
     asyncio.run(check_load(report, port, pid))
     asyncio.run(check_limits(report, port))
     asyncio.run(check_faults(report, port, frames))
+    asyncio.run(check_rules(report, port))
     check_rest(report, port, os.path.join(out, "server.log"))
     if report.left_out:
         print(f"{report.left_out} left out, neither passed nor failed")

@@ -161,6 +161,14 @@ class Client(QuicConnectionProtocol):
         self._quic.send_stream_data(stream_id, data, end)
         self.transmit()
 
+    def reset(self, stream_id, code):
+        self._quic.reset_stream(stream_id, code)
+        self.transmit()
+
+    def stop(self, stream_id, code):
+        self._quic.stop_stream(stream_id, code)
+        self.transmit()
+
     def send_datagram(self, data):
         self._quic.send_datagram_frame(data)
         self.transmit()

@@ -13,7 +13,7 @@ from client import client_of, frame, log_of, number, section, session_lines
 PAYLOAD = 4096  # the most bytes of a frame's payload
 VALUE = 1028  # the most bytes of a close capsule's value: a code and a reason
 FRAME = 8 + 8 + PAYLOAD - 1  # a frame without its last byte
-CAPSULE = 8 + 8 + VALUE - 1  # a close capsule without its last byte
+CAPSULE = VALUE - 1  # a close capsule without its last byte: the type and the length are not held
 STREAMS = 16  # streams that wait for the request of their session
 REJECTED = 0x3994BD84  # BUFFERED_STREAM_REJECTED of draft-ietf-webtrans-http3-02
 PATIENCE = 10  # seconds
@@ -60,10 +60,10 @@ async def long_request(port):
 
 
 async def long_settings(port):
-    """A SETTINGS frame: one setting is reserved for exercise, which the server counts, the others
-    are unknown to it."""
+    """A SETTINGS frame: H3_DATAGRAM and ENABLE_WEBTRANSPORT, one setting that is reserved for
+    exercise, which the server counts, and others that are unknown to it."""
     unknown = [n for n in range(0x10000, 0x10200) if (n - 0x21) % 0x1F != 0]
-    names = [0x21 + 0x1F * 500, *unknown][: PAYLOAD // 16]
+    names = [0x33, 0x2B603742, 0x21 + 0x1F * 500, *unknown][: PAYLOAD // 16]
     settings = wide_frame(0x04, b"".join(wide(name) + wide(1) for name in names))
 
     def count():
@@ -86,7 +86,7 @@ async def long_close(port):
     async with client_of(port) as client:
         session = await client.open_session(path.encode())
         await send_in_pieces(client, session, frame(0x00, capsule[:-1]) + other[:-1])
-        saw = await held(port, len(capsule) - 1 + len(other) - 1)
+        saw = await held(port, CAPSULE)
         client.send(session, other[-1:] + frame(0x00, capsule[-1:]), end=True)
         await client.until(lambda: client.stream(session).is_ended)
     closed = [row[2:] for row in log_of(port)["rows"] if row[:2] == [path, "closed"]]
@@ -110,10 +110,12 @@ async def early_streams(port):
     """Streams of a session whose request comes later: one more than may wait is rejected."""
     async with client_of(port) as client:
         head = number(0x41) + number(4 * (STREAMS + 1))
-        streams = [client.open(head + b"early", end=True) for _ in range(STREAMS + 1)]
+        streams = [client.open(head + b"early") for _ in range(STREAMS + 1)]
         *early, last = [client.stream(stream) for stream in streams]
         await client.until(lambda: None not in (last.reset, last.stopped))
         saw = await held(port, len(b"early"))
+        for stream in streams[:-1]:
+            client.send(stream, b"", end=True)
         await client.open_session(b"/echo")
         await client.until(lambda: all(stream.is_ended for stream in early))
         served = all(stream.data == b"early" for stream in early)
@@ -123,7 +125,7 @@ async def early_streams(port):
 ROWS = [  # what it is, the function, how many bytes the server has to hold
     ("a request of 4096 bytes", long_request, FRAME),
     ("settings of 4096 bytes", long_settings, FRAME),
-    ("a close capsule of 1028 bytes beside a frame of 4096", long_close, CAPSULE + FRAME),
+    ("a close capsule of 1028 bytes beside a frame of 4096", long_close, CAPSULE),
     ("a stream before its session, of 4111 bytes", early_stream, FRAME),
     ("16 streams before their session, and one more", early_streams, len(b"early")),
 ]

@@ -12,6 +12,8 @@ server ends after SECONDS, or when it is told to (SIGTERM). Sessions, by the pat
     /push?empty    the same with streams of no bytes
     /deny/403, /deny/404, and all others: the request is denied
 """
+from __future__ import annotations
+
 import asyncio
 import ctypes
 import functools
@@ -21,13 +23,17 @@ import os
 import signal
 import sys
 from collections import Counter, deque
+from typing import Any
 
 from aioquic.asyncio import QuicConnectionProtocol, serve
 from aioquic.quic.configuration import QuicConfiguration
-from aioquic.quic.events import ProtocolNegotiated
+from aioquic.quic.events import ProtocolNegotiated, QuicEvent
 
-import http3
-from wtransport import FrameReader
+from application import Application
+from grease import GreaseCounter, is_reserved
+from http3 import Connection
+from sessions import Session, Stream
+from wtransport import Fields
 
 HERE = os.path.dirname(os.path.abspath(__file__))
 SIZES = (1, 4096, 100_000)
@@ -53,7 +59,7 @@ class MallInfo(ctypes.Structure):
     ]
 
 
-def heap():
+def heap() -> int:
     """The bytes that the process has from malloc: all of Python's too with PYTHONMALLOC=malloc."""
     gc.collect()
     libc = ctypes.CDLL(None)
@@ -62,7 +68,7 @@ def heap():
     return info.uordblks + info.hblkhd
 
 
-def pattern(size):
+def pattern(size: int) -> bytes:
     """The bytes of a test: their count tells each from the others, their order where each is."""
     return bytes(i * 7 % 251 for i in range(size))
 
@@ -70,21 +76,25 @@ def pattern(size):
 class Log:
     """What the server saw, for a test: rows of sessions, and for those of a load only counts."""
 
-    def __init__(self):
-        self.clear()
+    def __init__(self) -> None:
+        self.rows: deque[list] = deque(maxlen=4096)
+        self.page_rows: deque[object] = deque(maxlen=256)
+        self.counts: Counter[str] = Counter()
+        self.is_done = False
 
-    def clear(self):
+    def clear(self) -> None:
         """Begins anew, for another browser."""
-        self.rows, self.counts = deque(maxlen=4096), Counter()
-        self.page_rows, self.is_done = deque(maxlen=256), False
+        for held in (self.rows, self.page_rows, self.counts):
+            held.clear()
+        self.is_done = False
 
-    def add(self, session, what, *values):
+    def add(self, session: Session, what: str, *values: object) -> None:
         if session.path == "/echo?load":
             self.counts["load, " + what] += 1
         else:
             self.rows.append([session.path, what, *values])
 
-    def summary(self, live):
+    def summary(self, live: set[Connection]) -> dict[str, object]:
         """All of it, for JSON; `live` are the connections."""
         return {
             "rows": list(self.rows),
@@ -92,9 +102,9 @@ class Log:
             "page": list(self.page_rows),
             "done": self.is_done,
             "held": max((c.held() for c in live), default=0),
-            "undecided": FrameReader.most_undecided,
+            "undecided": Connection.most_held,
             "sessions": sum(len(c.sessions) for c in live),
-            "readers": sum(len(c.readers) for c in live),
+            "readers": sum(s.can_receive for c in live for s in c.streams.values()),
             "streams": sum(len(s.streams) for c in live for s in c.sessions.values()),
         }
 
@@ -108,10 +118,10 @@ class Pages:
         "/picture": ("page.html", "picture.html"),
     }
 
-    def __init__(self, port, digest):
+    def __init__(self, port: int, digest: str) -> None:
         self.port, self.digest = port, digest
 
-    def get(self, path):
+    def get(self, path: str) -> bytes | None:
         """The page at a path, or None."""
         if path not in self.files:
             return None
@@ -122,20 +132,22 @@ class Pages:
         return text.replace("@PORT@", str(self.port)).replace("@HASH@", self.digest).encode()
 
 
-class Site(http3.Application):
+class Site(Application):
     """The sessions and pages of this server."""
 
-    def __init__(self, log, pages):
-        self.log, self.pages, self.replies, self.pushed = log, pages, {}, {}
+    def __init__(self, log: Log, pages: Pages) -> None:
+        self.log, self.pages = log, pages
+        self.replies: dict[Stream, Stream] = {}
+        self.pushed: dict[Stream, list[bytes]] = {}
 
-    def request(self, fields):
+    def request(self, fields: Fields) -> tuple[int, Fields, bytes]:
         page = self.pages.get(dict(fields).get(b":path", b"").decode("utf-8", "replace"))
         shared = [(b"access-control-allow-origin", b"*"), (b"timing-allow-origin", b"*")]
         if page is None:
             return 404, shared, b"not found\n"
         return 200, [(b"content-type", b"text/html; charset=utf-8"), *shared], page
 
-    def session(self, session, fields):
+    def session(self, session: Session, fields: Fields) -> int:
         session.command = session.path.split("?")[0]
         status = 200 if session.command in ("/echo", "/commands", "/push") else 404
         if session.command in ("/deny/403", "/deny/404"):
@@ -144,7 +156,7 @@ class Site(http3.Application):
             self.log.add(session, "denied", status)
         return status
 
-    def opened(self, session):
+    def opened(self, session: Session) -> None:
         self.log.add(session, "opened", session.connection.serial)
         if session.command == "/push":
             for size in SIZES if session.path == "/push" else (0,):
@@ -153,7 +165,7 @@ class Site(http3.Application):
                 stream.send(pattern(size), True)
                 session.open_stream(bidirectional=False).send(pattern(size), True)
 
-    def received(self, stream, data, end):
+    def received(self, stream: Stream, data: bytes, end: bool) -> None:
         session = stream.session
         if stream in self.pushed:
             self._check_pushed(stream, data, end)
@@ -169,7 +181,7 @@ class Site(http3.Application):
             self.log.add(session, "end of stream")
             self.replies.pop(stream, None)
 
-    def _check_pushed(self, stream, data, end):
+    def _check_pushed(self, stream: Stream, data: bytes, end: bool) -> None:
         """The page is to send back what the server sent."""
         self.pushed[stream][1] += data
         if end:
@@ -178,7 +190,7 @@ class Site(http3.Application):
             if all(other.session is not stream.session for other in self.pushed):
                 stream.session.send_datagram(b"a datagram of the server")
 
-    def _obey(self, stream, text):
+    def _obey(self, stream: Stream, text: str) -> None:
         word, _, rest = text.partition(" ")
         number, _, reason = rest.partition(" ")
         if not number.isdigit() or int(number) >= 1 << 32:
@@ -190,42 +202,45 @@ class Site(http3.Application):
         elif word == "close":
             stream.session.close(int(number), reason)
 
-    def was_reset(self, stream, code):
+    def was_reset(self, stream: Stream, code: int | None) -> None:
         self.log.add(stream.session, "reset", code)
         reply = self.replies.pop(stream, stream)
         if code is not None:
             reply.reset(code)
 
-    def was_stopped(self, stream, code):
+    def was_stopped(self, stream: Stream, code: int | None) -> None:
         self.log.add(stream.session, "stopped", code)
 
-    def datagram(self, session, payload):
+    def datagram(self, session: Session, payload: bytes) -> None:
         self.log.add(session, "datagram", len(payload))
         session.send_datagram(payload)
 
-    def closed(self, session, code, reason):
+    def closed(self, session: Session, code: int | None, reason: str) -> None:
         for table in (self.pushed, self.replies):
             for stream in [s for s in table if s.session is session]:
                 del table[stream]
         self.log.add(session, "closed", code, reason)
 
-    def reserved(self, what):
-        self.log.counts["reserved " + what] += 1
+    def settings(self, settings: dict[int, int]) -> None:
+        self.log.counts["reserved setting"] += any(map(is_reserved, settings))
 
 
 class Protocol(QuicConnectionProtocol):
     """A connection of aioquic, with HTTP/3 over it."""
 
-    def __init__(self, *args, site, live, **kwargs):
+    def __init__(self, *args: Any, site: Site, live: set[Connection], **kwargs: Any) -> None:
         super().__init__(*args, **kwargs)
-        self.site, self.live, self.http = site, live, None
+        self.site, self.live = site, live
+        self.http: Connection | None = None
+        self.grease = GreaseCounter(site.log.counts)
 
-    def quic_event_received(self, event):
+    def quic_event_received(self, event: QuicEvent) -> None:
         if isinstance(event, ProtocolNegotiated):
-            self.http = http3.Connection(self._quic, self.site)
+            self.http = Connection(self._quic, self.site)
             self.http.start()
             self.live.add(self.http)
         if self.http is not None:
+            self.grease.handle(event)
             self.http.handle(event)
             self.transmit()
             if self.http.is_closed and self.http in self.live:
@@ -233,7 +248,9 @@ class Protocol(QuicConnectionProtocol):
                 gc.collect()  # objects of aioquic's connections refer to one another
 
 
-def respond(method, path, body, log, live, pages):
+def respond(
+    method: str, path: str, body: bytes, log: Log, live: set[Connection], pages: Pages
+) -> tuple[str, bytes] | None:
     """The answer of the plain HTTP server: (type, bytes), or None."""
     if method == "POST":
         if path == "/say":
@@ -250,7 +267,13 @@ def respond(method, path, body, log, live, pages):
     return page and ("text/html; charset=utf-8", page)
 
 
-async def exchange(reader, writer, log, live, pages):
+async def exchange(
+    reader: asyncio.StreamReader,
+    writer: asyncio.StreamWriter,
+    log: Log,
+    live: set[Connection],
+    pages: Pages,
+) -> None:
     """One request of the plain HTTP server."""
     try:
         head = await reader.readuntil(b"\r\n\r\n")
@@ -276,7 +299,7 @@ async def exchange(reader, writer, log, live, pages):
     writer.close()
 
 
-async def main():
+async def main() -> None:
     port, cert, key, digest, seconds = sys.argv[1:6]
     log, live, port = Log(), set(), int(port)
     quic = QuicConfiguration(is_client=False, alpn_protocols=["h3"], max_datagram_frame_size=65536)
