@@ -1,0 +1,3 @@
+pub mod RunLemmas
+pub mod CallLemmas
+pub mod CountLemmas
