@@ -27,8 +27,8 @@ use Rattle.wtp_webtransport.specs.Streams.{with_streams, accepted}
 use Rattle.wtp_webtransport.specs.Receiving.{Outcome, ReceivesIf}
 use Rattle.wtp_webtransport.specs.Joining.{Outcome as Joining, joins, joined_by, joining_of, abandons, abandoned_by}
 use Rattle.wtp_streams.specs.declared.entry.Entry.{Entry}
-use Rattle.wtp_streams.specs.Table.{Table, entry_at, entry_of, after_event, places, waiting_in, IsCounted, known_in, unpaused_by, named_by}
-use Rattle.wtp_streams.specs.Calls.{puts_by, accepts_by, accepts_in, outcome_in, Result, join_by, join_in, then_joined, joined_if, NextBy, ReadsIn, wait_of, ReceivesBy, ReceivesIn, left_by, forgets_by, forgets_in}
+use Rattle.wtp_streams.specs.Table.{Table, entry_at, with_entry, with_connection, entry_of, after_event, places, waiting_in, IsCounted, known_in, unpaused_by, named_by}
+use Rattle.wtp_streams.specs.Calls.{puts_by, accepts_by, accepts_in, called_in, outcome_in, Result, join_by, join_in, then_joined, joined_if, NextBy, ReadsIn, wait_of, ReceivesBy, ReceivesIn, left_by, forgets_by, forgets_in}
 use Rattle.wtp_streams.proofs.RunLemmas.{joins_counts, abandon_counts, abandoned_none}
 use Rattle.wtp_streams.proofs.CallLemmas.{Balances, closed_streams, receive_balances}
 
@@ -93,31 +93,39 @@ places_counted t id e at = omega (arith, remove_counts t.entries id e at)
 abbrev pub StaysOver : Connection → Connection → Type 0
 StaysOver c d = d.over ≡ false → c.over ≡ false
 
-outcome_counted : (t : Table) (id : ℕ) (e : Entry) (told : Told) (c : Connection) (s : Stream)
+pub entry_counted : (t : Table) (id : ℕ) (e x : Entry) (c : Connection)
+    → entry_at t id ≡ Some e
+    → Balances t.connection e.stream c x.stream
+    → StaysOver t.connection c
+    → IsCounted t
+    → IsCounted (with_connection (with_entry t id x) c)
+entry_counted t id e x c at b over h = λ intact.
+    let n : t.connection.streams.waiting ≡ waiting_in t.entries = h (over intact) in
+    let p : places e.stream.frames ≤ t.connection.streams.waiting =
+        omega (arith, n, places_counted t id e at) in
+    omega (arith, n, b p, set_counts t id e x at)
+
+pub outcome_counted : (t : Table) (id : ℕ) (e : Entry) (told : Told) (c : Connection) (s : Stream)
     → entry_at t id ≡ Some e
     → Balances t.connection e.stream c s
     → StaysOver t.connection c
     → IsCounted t
     → IsCounted (outcome_in t id e told c s)
-outcome_counted t id e told c s at b over h = λ intact.
-    let n : t.connection.streams.waiting ≡ waiting_in t.entries = h (over intact) in
-    let p : places e.stream.frames ≤ t.connection.streams.waiting =
-    omega (arith, n, places_counted t id e at) in
-    omega (arith, n, b p, set_counts t id e (after_event e s told) at)
+outcome_counted t id e told c s at b over h = entry_counted t id e (after_event e s told) c at b over h
 
-cond_balances : (b : Bool) (c : Connection) (s : Stream) (x y : Joining)
+pub cond_balances : (b : Bool) (c : Connection) (s : Stream) (x y : Joining)
     → Balances c s x.1 x.2
     → Balances c s y.1 y.2
     → Balances c s (cond b x y).1 (cond b x y).2
 cond_balances true c s x y f g = f
 cond_balances false c s x y f g = g
 
-stays_if : (b : Bool) (c : Connection) (x y : Joining)
-    → c.over ≡ b
+pub stays_if : (b : Bool) (c : Connection) (x y : Joining)
+    → (b ≡ false → c.over ≡ false)
     → x.1 ≡ c
     → StaysOver c (cond b x y).1
 stays_if true c x y e f = λ intact. sym (ap (λ (d : Connection). d.over) f) ∙ intact
-stays_if false c x y e f = λ intact. e
+stays_if false c x y e f = λ intact. e refl
 
 -- it is joined with its session
 
@@ -144,14 +152,14 @@ joined_balances (d, t, Some f) c s before e = λ h.
     (closed_streams (with_streams c d) (fault.Streams f) (scope_of (fault.Streams f)))
     ∙ e h
 
-join_balances : (c : Connection) (s : Stream) (k : Known) → Balances c s (joins c s k).1 (joins c s k).2
+pub join_balances : (c : Connection) (s : Stream) (k : Known) → Balances c s (joins c s k).1 (joins c s k).2
 join_balances c s k =
     cond_balances c.over c s _ _ (λ h. refl)
     (joined_balances (joins_streams c.streams s.frames k) c s (joining_of s.frames)
     (streams_joined c.streams s.frames k))
 
-join_stays : (c : Connection) (s : Stream) (k : Known) → StaysOver c (joins c s k).1
-join_stays c s k = stays_if c.over c _ _ refl refl
+pub join_stays : (c : Connection) (s : Stream) (k : Known) → StaysOver c (joins c s k).1
+join_stays c s k = stays_if c.over c _ _ (λ e. e) refl
 
 join_counted : (o : Option Entry) (t : Table) (id session n len : ℕ)
     → entry_at t id ≡ o
@@ -281,13 +289,13 @@ set_found test [] e w h = absurd (cc h)
 set_found test (x ∷ es) e w h =
     set_head (test x.0) test x es (set_value test es w) e w refl h (set_found test es e w)
 
-abandon_balances : (c : Connection) (s : Stream) → Balances c s (abandons c s).1 (abandons c s).2
+pub abandon_balances : (c : Connection) (s : Stream) → Balances c s (abandons c s).1 (abandons c s).2
 abandon_balances c s =
     cond_balances c.over c s _ (abandoned_by c s (abandons_frames c.streams s.frames)) (λ h. refl)
     (λ h. abandon_counts c.streams s.frames h)
 
-abandon_stays : (c : Connection) (s : Stream) → StaysOver c (abandons c s).1
-abandon_stays c s = stays_if c.over c _ _ refl refl
+pub abandon_stays : (c : Connection) (s : Stream) → StaysOver c (abandons c s).1
+abandon_stays c s = stays_if c.over c _ _ (λ e. e) refl
 
 none_if : (b : Bool) (x y : Joining) → b ≡ false → places y.2.frames ≡ 0 → places (cond b x y).2.frames ≡ 0
 none_if true x y e f = absurd (cc e)
@@ -315,7 +323,7 @@ forgets_counted None t id at h = h
 forgets_counted (Some e) t id at h =
     let c : Connection = t.connection in
     let x : Joining = abandons c e.stream in
-    left_counted e.stays t (outcome_in t id e x.0 x.1 x.2) id (after_event e x.2 x.0)
+    left_counted e.stays t (called_in t id e x) id (after_event e x.2 x.0)
     (set_found (is_at (nat_cmp id)) t.entries e (after_event e x.2 x.0) at)
     (λ intact. abandon_none c e.stream (abandon_stays c e.stream intact))
     (outcome_counted t id e x.0 x.1 x.2 at (abandon_balances c e.stream) (abandon_stays c e.stream) h)

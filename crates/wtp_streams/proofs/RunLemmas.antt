@@ -36,7 +36,7 @@ pub record WaitsAs (n k : ℕ) (x : StreamRun) : Type 0 where
   pub waiting : x.connection.waiting ≡ n
   pub places : places x.stream ≡ k
 
-scope_waiting : (s : ErrorScope) (c : Connection) → (closed_in c s).waiting ≡ c.waiting
+pub scope_waiting : (s : ErrorScope) (c : Connection) → (closed_in c s).waiting ≡ c.waiting
 scope_waiting scope.Stream c = refl
 scope_waiting other c = refl
 

@@ -1,18 +1,24 @@
--- What the calls of a table are: those of a connection on the stream with this ID.
+-- What the calls of a table are: those of a connection on the stream with this ID (RFC 9114, sections 4.1.1,
+-- 5.2 and 6; draft-ietf-webtrans-http3-02, sections 4 and 5; RFC 9297, section 2.1).
 use Rattle.std.specs.Prelude.{◌≡◌, ℕ, ◌||◌, Bool, true, false, List, Option, Some, None, length}
 use Rattle.std.specs.Ordering.{nat_cmp}
 use Rattle.std.specs.Map.{remove_entry}
 use Rattle.std.specs.BTreeMap.{is_at}
+use Rattle.wtp_connection.specs.declared.connection.Known.TheVariants as known
+use Rattle.wtp_connection.specs.declared.connection.datagrams.DatagramFor.{DatagramFor}
+use Rattle.wtp_connection.specs.declared.stream.Purpose.{Purpose}
+use Rattle.wtp_connection.specs.Datagrams.{datagram_for}
 use Rattle.wtp_messages.specs.declared.response.Asked.{Asked}
 use Rattle.wtp_messages.specs.declared.response.Asked.TheVariants as asked
+use Rattle.wtp_webtransport.specs.declared.fault.Fault.{Fault}
 use Rattle.wtp_webtransport.specs.declared.connection.Connection.{Connection}
 use Rattle.wtp_webtransport.specs.declared.stream.Stream.{Stream}
 use Rattle.wtp_webtransport.specs.declared.event.Waits.{Waits as Wait}
 use Rattle.wtp_webtransport.specs.declared.event.Waits.TheVariants as wait
 use Rattle.wtp_webtransport.specs.Events.{Told, Joins}
-use Rattle.wtp_webtransport.specs.Streams.{accepted, request_stream, session_stream, waits_for}
+use Rattle.wtp_webtransport.specs.Streams.{accepted, request_stream, session_stream, answered, waits_for}
 use Rattle.wtp_webtransport.specs.Receiving.{Outcome, Receives}
-use Rattle.wtp_webtransport.specs.Joining.{Outcome as Joining, joins, abandons}
+use Rattle.wtp_webtransport.specs.Joining.{Outcome as Joining, joins, resets, stops_half, abandons, overflows, rejects, stops}
 use Rattle.wtp_streams.specs.declared.entry.Entry.{Entry}
 use Rattle.wtp_streams.specs.Table.{Table, entry_at, with_entry, with_new, with_connection, entry_of, is_settings, after_event, joined_len, known_in}
 
@@ -50,11 +56,13 @@ belongs_in t id session = puts_in t id (entry_of (session_stream session) (Some 
 -- ---- a call on a stream
 
 -- the table after an event of the stream with this ID, which was e
+abbrev pub called_in : Table → ℕ → Entry → Joining → Table
+called_in t id e x = with_connection (with_entry t id (after_event e x.2 x.0)) x.1
+
+-- the same of bytes, which may be the SETTINGS of the peer
 abbrev pub outcome_in : Table → ℕ → Entry → Told → Connection → Stream → Table
-outcome_in t id e told c s = record (with_entry t id (after_event e s told)) {
-  connection = c;
-  configured = t.configured || is_settings told;
-}
+outcome_in t id e told c s =
+    record (called_in t id e (told, c, s)) { configured = t.configured || is_settings told }
 
 -- what is consumed, the event, and the table after it
 abbrev pub Result : Type 0
@@ -65,7 +73,7 @@ Result = Option (ℕ × Told) × Table
 -- it is joined with the session, by what is known of that; n of all bytes are consumed before
 abbrev pub joined_in : Table → ℕ → Entry → ℕ → ℕ → Joining → Result
 joined_in t id e n len x =
-    (Some (joined_len x.0 n len, x.0), outcome_in t id e x.0 x.1 x.2)
+    (Some (joined_len x.0 n len, x.0), called_in t id e x)
 
 abbrev pub join_by : Option Entry → Table → ℕ → ℕ → ℕ → ℕ → Result
 join_by None t id session n len = (None, t)
@@ -129,7 +137,7 @@ left_by false t id = without_entry t id
 
 abbrev pub forgotten : Table → ℕ → Entry → Joining → Option Told × Table
 forgotten t id e x =
-    (Some x.0, left_by e.stays (outcome_in t id e x.0 x.1 x.2) id)
+    (Some x.0, left_by e.stays (called_in t id e x) id)
 
 abbrev pub forgets_by : Option Entry → Table → ℕ → Option Told × Table
 forgets_by None t id = (None, t)
@@ -137,3 +145,67 @@ forgets_by (Some e) t id = forgotten t id e (abandons t.connection e.stream)
 
 abbrev pub forgets_in : Table → ℕ → Option Told × Table
 forgets_in t id = forgets_by (entry_at t id) t id
+
+-- ---- streams that end before their last byte
+
+-- a call of the connection on the stream with this ID
+abbrev pub call_by : (Connection → Stream → Joining) → Option Entry → Table → ℕ → Option Told × Table
+call_by f None t id = (None, t)
+call_by f (Some e) t id =
+    (Some (f t.connection e.stream).0, called_in t id e (f t.connection e.stream))
+
+abbrev pub call_in : (Connection → Stream → Joining) → Table → ℕ → Option Told × Table
+call_in f t id = call_by f (entry_at t id) t id
+
+abbrev pub resets_in : Table → ℕ → Option Told × Table
+resets_in t id = call_in resets t id
+
+abbrev pub stops_in : Table → ℕ → Option Told × Table
+stops_in t id = call_in stops_half t id
+
+abbrev pub abandons_in : Table → ℕ → Option Told × Table
+abandons_in t id = call_in abandons t id
+
+abbrev pub overflows_in : Table → ℕ → Option Told × Table
+overflows_in t id = call_in overflows t id
+
+abbrev pub rejects_in : Table → ℕ → Option ℕ → Option Told × Table
+rejects_in t id goaway = call_in (λ c s. rejects c s id goaway) t id
+
+-- an own stream for this purpose
+abbrev pub stopped_in : Table → Purpose → Option Fault × Table
+stopped_in t own = ((stops t.connection own).1, with_connection t (stops t.connection own).0)
+
+-- ---- sessions
+
+abbrev pub awaits_answer : Option Wait → Bool
+awaits_answer (Some wait.Answer) = true
+awaits_answer _ = false
+
+abbrev pub answered_by : Option Entry → Table → ℕ → ℕ → Table
+answered_by None t id status = t
+answered_by (Some e) t id status = with_entry t id (record e { stream = answered e.stream status })
+
+-- a request that waits for its answer gets it
+abbrev pub answers_if : Bool → Table → ℕ → ℕ → Table
+answers_if true t id status = answered_by (entry_at t id) t id status
+answers_if false t id status = t
+
+abbrev pub answers_in : Table → ℕ → ℕ → Table
+answers_in t id status = answers_if (awaits_answer (wait_of (entry_at t id))) t id status
+
+-- what is to be done with a datagram of a session
+abbrev pub action_in : Table → ℕ → DatagramFor
+action_in t session = datagram_for (known_in t session)
+
+-- a stream whose session is over is read no further
+abbrev pub cut : Table → ℕ → Entry → Joining → Table
+cut t id e x = with_connection (with_entry t id (record e { stream = x.2; session = None })) x.1
+
+abbrev pub cut_by : Option Entry → Table → ℕ → Table
+cut_by None t id = t
+cut_by (Some e) t id = cut t id e (joins t.connection e.stream known.Over)
+
+abbrev pub cuts_in : Table → Option ℕ → Table
+cuts_in t None = t
+cuts_in t (Some id) = cut_by (entry_at t id) t id

@@ -151,3 +151,23 @@ unpaused_by t id (Some e) = with_entry t id (record e { paused = false })
 abbrev pub named_by : Table → Option ℕ → Table
 named_by t None = t
 named_by t (Some id) = unpaused_by t id (entry_at t id)
+
+-- ---- streams of sessions that are over
+
+-- a session that was open is open no longer
+abbrev pub has_ended : Known → Bool
+has_ended known.Coming = false
+has_ended known.Open = false
+has_ended _ = true
+
+-- the session that a stream is joined with is over
+abbrev pub over_in : Table → Option ℕ → Bool
+over_in t None = false
+over_in t (Some session) = has_ended (known_in t session)
+
+abbrev pub is_cut : Table → Entry → Bool
+is_cut t e = over_in t e.session
+
+-- the first one
+abbrev pub first_cut : Table → Option ℕ
+first_cut t = id_of (find (λ (e : ℕ × Entry). is_cut t e.1) t.entries)

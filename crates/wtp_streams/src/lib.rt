@@ -4,5 +4,6 @@
 #![tactic(auto)]
 
 mod entry;
+pub mod error;
 pub mod laws;
 pub mod streams;

@@ -4,6 +4,9 @@ ghost use Rattle.wtp_webtransport.specs.Events.{told_of};
 ghost use Rattle.wtp_streams.specs.Table.{table_of, table_for, entry_at, known_in, is_coming as is_coming_is, is_past as is_past_is, is_ready as is_ready_is, first_ready as first_ready_is, named_by};
 ghost use Rattle.wtp_streams.specs.Calls.{puts_in, accepts_in, opens_in, belongs_in, join_in, wait_of, NextIn, ReadsIn, ReceivesIn, forgets_in};
 
+mod endings;
+pub mod sessions;
+
 use crate::entry::{Entry, is_settings, joined_len};
 use std::alloc::{AllocError, Global};
 use std::collections::BTreeMap;
