@@ -1,0 +1,6 @@
+//! The table of the streams of a connection: what the calls return by IDs. Tests over the public crates;
+//! there is no product code here.
+#![tactic(auto)]
+
+#[cfg(test)]
+mod early;

@@ -1,0 +1,4 @@
+pub mod RunLemmas
+pub mod CallLemmas
+pub mod CountLemmas
+pub mod EndingLemmas

@@ -1,0 +1,126 @@
+//! Sessions: their answers, their datagrams, and the streams of those that are over.
+ghost use Rattle.std.specs.Prelude.{◌≡◌, Ok, Err, MatchResult, option_map};
+ghost use Rattle.wtp_webtransport.specs.Joining.{takes, after_datagram};
+ghost use Rattle.wtp_streams.specs.Table.{table_of, with_connection, entry_at, is_cut as is_cut_is, has_ended as has_ended_is, first_cut as first_cut_is};
+ghost use Rattle.wtp_streams.specs.Calls.{awaits_answer as awaits_answer_is, wait_of, answers_in, action_in, cuts_in};
+
+use crate::entry::Entry;
+use crate::streams::Streams;
+use wtp_connection::connection::Known;
+use wtp_connection::connection::datagrams::DatagramFor;
+use wtp_webtransport::event::Waits;
+use wtp_webtransport::fault::Fault;
+
+/// A datagram of a session.
+#[derive(Clone, Copy)]
+pub struct Datagram<'a> {
+    /// The session.
+    pub session: u64,
+    /// Its payload, which may be empty.
+    pub payload: &'a [u8],
+    /// What is to be done with it.
+    pub action: DatagramFor,
+}
+
+impl Streams {
+    /// Says that the CONNECT request with this ID is answered with this status, as
+    /// [`Stream::answer`](wtp_webtransport::stream::Stream::answer) does. Returns whether it waits for an
+    /// answer; nothing changes if not.
+    pub fn answer(&mut self, id: u64, status: u32) -> bool
+        ensures answered { result ≡ awaits_answer_is (wait_of (entry_at (table_of self.old) id)) }
+        ensures table { table_of self.new ≡ answers_in (table_of self.old) id status }
+    {
+        if !self.awaits_answer(id) {
+            return false;
+        }
+        if let Some(entry) = self.table.get_mut(&id) {
+            entry.stream.answer(status);
+        }
+        true
+    }
+
+    // Returns whether a request waits for its answer.
+    fn awaits_answer(&self, id: u64) -> bool
+        ensures { result ≡ awaits_answer_is (wait_of (entry_at (table_of self.now) id)) }
+    {
+        matches!(self.wait(id), Some(Waits::Answer))
+    }
+
+    /// Returns the session of a datagram, its payload, and what is to be done with it by what is known of
+    /// the session. `bytes` is the payload of a QUIC datagram. Returns `None` if it is to be dropped, as
+    /// [`Connection::datagram`] does.
+    ///
+    /// # Errors
+    ///
+    /// As of [`Connection::datagram`].
+    ///
+    /// [`Connection::datagram`]: wtp_webtransport::connection::Connection::datagram
+    pub fn datagram<'a>(&mut self, bytes: &'a [u8]) -> Result<Option<Datagram<'a>>, Fault>
+        ensures taken { MatchResult result
+            (λ d. takes (table_of self.old).connection bytes.now
+                ≡ Ok (option_map (λ x. (x.session, x.payload.now)) d))
+            (λ f. takes (table_of self.old).connection bytes.now ≡ Err f) }
+        ensures action { MatchResult result
+            (λ d. option_map (λ x. x.action) d
+                ≡ option_map (λ x. action_in (table_of self.new) x.session) d)
+            (λ f. Unit {0}) }
+        ensures table { table_of self.new ≡ with_connection (table_of self.old)
+            (after_datagram (table_of self.old).connection bytes.now) }
+    {
+        match self.connection.datagram(bytes) {
+            Ok(Some((session, payload))) => Ok(Some(Datagram {
+                session,
+                payload,
+                action: self.known(session).datagram_for(),
+            })),
+            Ok(None) => Ok(None),
+            Err(fault) => Err(fault),
+        }
+    }
+
+    /// Returns a stream whose session is over: both halves of it are to be reset and stopped with
+    /// WEBTRANSPORT_SESSION_GONE (draft-ietf-webtrans-http3-02, section 5). It is read no further. Each
+    /// such stream is returned once, the one with the lowest ID first.
+    pub fn next_to_reset(&mut self) -> Option<u64>
+        ensures id { result ≡ first_cut_is (table_of self.old) }
+        ensures table { table_of self.new ≡ cuts_in (table_of self.old) result }
+    {
+        let Some(id) = self.first_cut() else {
+            return None;
+        };
+        if let Some(entry) = self.table.get_mut(&id) {
+            self.connection.join(&mut entry.stream, Known::Over);
+            entry.session = None;
+        }
+        Some(id)
+    }
+
+    // Returns the first stream whose session is over.
+    fn first_cut(&self) -> Option<u64>
+        ensures { result ≡ first_cut_is (table_of self.now) }
+    {
+        for (id, entry) in &self.table {
+            if self.is_cut(entry) {
+                return Some(*id);
+            }
+        }
+        None
+    }
+
+    // Returns whether the session that a stream is joined with is over.
+    fn is_cut(&self, entry: &Entry) -> bool
+        ensures { result ≡ is_cut_is (table_of self.now) entry.now }
+    {
+        match entry.session {
+            Some(session) => has_ended(self.known(session)),
+            None => false,
+        }
+    }
+}
+
+// Returns whether a session that was open is open no longer.
+fn has_ended(known: Known) -> bool
+    ensures { result ≡ has_ended_is known }
+{
+    !matches!(known, Known::Coming | Known::Open)
+}
