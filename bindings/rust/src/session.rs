@@ -151,7 +151,8 @@ impl std::error::Error for HeadersParseError {}
 ///
 /// let mut frame = Vec::new();
 /// SessionResponse::with_status_code(404).write(&mut frame)?;
-/// assert_eq!(frame, [0x01, 0x03, 0x00, 0x00, 0xc0 | 27]); // RFC 9204, Appendix A: index 27
+/// assert_eq!(frame[..2], [0x01, 0x08]); // a HEADERS frame, and the length of its field section
+/// assert_eq!(SessionResponse::read_status(&frame[2..]), Ok(404));
 /// # Ok::<(), vesgrauf::error::WriteError>(())
 /// ```
 #[derive(Clone, Debug)]

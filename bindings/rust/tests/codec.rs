@@ -126,9 +126,12 @@ fn frames_that_are_read() {
         (StreamRole::BiRemote, b"\x04\x00", Code::H3_FRAME_UNEXPECTED),
         (StreamRole::UniRemote, b"\x00\x00", Code::H3_FRAME_UNEXPECTED),
         (StreamRole::BiRemote, b"\x40\x41\x05", Code::H3_ID_ERROR),
-        (StreamRole::BiLocal, b"\x40\x41\x04", Code::H3_FRAME_ERROR),
+        (StreamRole::BiLocal, b"\x40\x41\x04", Code::H3_FRAME_UNEXPECTED),
         (StreamRole::BiRemote, b"\x00\x50\x01", Code::H3_EXCESSIVE_LOAD),
     ];
+    // one of a session that is not the first (draft-ietf-webtrans-http3-02, section 4.2)
+    assert!(matches!(cursor.next(b"\x00\x00"), CursorStep::Frame(_)));
+    assert_eq!(cursor.next(b"\x40\x41\x04"), CursorStep::Fault(Code::H3_FRAME_ERROR));
     for (role, bytes, code) in faults {
         assert_eq!(next(*role, bytes), CursorStep::Fault(*code), "{bytes:x?}");
     }

@@ -16,6 +16,12 @@ use vesgrauf::settings::Settings;
 use vesgrauf::stream_header::{StreamHeader, StreamKind};
 use vesgrauf::{Asked, Endpoint, Stream};
 
+/// How many times a test is done: fewer under valgrind, where VESGRAUF_CUTS divides it.
+fn times(number: usize) -> usize {
+    let cuts = std::env::var("VESGRAUF_CUTS").ok().map(|cuts| cuts.parse::<usize>().unwrap());
+    cuts.map_or(number, |cuts| (number / cuts).max(1))
+}
+
 fn folder() -> PathBuf {
     PathBuf::from(env!("CARGO_MANIFEST_DIR")).join("../../tools/recordings.d")
 }
@@ -67,8 +73,13 @@ fn is_text(bytes: &[u8], text: &str) -> bool {
     bytes == text.as_bytes() || bytes.iter().map(|byte| *byte as char).eq(text.chars())
 }
 
-/// The frames of a stream with their payloads, what is left, and a fault.
+/// The frames of a stream with their payloads, what is left without a fault, and a fault.
 type Frames = (Vec<(FrameKind, Vec<u8>)>, Vec<u8>, Option<Code>);
+
+/// Returns the sizes of pieces.
+fn sizes(pieces: &[&[u8]]) -> Vec<usize> {
+    pieces.iter().map(|piece| piece.len()).collect()
+}
 
 /// Reads the frames of a stream that comes in these pieces.
 fn frames(role: StreamRole, pieces: &[&[u8]]) -> Frames {
@@ -90,7 +101,7 @@ fn frames(role: StreamRole, pieces: &[&[u8]]) -> Frames {
                     assert!(held.len() <= FrameCursor::MAX_REST);
                     break;
                 }
-                CursorStep::Fault(code) => return (found, held, Some(code)),
+                CursorStep::Fault(code) => return (found, Vec::new(), Some(code)),
             }
         }
     }
@@ -101,9 +112,9 @@ fn frames(role: StreamRole, pieces: &[&[u8]]) -> Frames {
 fn check_frames(row: &Row, role: StreamRole, bytes: &[u8], said: &[Json], read: &[Json]) -> Frames {
     let whole = frames(role, &[bytes]);
     let mut random = Random(7);
-    for _ in 0..20 {
+    for _ in 0..times(20) {
         let pieces = random.pieces(bytes);
-        assert_eq!(frames(role, &pieces), whole, "{} in {pieces:x?}", row.name);
+        assert!(frames(role, &pieces) == whole, "{} in {:?}", row.name, sizes(&pieces));
     }
     let mut wanted: Vec<(String, usize)> = Vec::new();
     let mut fault = None;
@@ -185,7 +196,7 @@ fn check_capsules(row: &Row, frames: &Frames) -> usize {
             _ => false,
         });
         let wanted: Vec<_> = wanted.map(|capsule| &capsule.list()[1..]).collect();
-        for _ in 0..50 {
+        for _ in 0..times(50) {
             let (found, ending) = closes(&random.pieces(&data));
             assert_eq!(ending.err(), is_cut.then_some(Code::H3_MESSAGE_ERROR), "{}", row.name);
             assert_eq!(found.len(), wanted.len(), "{}", row.name);
@@ -234,7 +245,7 @@ fn streams_and_datagrams_are_those_of_the_index() {
     let mut kinds = BTreeSet::new();
     let mut capsules = 0;
     for row in rows() {
-        let first = row.kind.split([' ', ':']).next().unwrap().to_string();
+        let first = row.kind.split([' ', ':', ',']).next().unwrap().to_string();
         match first.as_str() {
             "datagram" => {
                 let datagram = Datagram::read(&row.bytes).unwrap();
@@ -303,9 +314,9 @@ fn cuts_make_no_difference() {
     let mut random = Random(11);
     for row in rows().iter().filter(|row| row.stream.is_some()) {
         let whole = play(row, &[&row.bytes]);
-        for _ in 0..20 {
+        for _ in 0..times(20) {
             let pieces = random.pieces(&row.bytes);
-            assert_eq!(play(row, &pieces), whole, "{} in {pieces:x?}", row.name);
+            assert_eq!(play(row, &pieces), whole, "{} in {:?}", row.name, sizes(&pieces));
         }
     }
 }
@@ -316,7 +327,7 @@ fn cuts_of_wrong_bytes_make_no_difference() {
     let mut faults = BTreeSet::new();
     let rows = rows();
     let rows: Vec<_> = rows.iter().filter(|row| row.stream.is_some()).collect();
-    for _ in 0..2_000 {
+    for _ in 0..times(2_000) {
         let row = rows[random.below(rows.len())];
         let mut bytes = row.bytes.clone();
         for _ in 0..=random.below(3) {
@@ -325,11 +336,12 @@ fn cuts_of_wrong_bytes_make_no_difference() {
         }
         let whole = play(row, &[&bytes]);
         let pieces = random.pieces(&bytes);
-        assert_eq!(play(row, &pieces), whole, "{}: {bytes:x?} in {pieces:x?}", row.name);
+        assert_eq!(play(row, &pieces), whole, "{}: {bytes:x?} in {:?}", row.name, sizes(&pieces));
         faults
             .insert(whole.rsplit("; ").nth(1).unwrap_or("").split('{').next().unwrap().to_string());
     }
-    assert!(faults.iter().filter(|event| event.contains("Error")).count() > 5, "{faults:?}");
+    let errors = faults.iter().filter(|event| event.contains("Error"));
+    assert!(errors.count() > 3, "{faults:?}");
 }
 
 /// What a server receives in the session of Chromium that is recorded: each stream, and its events.
@@ -343,11 +355,21 @@ const CHROMIUM: &[(u64, &str, bool, &str)] = &[
     (18, "chr07-0-c2s-18.bin", true, "Joined(0); End; "),
 ];
 
+/// The size of the HEADERS frame of the request: 131 bytes, by the index, after three.
+const REQUEST_SIZE: usize = 134;
+
 /// Plays the session with its streams cut and mixed at random, and returns the events of each.
 fn play_session(random: &mut Random) -> Vec<String> {
     let mut player = Player::new(Endpoint::server(LIMITS), 200);
     let files: Vec<_> = CHROMIUM.iter().map(|row| recorded(row.1)).collect();
-    let mut rest: Vec<_> = files.iter().map(|bytes| random.pieces(bytes).into_iter()).collect();
+    let mut pieces: Vec<_> = files.iter().map(|bytes| random.pieces(bytes)).collect();
+    // its request, and what closes it
+    let (request, end) = files[2].split_at(REQUEST_SIZE);
+    let end = random.pieces(end);
+    let end_len = end.len();
+    pieces[2] = random.pieces(request);
+    pieces[2].extend(end);
+    let mut rest: Vec<_> = pieces.into_iter().map(Vec::into_iter).collect();
     for (id, ..) in CHROMIUM {
         match id {
             1 => player.add(1, Stream::of_session(0)),
@@ -360,7 +382,7 @@ fn play_session(random: &mut Random) -> Vec<String> {
         let at = open[place];
         let (id, _, fin, _) = CHROMIUM[at];
         // the session ends, and its streams with it, when all of them were read
-        if id == 0 && open.len() > 1 && rest[at].len() <= 1 {
+        if id == 0 && open.len() > 1 && rest[at].len() <= end_len {
             continue;
         }
         match rest[at].next() {
@@ -379,7 +401,7 @@ fn play_session(random: &mut Random) -> Vec<String> {
 #[test]
 fn a_session_of_chromium_in_any_order() {
     let mut random = Random(17);
-    for _ in 0..300 {
+    for _ in 0..times(300) {
         for (text, (id, _, _, wanted)) in play_session(&mut random).iter().zip(CHROMIUM) {
             match id {
                 0 => {
