@@ -150,8 +150,9 @@ impl FieldList {
     {
         let mut lines = FieldLines::new(section)?;
         let mut room = FieldBuffer::new(alloc);
-        // A Huffman-encoded text is rarely longer than twice its encoding.
-        let size = section.len().saturating_mul(2) as u64;
+        // A Huffman-encoded text is rarely longer than twice its encoding; one of the static table
+        // has a byte or two.
+        let size = section.len().saturating_mul(2).max(256) as u64;
         let mut list = FieldList::with_room(alloc, size.min(limit) as usize);
         let mut left = limit;
         'lines: loop {
