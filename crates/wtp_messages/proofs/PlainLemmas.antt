@@ -1,5 +1,5 @@
 -- Messages of plain fields break no rule.
-use Rattle.std.proofs.Common.{◌≡◌, ◌==◌, ℕ, zero, suc, ◌-◌, ◌<◌, nat_lt, Bool, true, false, not, ◌&&◌, ◌||◌, cond, if◌then◌else◌, List, [], ◌∷◌, map, filter, length, slice_get, Option, Some, None, is_some, Ok, Err, refl, sym, ap, subst, ◌∙◌, arith, eqb-true, lt-ltb, ltb-true, codes, bytes_eq, flat_map}
+use Rattle.std.proofs.Common.{◌≡◌, ◌==◌, ℕ, zero, suc, ◌-◌, ◌<◌, ◌≤◌, nat_lt, Bool, true, false, not, ◌&&◌, ◌||◌, cond, if◌then◌else◌, List, [], ◌∷◌, map, filter, length, slice_get, Option, Some, None, is_some, Ok, Err, refl, sym, ap, subst, ◌∙◌, arith, eqb-true, lt-ltb, ltb-true, ne_eqb, le-ltb, codes, bytes_eq, flat_map}
 use Rattle.std.proofs.lemmas.Bool.{and_from, and_parts, and_left, and_right, or_from, or_parts, or_cases, or_left, or_right, false≢true, false_from_ne_true}
 use Rattle.std.proofs.lemmas.Slice.Eq.{bytes_eq-Decides}
 use Rattle.std.specs.List.{list_all, list_any}
@@ -22,9 +22,9 @@ use Rattle.wtp_messages.specs.Length.{lengths_in, all_agree, first_length, conte
 use Rattle.wtp_messages.specs.Content.{content_of}
 use Rattle.wtp_messages.specs.Section.{connection_names, is_connection_field, pseudo_names, are_pseudo_first, is_repeated, announces, line_breaks, IsSection}
 use Rattle.wtp_messages.specs.Request.{is_path_byte, is_path, is_options, is_http, is_plain_connect, asks_for_session, is_scheme, differ, IsWellFormed, IsRequest}
-use Rattle.wtp_messages.specs.Response.{is_status, is_unexpected, kind_if, opens_tunnel, expected, HasNoContent, IsResponse, response_breaks}
-use Rattle.wtp_messages.specs.Plain.{own_names, is_plain, request_list, session_list, tunnel_list, response_list, IsTarget, IsMethod, Says, ReadsRequest, IsStatus, allows, SaysStatus, ReadsResponse}
-use Rattle.wtp_messages.proofs.AuthorityLemmas.{other, mark_passes, is_visible, alphanumeric_visible, authority_visible, authority_passes, digits_visible}
+use Rattle.wtp_messages.specs.Response.{is_status, is_unexpected, kind_if, opens_tunnel, expected, HasNoContent, IsResponse, response_breaks, is_success, has_no_content}
+use Rattle.wtp_messages.specs.Plain.{own_names, is_plain, request_list, session_list, tunnel_list, response_list, IsTarget, IsMethod, Says, ReadsRequest, IsStatus, IsAnswer, SaysStatus, ReadsResponse, browser_fields, session_fields}
+use Rattle.wtp_messages.proofs.AuthorityLemmas.{other, mark_passes, is_visible, alphanumeric_visible, authority_visible, authority_passes, digits_visible, authority_found}
 use Rattle.wtp_messages.proofs.LineLemmas.{whole_by_rows, no_rule}
 use Rattle.wtp_messages.proofs.RequestLemmas.{well_formed}
 use Rattle.wtp_messages.proofs.ResponseLemmas.{status_by_rows, well_formed as response_well_formed}
@@ -371,20 +371,26 @@ response_section false text others v h =
     (or_from _ _ (once_with (codes ":status") text others refl h) refl)
     (none_of (codes "content-length") others refl h)
 
-accepts_nothing : (kind : Asked) (text : List ℕ) (code : ℕ) (others : List Field) → three_digits text ≡ Some code → allows kind code ≡ true → list_all is_plain others ≡ true → HasNoContent kind (response_list text others)
+not_any : (code a b c : ℕ) → (code ≡ a → ⊥) × (code ≡ b → ⊥) × (code ≡ c → ⊥) → (code == a || code == b || code == c) ≡ false
+not_any code a b c h = or_from _ _ (or_from _ _ (ne_eqb code a h.0) (ne_eqb code b h.1)) (ne_eqb code c h.2)
+
+status_valid : (code : ℕ) → 100 ≤ code → (code ≡ 101 → ⊥) → is_status (Some code) ≡ true
+status_valid code low other = and_from _ _ (lt-ltb 99 code (omega (arith, low))) (ap not (ne_eqb code 101 other))
+
+accepts_nothing : (kind : Asked) (text : List ℕ) (code : ℕ) (others : List Field) → three_digits text ≡ Some code → IsAnswer kind code → list_all is_plain others ≡ true → HasNoContent kind (response_list text others)
 accepts_nothing asked.Head text code others e a h = record { status = refl; none = refl }
 accepts_nothing asked.Connect text code others e a h = record { status = refl; none = refl }
 accepts_nothing asked.Session text code others e a h = record {
-  status = and_right _ _ (ap is_unexpected e ∙ was_false (is_unexpected (Some code)) a);
+  status = and_right _ _ (ap is_unexpected e ∙ not_any code 204 205 206 a);
   none = and_right _ _ (or_from _ _ (absent (codes "content-length") others refl h) (absent (codes "content-type") others refl h));
 }
 accepts_nothing asked.Other text code others e a h = record { status = refl; none = refl }
 
-response_holds : (kind : Asked) (text : List ℕ) (code : ℕ) (others : List Field) → IsStatus text code → allows kind code ≡ true → list_all is_plain others ≡ true → (rule : Malformed) → response_breaks kind (response_list text others) rule ≡ false
+response_holds : (kind : Asked) (text : List ℕ) (code : ℕ) (others : List Field) → IsStatus text code → IsAnswer kind code → list_all is_plain others ≡ true → (rule : Malformed) → response_breaks kind (response_list text others) rule ≡ false
 response_holds kind text code others s a h =
     let fields = response_list text others in
     response_well_formed kind fields (response_section (opens_tunnel kind fields) text others (visible_value text (digits_visible text s.digits)) h)
-    (status_by_rows kind fields refl (ap not (ap is_status s.is ∙ s.valid)) (accepts_nothing kind text code others s.is a h))
+    (status_by_rows kind fields refl (ap not (ap is_status s.is ∙ status_valid code s.low s.other)) (accepts_nothing kind text code others s.is a h))
 
 same_number : (a b : ℕ) → ◌≡◌ {A = Option ℕ} (Some a) (Some b) → b ≡ a
 same_number a b h = cc
@@ -398,6 +404,66 @@ response_said kind text code others s h q is =
           ∙ ap (λ (o : Option ℕ). content_of (expected kind code o)) (no_length (response_list text others) (none_of (codes "content-length") others refl h));
     }
 
-pub response_read : (kind : Asked) (text : List ℕ) (code : ℕ) (others : List Field) → IsStatus text code → allows kind code ≡ true → list_all is_plain others ≡ true → ReadsResponse kind (response_list text others) (SaysStatus kind code)
+pub response_read : (kind : Asked) (text : List ℕ) (code : ℕ) (others : List Field) → IsStatus text code → IsAnswer kind code → list_all is_plain others ≡ true → ReadsResponse kind (response_list text others) (SaysStatus kind code)
 response_read kind text code others s a h (Ok q) is = response_said kind text code others s h q is
 response_read kind text code others s a h (Err rule) is = absurd (false≢true (sym (response_holds kind text code others s a h rule) ∙ is))
+
+-- ---- worked messages
+
+pub worked_request : ReadsRequest false (request_list (codes "GET") (codes "localhost:4433") (codes "/a?b=%20") browser_fields) (Says (codes "GET") (Some (codes "https")) (codes "localhost:4433") (Some (codes "/a?b=%20")) None)
+worked_request = request_read false (codes "GET") (codes "localhost:4433") (codes "/a?b=%20") browser_fields
+    (record { token = refl; other = λ e. cc e })
+    (record { host = authority_found false (codes "localhost:4433") refl; slash = refl; bytes = refl; plain = refl })
+
+pub worked_session : ReadsRequest true (session_list (codes "[::1]:4433") (codes "/chat") session_fields) (Says (codes "CONNECT") (Some (codes "https")) (codes "[::1]:4433") (Some (codes "/chat")) (Some (codes "webtransport")))
+worked_session = session_read (codes "[::1]:4433") (codes "/chat") session_fields
+    (record { host = authority_found false (codes "[::1]:4433") refl; slash = refl; bytes = refl; plain = refl })
+
+pub worked_tunnel : ReadsRequest false (tunnel_list (codes "example.com:443") browser_fields) (Says (codes "CONNECT") None (codes "example.com:443") None None)
+worked_tunnel = tunnel_read false (codes "example.com:443") browser_fields (authority_found true (codes "example.com:443") refl) refl
+
+pub worked_response : ReadsResponse asked.Other (response_list (codes "200") browser_fields) (SaysStatus asked.Other 200)
+worked_response = response_read asked.Other (codes "200") 200 browser_fields (record { digits = refl; is = refl; low = omega arith; other = λ e. omega (arith, e) }) tt refl
+
+-- ---- content of responses
+
+expected_tunnel : (b none : Bool) (announced : Option ℕ) → b ≡ true → (if b then None else if none then Some 0 else announced) ≡ None
+expected_tunnel b none announced h = rw h refl
+
+success : (code : ℕ) → 200 ≤ code → code < 300 → is_success (Some code) ≡ true
+success code low high = and_from _ _ (lt-ltb 199 code (omega (arith, low))) (lt-ltb code 300 high)
+
+pub content_of_tunnel : (code : ℕ) (announced : Option ℕ) → 200 ≤ code → code < 300 → expected asked.Connect code announced ≡ None
+content_of_tunnel code announced low high = expected_tunnel (is_success (Some code)) (has_no_content code) announced (success code low high)
+
+pub content_of_session : (code : ℕ) (announced : Option ℕ) → 200 ≤ code → code < 300 → expected asked.Session code announced ≡ None
+content_of_session code announced low high = expected_tunnel (is_success (Some code)) (has_no_content code) announced (success code low high)
+
+pub content_of_head : (code : ℕ) (announced : Option ℕ) → expected asked.Head code announced ≡ Some 0
+content_of_head code announced = refl
+
+no_content_by : (success none : Bool) (announced : Option ℕ) → success ≡ false → none ≡ true → (if success then None else if none then Some 0 else announced) ≡ Some 0
+no_content_by success none announced s n = rw (s, n) refl
+
+interim_by : (kind : Asked) (code : ℕ) (announced : Option ℕ) → is_success (Some code) ≡ false → has_no_content code ≡ true → expected kind code announced ≡ Some 0
+interim_by asked.Head code announced s n = refl
+interim_by asked.Connect code announced s n = no_content_by (is_success (Some code)) (has_no_content code) announced s n
+interim_by asked.Session code announced s n = no_content_by (is_success (Some code)) (has_no_content code) announced s n
+interim_by asked.Other code announced s n = rw n refl
+
+pub content_of_interim : (kind : Asked) (code : ℕ) (announced : Option ℕ) → code < 200 → expected kind code announced ≡ Some 0
+content_of_interim kind code announced low =
+    interim_by kind code announced (and_left _ _ (le-ltb 199 code (omega (arith, low)))) (or_left (nat_lt code 200 || code == 204) _ (or_left (nat_lt code 200) _ (lt-ltb code 200 low)))
+
+pub content_of_204 : (announced : Option ℕ) → expected asked.Other 204 announced ≡ Some 0
+content_of_204 announced = refl
+
+pub content_of_304 : (kind : Asked) (announced : Option ℕ) → expected kind 304 announced ≡ Some 0
+content_of_304 kind announced = interim_by kind 304 announced refl refl
+
+announced_by : (b : Bool) (announced : Option ℕ) → b ≡ false → (if b then Some 0 else announced) ≡ announced
+announced_by b announced h = rw h refl
+
+pub content_announced : (code : ℕ) (announced : Option ℕ) → 200 ≤ code → (code ≡ 204 → ⊥) → (code ≡ 304 → ⊥) → expected asked.Other code announced ≡ announced
+content_announced code announced low a b =
+    announced_by (has_no_content code) announced (or_from _ _ (or_from _ _ (le-ltb code 200 low) (ne_eqb code 204 a)) (ne_eqb code 304 b))

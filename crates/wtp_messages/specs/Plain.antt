@@ -1,6 +1,6 @@
 -- Messages of plain fields: lists that are well formed whatever their values are, and what they say
 -- (RFC 9114, section 4).
-use Rattle.std.specs.Prelude.{◌≡◌, ℕ, Bool, true, false, not, ◌&&◌, List, [], ◌∷◌, ◌++◌, codes}
+use Rattle.std.specs.Prelude.{◌≡◌, ◌==◌, ◌≤◌, ℕ, nat_lt, Bool, true, false, not, ◌&&◌, List, [], ◌∷◌, ◌++◌, codes}
 use Rattle.std.specs.Prelude.{Option, Some, None, Result, MatchResult}
 use Rattle.std.specs.List.{list_all}
 use Rattle.std.specs.Option.{option_copied}
@@ -16,8 +16,8 @@ use Rattle.wtp_messages.specs.Authority.{IsAuthority}
 use Rattle.wtp_messages.specs.Content.{content_of}
 use Rattle.wtp_messages.specs.Length.{is_digit}
 use Rattle.wtp_messages.specs.Names.{starts_with, is_whole_token, is_field_name, is_one_of}
-use Rattle.wtp_messages.specs.Request.{is_path_byte, request_breaks, IsRequest}
-use Rattle.wtp_messages.specs.Response.{is_status, is_unexpected, expected, response_breaks, IsResponse}
+use Rattle.wtp_messages.specs.Request.{request_breaks, IsRequest}
+use Rattle.wtp_messages.specs.Response.{expected, response_breaks, IsResponse}
 use Rattle.wtp_messages.specs.Section.{is_connection_field}
 
 -- ---- plain fields
@@ -55,11 +55,15 @@ abbrev pub tunnel_list : List ℕ → List Field → List Field
 tunnel_list authority others =
     (codes ":method", codes "CONNECT") ∷ (codes ":authority", authority) ∷ others
 
+-- The byte is allowed in a path: no control character, no space and no number sign.
+abbrev pub is_in_path : ℕ → Bool
+is_in_path byte = nat_lt 32 byte && not (byte == 127) && not (byte == 35)
+
 -- an authority, a path that starts with a slash, and plain fields
 pub record IsTarget (authority path : List ℕ) (others : List Field) : Type 0 where
   pub host : IsAuthority false authority
   pub slash : starts_with 47 path ≡ true
-  pub bytes : list_all is_path_byte path ≡ true
+  pub bytes : list_all is_in_path path ≡ true
   pub plain : list_all is_plain others ≡ true
 
 -- a method, which is another than CONNECT
@@ -94,17 +98,18 @@ response_list text others = (codes ":status", text) ∷ others
 pub record IsStatus (text : List ℕ) (code : ℕ) : Type 0 where
   pub digits : list_all is_digit text ≡ true
   pub is : three_digits text ≡ Some code
-  pub valid : is_status (Some code) ≡ true
+  pub low : 100 ≤ code
+  pub other : code ≡ 101 → ⊥
 
 -- A response to the request may have this status. A session is not accepted with 204, 205 or 206 (RFC
 -- 9297, section 3.2).
-abbrev pub allows : Asked → ℕ → Bool
-allows asked.Session code = not (is_unexpected (Some code))
-allows asked.Head code = true
-allows asked.Connect code = true
-allows asked.Other code = true
+abbrev pub IsAnswer : Asked → ℕ → Type 0
+IsAnswer asked.Session code = (code ≡ 204 → ⊥) × (code ≡ 205 → ⊥) × (code ≡ 206 → ⊥)
+IsAnswer asked.Head code = Unit {0}
+IsAnswer asked.Connect code = Unit {0}
+IsAnswer asked.Other code = Unit {0}
 
--- The response has this status, and content as its request and its status have it.
+-- The response has this status, and the content that a response with it has to such a request.
 pub record SaysStatus (kind : Asked) (code : ℕ) (response : Response) : Type 0 where
   pub status : response.status ≡ code
   pub content : response.content ≡ content_of (expected kind code None)
@@ -116,3 +121,22 @@ ReadsResponse kind fields says =
     (r : Result Response Malformed)
     → MatchResult r (IsResponse kind fields) (λ rule. response_breaks kind fields rule ≡ true)
     → MatchResult r says (λ rule. ⊥)
+
+-- ---- worked fields
+
+-- what a browser sends besides
+abbrev pub browser_fields : List Field
+browser_fields =
+    (codes "user-agent", codes "Mozilla/5.0 (X11; Linux x86_64)")
+    ∷ (codes "accept", codes "*/*")
+    ∷ (codes "x-empty", [])
+    ∷ (codes "cookie", codes "a=b")
+    ∷ (codes "cookie", codes "c=d")
+    ∷ []
+
+-- and in a request for a session
+abbrev pub session_fields : List Field
+session_fields =
+    (codes "sec-webtransport-http3-draft02", codes "1")
+    ∷ (codes "origin", codes "https://localhost")
+    ∷ []

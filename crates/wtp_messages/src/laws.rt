@@ -1,6 +1,6 @@
 //! Laws of the definitions that the contracts cite. Each function does nothing: its contract is the
 //! law.
-ghost use Rattle.std.specs.Prelude.{◌≡◌, ◌⊎◌, ◌<◌, ◌≤◌, ℕ, Bool, true, false, List, [], ◌∷◌, ◌++◌, Some, None, codes};
+ghost use Rattle.std.specs.Prelude.{◌≡◌, ◌⊎◌, ◌<◌, ◌≤◌, ℕ, Bool, true, false, List, [], ◌∷◌, ◌++◌, Option, Some, None, codes};
 ghost use Rattle.std.specs.List.{list_all, list_any};
 ghost use Rattle.std.specs.Str.{str_eq_ignore_ascii_case};
 ghost use Rattle.wtp_qpack.specs.Field.{Field};
@@ -12,9 +12,10 @@ ghost use Rattle.wtp_messages.specs.declared.section.SectionKind.{SectionKind};
 ghost use Rattle.wtp_messages.specs.declared.section.SectionKind.TheVariants as section;
 ghost use Rattle.wtp_messages.specs.Broken.{RefusesLine, IsControl, IsBlank, Has, Lacks, IsConnect, IsHttp, IsForSession, NeedsAuthority, IsRefused, IsWellFormedResponse, IsRefusedResponse};
 ghost use Rattle.wtp_messages.specs.Names.{starts_with, is_pseudo, is_whole_token, has_field};
-ghost use Rattle.wtp_messages.specs.Request.{is_scheme, is_path_byte, IsWellFormed};
+ghost use Rattle.wtp_messages.specs.Request.{is_scheme, IsWellFormed};
 ghost use Rattle.wtp_messages.specs.Authority.{is_authority, IsAuthority};
-ghost use Rattle.wtp_messages.specs.Plain.{is_plain, request_list, session_list, tunnel_list, response_list, IsTarget, IsMethod, Says, ReadsRequest, IsStatus, allows, SaysStatus, ReadsResponse};
+ghost use Rattle.wtp_messages.specs.Plain.{is_in_path, is_plain, request_list, session_list, tunnel_list, response_list, IsTarget, IsMethod, Says, ReadsRequest, IsStatus, IsAnswer, SaysStatus, ReadsResponse, browser_fields, session_fields};
+ghost use Rattle.wtp_messages.specs.Response.{expected};
 ghost use Rattle.wtp_messages.specs.Section.{IsSection};
 
 /// The test of an authority succeeds for the texts that the grammar has, and for no others. `must`: it
@@ -60,10 +61,42 @@ pub fn plain_requests_are_read()
 /// 206 in the answer to a request for a session.
 pub fn plain_responses_are_read()
     ensures response { (kind : Asked) (text : List ℕ) (code : ℕ) (others : List Field)
-        → IsStatus text code → allows kind code ≡ true → list_all is_plain others ≡ true
+        → IsStatus text code → IsAnswer kind code → list_all is_plain others ≡ true
         → ReadsResponse kind (response_list text others) (SaysStatus kind code) }
     ensures trailers { (others : List Field) → list_all is_plain others ≡ true
         → IsSection section.Trailers others }
+{}
+
+/// Some messages as browsers and servers send them, which are of these forms.
+pub fn worked_messages_are_read()
+    ensures request { ReadsRequest false
+        (request_list (codes "GET") (codes "localhost:4433") (codes "/a?b=%20") browser_fields)
+        (Says (codes "GET") (Some (codes "https")) (codes "localhost:4433") (Some (codes "/a?b=%20")) None) }
+    ensures session { ReadsRequest true
+        (session_list (codes "[::1]:4433") (codes "/chat") session_fields)
+        (Says (codes "CONNECT") (Some (codes "https")) (codes "[::1]:4433") (Some (codes "/chat")) (Some (codes "webtransport"))) }
+    ensures tunnel { ReadsRequest false (tunnel_list (codes "example.com:443") browser_fields)
+        (Says (codes "CONNECT") None (codes "example.com:443") None None) }
+    ensures response { ReadsResponse asked.Other (response_list (codes "200") browser_fields)
+        (SaysStatus asked.Other 200) }
+{}
+
+/// How much content a response has: any that comes after a 2xx status to a CONNECT request, none of a
+/// response to HEAD, an interim one, or one with status 204 or 304, and else what was announced.
+pub fn responses_have_their_content()
+    ensures tunnel { (code : ℕ) (announced : Option ℕ) → 200 ≤ code → code < 300
+        → expected asked.Connect code announced ≡ None }
+    ensures session { (code : ℕ) (announced : Option ℕ) → 200 ≤ code → code < 300
+        → expected asked.Session code announced ≡ None }
+    ensures head { (code : ℕ) (announced : Option ℕ)
+        → expected asked.Head code announced ≡ Some 0 }
+    ensures interim { (kind : Asked) (code : ℕ) (announced : Option ℕ) → code < 200
+        → expected kind code announced ≡ Some 0 }
+    ensures no_content { (announced : Option ℕ) → expected asked.Other 204 announced ≡ Some 0 }
+    ensures not_modified { (kind : Asked) (announced : Option ℕ)
+        → expected kind 304 announced ≡ Some 0 }
+    ensures announced { (code : ℕ) (announced : Option ℕ) → 200 ≤ code → (code ≡ 204 → ⊥)
+        → (code ≡ 304 → ⊥) → expected asked.Other code announced ≡ announced }
 {}
 
 /// A section with one of these lines is malformed, whatever is beside it, and whatever its value is.
@@ -146,7 +179,7 @@ pub fn broken_requests_are_refused()
         → Has (codes ":path") value fields → starts_with 47 value ≡ false
         → (value ≡ codes "*" → ⊥) → IsRefused fields }
     ensures path_byte { (fields : List Field) (value : List ℕ) → IsHttp fields
-        → Has (codes ":path") value fields → list_all is_path_byte value ≡ false
+        → Has (codes ":path") value fields → list_all is_in_path value ≡ false
         → (value ≡ codes "*" → ⊥) → IsRefused fields }
     ensures asterisk { (fields : List Field) → IsHttp fields
         → Has (codes ":path") (codes "*") fields
