@@ -23,7 +23,7 @@ use Rattle.wtp_messages.specs.Response.{status_of, status_in, is_status, is_succ
 use Rattle.wtp_messages.specs.Broken.{RefusesLine, IsControl, IsBlank, Has, Lacks, IsConnect, IsHttp, IsForSession, NeedsAuthority, IsRefused, IsWellFormedResponse, IsRefusedResponse}
 use Rattle.wtp_messages.proofs.AuthorityLemmas.{authority_found}
 use Rattle.wtp_messages.proofs.NameLemmas.{found_name}
-use Rattle.wtp_messages.proofs.PlainLemmas.{no_value}
+use Rattle.wtp_messages.proofs.FieldLemmas.{no_value}
 use Rattle.wtp_messages.proofs.RequestLemmas.{by_head}
 use Rattle.wtp_messages.proofs.ResponseLemmas.{by_status}
 

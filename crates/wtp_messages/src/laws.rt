@@ -14,7 +14,7 @@ ghost use Rattle.wtp_messages.specs.Broken.{RefusesLine, IsControl, IsBlank, Has
 ghost use Rattle.wtp_messages.specs.Names.{starts_with, is_pseudo, is_whole_token, has_field};
 ghost use Rattle.wtp_messages.specs.Request.{is_scheme, IsWellFormed};
 ghost use Rattle.wtp_messages.specs.Authority.{is_authority, IsAuthority};
-ghost use Rattle.wtp_messages.specs.Plain.{is_in_path, is_plain, request_list, session_list, tunnel_list, response_list, IsTarget, IsMethod, Says, ReadsRequest, IsStatus, IsAnswer, SaysStatus, ReadsResponse, browser_fields, session_fields};
+ghost use Rattle.wtp_messages.specs.Plain.{is_in_path, is_plain, request_list, session_list, tunnel_list, response_list, IsNumber, IsTarget, IsMethod, Says, ReadsRequest, IsStatus, IsAnswer, SaysStatus, ReadsResponse, browser_fields, session_fields};
 ghost use Rattle.wtp_messages.specs.Response.{expected};
 ghost use Rattle.wtp_messages.specs.Section.{IsSection};
 
@@ -40,29 +40,43 @@ pub fn authorities_are_those_of_the_grammar()
 {}
 
 /// Requests of plain fields are read, whatever their values are, and say exactly these: `https` requests
-/// of any method, requests for a session where extended CONNECT is allowed, and CONNECT requests for a
-/// tunnel.
+/// of any method, also with a `content-length`; requests for a session where extended CONNECT is
+/// allowed; and CONNECT requests for a tunnel.
 pub fn plain_requests_are_read()
     ensures request { (extended : Bool) (method authority path : List ℕ) (others : List Field)
-        → IsMethod method → IsTarget authority path others
+        → IsMethod method → IsTarget authority path → list_all is_plain others ≡ true
         → ReadsRequest extended (request_list method authority path others)
-        (Says method (Some (codes "https")) authority (Some path) None) }
+        (Says method (Some (codes "https")) authority (Some path) None None) }
+    ensures with_length { (extended : Bool) (method authority path digits : List ℕ) (n : ℕ)
+        (before after : List Field)
+        → IsMethod method → IsTarget authority path → IsNumber digits n
+        → list_all is_plain before ≡ true → list_all is_plain after ≡ true
+        → ReadsRequest extended
+        (request_list method authority path (before ++ (codes "content-length", digits) ∷ after))
+        (Says method (Some (codes "https")) authority (Some path) None (Some n)) }
     ensures session { (authority path : List ℕ) (others : List Field)
-        → IsTarget authority path others
+        → IsTarget authority path → list_all is_plain others ≡ true
         → ReadsRequest true (session_list authority path others)
-        (Says (codes "CONNECT") (Some (codes "https")) authority (Some path) (Some (codes "webtransport"))) }
+        (Says (codes "CONNECT") (Some (codes "https")) authority (Some path) (Some (codes "webtransport")) None) }
     ensures tunnel { (extended : Bool) (authority : List ℕ) (others : List Field)
         → IsAuthority true authority → list_all is_plain others ≡ true
         → ReadsRequest extended (tunnel_list authority others)
-        (Says (codes "CONNECT") None authority None None) }
+        (Says (codes "CONNECT") None authority None None None) }
 {}
 
 /// Responses and trailers of plain fields are read: any status from 100 on but 101, and but 204, 205 and
-/// 206 in the answer to a request for a session.
+/// 206 in the answer to a request for a session; other answers also with a `content-length`.
 pub fn plain_responses_are_read()
     ensures response { (kind : Asked) (text : List ℕ) (code : ℕ) (others : List Field)
         → IsStatus text code → IsAnswer kind code → list_all is_plain others ≡ true
-        → ReadsResponse kind (response_list text others) (SaysStatus kind code) }
+        → ReadsResponse kind (response_list text others) (SaysStatus kind code None) }
+    ensures with_length { (kind : Asked) (text digits : List ℕ) (code n : ℕ)
+        (before after : List Field) → (kind ≡ asked.Session → ⊥)
+        → IsStatus text code → IsNumber digits n
+        → list_all is_plain before ≡ true → list_all is_plain after ≡ true
+        → ReadsResponse kind
+        (response_list text (before ++ (codes "content-length", digits) ∷ after))
+        (SaysStatus kind code (Some n)) }
     ensures trailers { (others : List Field) → list_all is_plain others ≡ true
         → IsSection section.Trailers others }
 {}
@@ -71,14 +85,14 @@ pub fn plain_responses_are_read()
 pub fn worked_messages_are_read()
     ensures request { ReadsRequest false
         (request_list (codes "GET") (codes "localhost:4433") (codes "/a?b=%20") browser_fields)
-        (Says (codes "GET") (Some (codes "https")) (codes "localhost:4433") (Some (codes "/a?b=%20")) None) }
+        (Says (codes "GET") (Some (codes "https")) (codes "localhost:4433") (Some (codes "/a?b=%20")) None None) }
     ensures session { ReadsRequest true
         (session_list (codes "[::1]:4433") (codes "/chat") session_fields)
-        (Says (codes "CONNECT") (Some (codes "https")) (codes "[::1]:4433") (Some (codes "/chat")) (Some (codes "webtransport"))) }
+        (Says (codes "CONNECT") (Some (codes "https")) (codes "[::1]:4433") (Some (codes "/chat")) (Some (codes "webtransport")) None) }
     ensures tunnel { ReadsRequest false (tunnel_list (codes "example.com:443") browser_fields)
-        (Says (codes "CONNECT") None (codes "example.com:443") None None) }
+        (Says (codes "CONNECT") None (codes "example.com:443") None None None) }
     ensures response { ReadsResponse asked.Other (response_list (codes "200") browser_fields)
-        (SaysStatus asked.Other 200) }
+        (SaysStatus asked.Other 200 None) }
 {}
 
 /// How much content a response has: any that comes after a 2xx status to a CONNECT request, none of a
