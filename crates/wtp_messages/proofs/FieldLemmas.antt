@@ -17,6 +17,7 @@ use Rattle.wtp_messages.specs.Names.{starts_with, is_some_text, is_pseudo, is_fi
 use Rattle.wtp_messages.specs.Length.{before_first, parts_of, without_start, without_end, is_digit, number_of, lengths_in, lengths_of, all_agree, first_length, content_length}
 use Rattle.wtp_messages.specs.Section.{connection_names, is_connection_field, pseudo_names, are_pseudo_first, is_repeated, announces, line_breaks, IsSection}
 use Rattle.wtp_messages.specs.Request.{is_path_byte}
+use Rattle.wtp_messages.specs.Broken.{is_solid}
 use Rattle.wtp_messages.specs.Plain.{own_names, is_free, is_plain, IsNumber}
 use Rattle.wtp_messages.proofs.AuthorityLemmas.{other, mark_passes, is_visible, alphanumeric_visible, digits_visible}
 use Rattle.wtp_messages.proofs.LineLemmas.{whole_by_rows, no_rule}
@@ -181,23 +182,31 @@ trailers_hold fields h =
 
 -- ---- lengths
 
-pub digits_alone : (digits : List ℕ) → list_all is_digit digits ≡ true → parts_of digits ≡ digits ∷ []
-digits_alone [] h = refl
-digits_alone (digit ∷ digits) h =
-    rw (other is_digit 44 digit refl (and_parts _ _ h).0) (ap (before_first digit) (digits_alone digits (and_parts _ _ h).1))
+pub digit_solid : (b : ℕ) → is_digit b ≡ true → is_solid b ≡ true
+digit_solid b h = and_from _ _ (and_from _ _ (ap not (other is_digit 44 b refl h)) (ap not (other is_digit 32 b refl h))) (ap not (other is_digit 9 b refl h))
 
-pub digit_not_blank : (digit : ℕ) → is_digit digit ≡ true → is_blank digit ≡ false
-digit_not_blank digit h = or_from _ _ (other is_digit 32 digit refl h) (other is_digit 9 digit refl h)
+pub one_part : (text : List ℕ) → list_all is_solid text ≡ true → parts_of text ≡ text ∷ []
+one_part [] h = refl
+one_part (b ∷ text) h =
+    rw (other is_solid 44 b refl (and_parts _ _ h).0) (ap (before_first b) (one_part text (and_parts _ _ h).1))
 
-pub start_kept : (digits : List ℕ) → list_all is_digit digits ≡ true → without_start digits ≡ digits
+solid_not_blank : (b : ℕ) → is_solid b ≡ true → is_blank b ≡ false
+solid_not_blank b h = or_from _ _ (other is_solid 32 b refl h) (other is_solid 9 b refl h)
+
+start_kept : (text : List ℕ) → list_all is_solid text ≡ true → without_start text ≡ text
 start_kept [] h = refl
-start_kept (digit ∷ digits) h = ap (λ (b : Bool). if b then without_start digits else digit ∷ digits) (digit_not_blank digit (and_parts _ _ h).0)
+start_kept (b ∷ text) h = ap (λ (c : Bool). if c then without_start text else b ∷ text) (solid_not_blank b (and_parts _ _ h).0)
 
-pub end_kept : (digits : List ℕ) → list_all is_digit digits ≡ true → without_end digits ≡ digits
+end_kept : (text : List ℕ) → list_all is_solid text ≡ true → without_end text ≡ text
 end_kept [] h = refl
-end_kept (digit ∷ digits) h =
-    ap (λ (b : Bool). if b && list_all is_blank digits then [] else digit ∷ without_end digits) (digit_not_blank digit (and_parts _ _ h).0)
-    ∙ ap (λ (t : List ℕ). digit ∷ t) (end_kept digits (and_parts _ _ h).1)
+end_kept (b ∷ text) h =
+    ap (λ (c : Bool). if c && list_all is_blank text then [] else b ∷ without_end text) (solid_not_blank b (and_parts _ _ h).0)
+    ∙ ap (λ (t : List ℕ). b ∷ t) (end_kept text (and_parts _ _ h).1)
+
+pub length_alone : (text : List ℕ) → list_all is_solid text ≡ true → lengths_in text ≡ number_of text ∷ []
+length_alone text h =
+    ap (map (λ part. number_of (without_end (without_start part)))) (one_part text h)
+    ∙ ap (λ (o : Option ℕ). o ∷ []) (ap (λ (t : List ℕ). number_of (without_end t)) (start_kept text h) ∙ ap number_of (end_kept text h))
 
 pub number_by : (some digits small : Bool) (n : ℕ) → some ≡ true → digits ≡ true → small ≡ true → (if some && digits && small then Some n else None) ≡ Some n
 number_by some digits small n a b c = rw (a, b, c) refl
@@ -209,8 +218,7 @@ number_found digits n h =
 
 pub one_length : (digits : List ℕ) (n : ℕ) → IsNumber digits n → lengths_in digits ≡ Some n ∷ []
 one_length digits n h =
-    ap (map (λ part. number_of (without_end (without_start part)))) (digits_alone digits h.digits)
-    ∙ ap (λ (o : Option ℕ). o ∷ []) (ap (λ (t : List ℕ). number_of (without_end t)) (start_kept digits h.digits) ∙ ap number_of (end_kept digits h.digits) ∙ number_found digits n h)
+    length_alone digits (all_pass is_digit is_solid digit_solid digits h.digits) ∙ ap (λ (o : Option ℕ). o ∷ []) (number_found digits n h)
 
 pub values_at : (name : List ℕ) (before : List Field) (x : Field) (after : List Field) → has_field name before ≡ false → bytes_eq x.0 name ≡ true → has_field name after ≡ false → values_of name (before ++ x ∷ after) ≡ x.1 ∷ []
 values_at name [] x after b e a =

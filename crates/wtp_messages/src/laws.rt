@@ -10,7 +10,7 @@ ghost use Rattle.wtp_messages.specs.declared.response.Asked.{Asked};
 ghost use Rattle.wtp_messages.specs.declared.response.Asked.TheVariants as asked;
 ghost use Rattle.wtp_messages.specs.declared.section.SectionKind.{SectionKind};
 ghost use Rattle.wtp_messages.specs.declared.section.SectionKind.TheVariants as section;
-ghost use Rattle.wtp_messages.specs.Broken.{RefusesLine, IsControl, IsBlank, Has, Lacks, IsConnect, IsHttp, IsForSession, NeedsAuthority, IsRefused, IsWellFormedResponse, IsRefusedResponse};
+ghost use Rattle.wtp_messages.specs.Broken.{RefusesLine, IsControl, IsBlank, is_solid, IsNoNumber, Has, Lacks, IsConnect, IsHttp, IsForSession, NeedsAuthority, IsRefused, IsWellFormedResponse, IsRefusedResponse};
 ghost use Rattle.wtp_messages.specs.Names.{starts_with, is_pseudo, is_whole_token, has_field};
 ghost use Rattle.wtp_messages.specs.Request.{is_scheme, IsWellFormed};
 ghost use Rattle.wtp_messages.specs.Authority.{is_authority, IsAuthority};
@@ -152,8 +152,9 @@ pub fn broken_lines_are_refused()
         → RefusesLine section.Trailers name value }
 {}
 
-/// So is a section with a pseudo-header field after a regular field, or with two of one name. The rules
-/// of sections are those of requests and of responses.
+/// So is a section with a pseudo-header field after a regular field, or with two of one name, and one
+/// that may announce a length, but has a `content-length` that is no number, or two that differ. The
+/// rules of sections are those of requests and of responses.
 pub fn broken_sections_are_refused()
     ensures late { (kind : SectionKind) (before between after : List Field) (field pseudo : Field)
         → is_pseudo field ≡ false → is_pseudo pseudo ≡ true
@@ -161,6 +162,14 @@ pub fn broken_sections_are_refused()
     ensures repeated { (kind : SectionKind) (name : List ℕ) (before between after : List Field)
         (v w : List ℕ) → starts_with 58 name ≡ true
         → IsSection kind (before ++ (name, v) ∷ (between ++ (name, w) ∷ after)) → ⊥ }
+    ensures no_length { (kind : SectionKind) (value : List ℕ) → (kind ≡ section.Tunnel → ⊥)
+        → (kind ≡ section.Trailers → ⊥) → list_all is_solid value ≡ true → IsNoNumber value
+        → RefusesLine kind (codes "content-length") value }
+    ensures two_lengths { (kind : SectionKind) (v w : List ℕ) (n m : ℕ)
+        (before between after : List Field) → (kind ≡ section.Tunnel → ⊥)
+        → (kind ≡ section.Trailers → ⊥) → IsNumber v n → IsNumber w m → (n ≡ m → ⊥)
+        → IsSection kind (before ++ (codes "content-length", v)
+        ∷ (between ++ (codes "content-length", w) ∷ after)) → ⊥ }
     ensures request_section { (extended : Bool) (fields : List Field)
         → IsWellFormed extended fields → IsSection section.Request fields }
     ensures response_section { (kind : Asked) (fields : List Field)
