@@ -8,7 +8,7 @@ import re
 
 TOKEN = re.compile(rb"[!#$%&'*+.^_`|~0-9A-Za-z-]+")
 SCHEME = re.compile(rb"[A-Za-z][A-Za-z0-9+.-]*")
-# A host and maybe a port (RFC 3986, sections 3.2.2 and 3.2.3); of an IP literal no more than its bytes.
+# A host and maybe a port (RFC 3986, sections 3.2.2 and 3.2.3); of an IP literal only its bytes.
 AUTHORITY = re.compile(
     rb"(?:\[(?:[0-9A-Fa-f:.]+|[vV][\w.~!$&'()*+,;=:-]*)\]"
     rb"|(?:%[0-9A-Fa-f]{2}|[\w.~!$&'()*+,;=-])+)(?::(?P<port>[0-9]*))?",

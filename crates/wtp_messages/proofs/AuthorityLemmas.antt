@@ -1,5 +1,5 @@
 -- Authorities of the grammar pass the test, and texts that pass it are of the grammar.
-use Rattle.std.proofs.Common.{◌≡◌, ◌==◌, ℕ, zero, suc, ◌≤◌, nat_lt, Bool, true, false, not, ◌&&◌, ◌||◌, List, [], ◌∷◌, ◌++◌, length, Option, Some, None, refl, sym, ap, subst, ◌∙◌, arith, eqb-true, lt-ltb, ltb-true, ne_eqb, codes}
+use Rattle.std.proofs.Common.{◌≡◌, ◌==◌, ℕ, zero, suc, ◌≤◌, ◌<◌, nat_lt, Bool, true, false, not, ◌&&◌, ◌||◌, List, [], ◌∷◌, ◌++◌, length, Option, Some, None, refl, sym, ap, subst, ◌∙◌, arith, eqb-true, lt-ltb, ltb-true, ne_eqb, codes}
 use Rattle.std.proofs.lemmas.Bool.{and_from, and_parts, or_from, or_cases, or_left, or_right, false≢true}
 use Rattle.std.specs.List.{list_all, list_any}
 use mathlib.Core.Logic.{⊎_elim}
@@ -31,8 +31,8 @@ is_visible b = nat_lt 32 b && not (b == 127)
 
 between : (low high b : ℕ) → 32 ≤ low → high ≤ 127 → (nat_lt low b && nat_lt b high) ≡ true → is_visible b ≡ true
 between low high b l h e =
-    let above = ltb-true low b (and_parts _ _ e).0 in
-    let below = ltb-true b high (and_parts _ _ e).1 in
+    let above : low < b = ltb-true low b (and_parts (nat_lt low b) (nat_lt b high) e).0 in
+    let below : b < high = ltb-true b high (and_parts (nat_lt low b) (nat_lt b high) e).1 in
     and_from _ _ (lt-ltb 32 b (omega (arith, above, l))) (ap not (ne_eqb b 127 (omega (arith, below, h))))
 
 pub alphanumeric_visible : (b : ℕ) → is_alphanumeric b ≡ true → is_visible b ≡ true
@@ -46,7 +46,7 @@ plain_visible b h = ⊎_elim (alphanumeric_visible b) (mark_passes is_visible (c
 
 within : (low high more b : ℕ) → high ≤ more → (nat_lt low b && nat_lt b high) ≡ true → (nat_lt low b && nat_lt b more) ≡ true
 within low high more b h e =
-    let below = ltb-true b high (and_parts _ _ e).1 in
+    let below : b < high = ltb-true b high (and_parts (nat_lt low b) (nat_lt b high) e).1 in
     and_from _ _ (and_parts _ _ e).0 (lt-ltb b more (omega (arith, below, h)))
 
 hex_plain : (b : ℕ) → is_hex b ≡ true → is_plain_byte b ≡ true

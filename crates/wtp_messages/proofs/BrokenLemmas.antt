@@ -23,7 +23,7 @@ use Rattle.wtp_messages.specs.Response.{status_of, status_in, is_status, is_succ
 use Rattle.wtp_messages.specs.Broken.{RefusesLine, IsControl, IsBlank, Has, Lacks, IsConnect, IsHttp, IsForSession, NeedsAuthority, IsRefused, IsWellFormedResponse, IsRefusedResponse}
 use Rattle.wtp_messages.proofs.AuthorityLemmas.{authority_found}
 use Rattle.wtp_messages.proofs.NameLemmas.{found_name}
-use Rattle.wtp_messages.proofs.PlainLemmas.{no_value}
+use Rattle.wtp_messages.proofs.FieldLemmas.{no_value}
 use Rattle.wtp_messages.proofs.RequestLemmas.{by_head}
 use Rattle.wtp_messages.proofs.ResponseLemmas.{by_status}
 
@@ -36,7 +36,7 @@ any_at : {X : Type 0} (test : X → Bool) (before : List X) (x : X) (after : Lis
 any_at test [] x after h = or_left (test x) _ h
 any_at test (y ∷ before) x after h = or_right (test y) _ (any_at test before x after h)
 
-all_at : {X : Type 0} (test : X → Bool) (before : List X) (x : X) (after : List X) → test x ≡ false → list_all test (before ++ x ∷ after) ≡ false
+pub all_at : {X : Type 0} (test : X → Bool) (before : List X) (x : X) (after : List X) → test x ≡ false → list_all test (before ++ x ∷ after) ≡ false
 all_at test [] x after h = and_left (test x) _ h
 all_at test (y ∷ before) x after h = and_right (test y) _ (all_at test before x after h)
 
@@ -50,7 +50,7 @@ refuses : (kind : SectionKind) (rule : Malformed) (name value : List ℕ) → li
 refuses kind rule name value h before after is =
     both _ (any_at (line_breaks kind rule) before (name, value) after h) (or_parts _ _ (unfolded kind (before ++ (name, value) ∷ after) rule is)).0
 
-refuses_whole : (kind : SectionKind) (fields : List Field) (rule : Malformed) → whole_breaks kind fields rule ≡ true → IsSection kind fields → ⊥
+pub refuses_whole : (kind : SectionKind) (fields : List Field) (rule : Malformed) → whole_breaks kind fields rule ≡ true → IsSection kind fields → ⊥
 refuses_whole kind fields rule h is = both _ h (or_parts _ _ (unfolded kind fields rule is)).1
 
 bad_name : (kind : SectionKind) (name value : List ℕ) → starts_with 58 name ≡ false → is_field_name name ≡ false → RefusesLine kind name value

@@ -1,5 +1,7 @@
 pub mod AuthorityLemmas
 pub mod BrokenLemmas
+pub mod CountLemmas
+pub mod FieldLemmas
 pub mod LengthLemmas
 pub mod LineLemmas
 pub mod NameLemmas

@@ -1,10 +1,14 @@
 -- The words in which laws say that a message is malformed (RFC 9114, sections 4.1.2 to 4.4).
 use Rattle.std.specs.Prelude.{◌≡◌, ◌⊎◌, ℕ, ◌<◌, Bool, false, List, ◌∷◌, ◌++◌, Some, codes}
+use Rattle.std.specs.Prelude.{◌==◌, ◌≤◌, ◌^◌, not, ◌&&◌}
+use Rattle.std.specs.List.{list_all}
+use Rattle.std.specs.Str.Parse.{digits_value}
+use Rattle.wtp_messages.specs.Length.{is_digit}
 use Rattle.wtp_qpack.specs.Field.{Field, field_value}
 use Rattle.wtp_messages.specs.declared.malformed.Malformed.{Malformed}
 use Rattle.wtp_messages.specs.declared.response.Asked.{Asked}
 use Rattle.wtp_messages.specs.declared.section.SectionKind.{SectionKind}
-use Rattle.wtp_messages.specs.Names.{has_field}
+use Rattle.wtp_messages.specs.Names.{is_some_text, has_field}
 use Rattle.wtp_messages.specs.Request.{IsWellFormed}
 use Rattle.wtp_messages.specs.Response.{response_breaks}
 use Rattle.wtp_messages.specs.Section.{IsSection}
@@ -23,6 +27,16 @@ IsControl byte = ((byte < 32) × (byte ≡ 9 → ⊥)) ⊎ (byte ≡ 127)
 -- a space or a tab
 abbrev pub IsBlank : ℕ → Type 0
 IsBlank byte = (byte ≡ 32) ⊎ (byte ≡ 9)
+
+-- no comma, space or tab
+abbrev pub is_solid : ℕ → Bool
+is_solid b = not (b == 44) && not (b == 32) && not (b == 9)
+
+-- The text is no decimal number below 2^62.
+abbrev pub IsNoNumber : List ℕ → Type 0
+IsNoNumber text =
+    (is_some_text text ≡ false)
+    ⊎ ((list_all is_digit text ≡ false) ⊎ (2 ^ 62 ≤ digits_value 10 text))
 
 -- ---- requests
 

@@ -1,6 +1,6 @@
 //! Laws of the definitions that the contracts cite. Each function does nothing: its contract is the
 //! law.
-ghost use Rattle.std.specs.Prelude.{◌≡◌, ◌⊎◌, ◌<◌, ◌≤◌, ℕ, Bool, true, false, List, [], ◌∷◌, ◌++◌, Some, None, codes};
+ghost use Rattle.std.specs.Prelude.{◌≡◌, ◌⊎◌, ◌<◌, ◌≤◌, ℕ, Bool, true, false, List, [], ◌∷◌, ◌++◌, Option, Some, None, codes};
 ghost use Rattle.std.specs.List.{list_all, list_any};
 ghost use Rattle.std.specs.Str.{str_eq_ignore_ascii_case};
 ghost use Rattle.wtp_qpack.specs.Field.{Field};
@@ -10,11 +10,12 @@ ghost use Rattle.wtp_messages.specs.declared.response.Asked.{Asked};
 ghost use Rattle.wtp_messages.specs.declared.response.Asked.TheVariants as asked;
 ghost use Rattle.wtp_messages.specs.declared.section.SectionKind.{SectionKind};
 ghost use Rattle.wtp_messages.specs.declared.section.SectionKind.TheVariants as section;
-ghost use Rattle.wtp_messages.specs.Broken.{RefusesLine, IsControl, IsBlank, Has, Lacks, IsConnect, IsHttp, IsForSession, NeedsAuthority, IsRefused, IsWellFormedResponse, IsRefusedResponse};
+ghost use Rattle.wtp_messages.specs.Broken.{RefusesLine, IsControl, IsBlank, is_solid, IsNoNumber, Has, Lacks, IsConnect, IsHttp, IsForSession, NeedsAuthority, IsRefused, IsWellFormedResponse, IsRefusedResponse};
 ghost use Rattle.wtp_messages.specs.Names.{starts_with, is_pseudo, is_whole_token, has_field};
-ghost use Rattle.wtp_messages.specs.Request.{is_scheme, is_path_byte, IsWellFormed};
+ghost use Rattle.wtp_messages.specs.Request.{is_scheme, IsWellFormed};
 ghost use Rattle.wtp_messages.specs.Authority.{is_authority, IsAuthority};
-ghost use Rattle.wtp_messages.specs.Plain.{is_plain, request_list, session_list, tunnel_list, response_list, IsTarget, IsMethod, Says, ReadsRequest, IsStatus, allows, SaysStatus, ReadsResponse};
+ghost use Rattle.wtp_messages.specs.Plain.{is_in_path, is_plain, request_list, session_list, tunnel_list, response_list, IsNumber, IsTarget, IsMethod, Says, ReadsRequest, IsStatus, IsAnswer, SaysStatus, ReadsResponse, browser_fields, session_fields};
+ghost use Rattle.wtp_messages.specs.Response.{expected};
 ghost use Rattle.wtp_messages.specs.Section.{IsSection};
 
 /// The test of an authority succeeds for the texts that the grammar has, and for no others. `must`: it
@@ -39,31 +40,77 @@ pub fn authorities_are_those_of_the_grammar()
 {}
 
 /// Requests of plain fields are read, whatever their values are, and say exactly these: `https` requests
-/// of any method, requests for a session where extended CONNECT is allowed, and CONNECT requests for a
-/// tunnel.
+/// of any method, also with a `content-length`; requests for a session where extended CONNECT is
+/// allowed; and CONNECT requests for a tunnel.
 pub fn plain_requests_are_read()
     ensures request { (extended : Bool) (method authority path : List ℕ) (others : List Field)
-        → IsMethod method → IsTarget authority path others
+        → IsMethod method → IsTarget authority path → list_all is_plain others ≡ true
         → ReadsRequest extended (request_list method authority path others)
-        (Says method (Some (codes "https")) authority (Some path) None) }
+        (Says method (Some (codes "https")) authority (Some path) None None) }
+    ensures with_length { (extended : Bool) (method authority path digits : List ℕ) (n : ℕ)
+        (before after : List Field)
+        → IsMethod method → IsTarget authority path → IsNumber digits n
+        → list_all is_plain before ≡ true → list_all is_plain after ≡ true
+        → ReadsRequest extended
+        (request_list method authority path (before ++ (codes "content-length", digits) ∷ after))
+        (Says method (Some (codes "https")) authority (Some path) None (Some n)) }
     ensures session { (authority path : List ℕ) (others : List Field)
-        → IsTarget authority path others
+        → IsTarget authority path → list_all is_plain others ≡ true
         → ReadsRequest true (session_list authority path others)
-        (Says (codes "CONNECT") (Some (codes "https")) authority (Some path) (Some (codes "webtransport"))) }
+        (Says (codes "CONNECT") (Some (codes "https")) authority (Some path) (Some (codes "webtransport")) None) }
     ensures tunnel { (extended : Bool) (authority : List ℕ) (others : List Field)
         → IsAuthority true authority → list_all is_plain others ≡ true
         → ReadsRequest extended (tunnel_list authority others)
-        (Says (codes "CONNECT") None authority None None) }
+        (Says (codes "CONNECT") None authority None None None) }
 {}
 
 /// Responses and trailers of plain fields are read: any status from 100 on but 101, and but 204, 205 and
-/// 206 in the answer to a request for a session.
+/// 206 in the answer to a request for a session; other answers also with a `content-length`.
 pub fn plain_responses_are_read()
     ensures response { (kind : Asked) (text : List ℕ) (code : ℕ) (others : List Field)
-        → IsStatus text code → allows kind code ≡ true → list_all is_plain others ≡ true
-        → ReadsResponse kind (response_list text others) (SaysStatus kind code) }
+        → IsStatus text code → IsAnswer kind code → list_all is_plain others ≡ true
+        → ReadsResponse kind (response_list text others) (SaysStatus kind code None) }
+    ensures with_length { (kind : Asked) (text digits : List ℕ) (code n : ℕ)
+        (before after : List Field) → (kind ≡ asked.Session → ⊥)
+        → IsStatus text code → IsNumber digits n
+        → list_all is_plain before ≡ true → list_all is_plain after ≡ true
+        → ReadsResponse kind
+        (response_list text (before ++ (codes "content-length", digits) ∷ after))
+        (SaysStatus kind code (Some n)) }
     ensures trailers { (others : List Field) → list_all is_plain others ≡ true
         → IsSection section.Trailers others }
+{}
+
+/// Some messages as browsers and servers send them, which are of these forms.
+pub fn worked_messages_are_read()
+    ensures request { ReadsRequest false
+        (request_list (codes "GET") (codes "localhost:4433") (codes "/a?b=%20") browser_fields)
+        (Says (codes "GET") (Some (codes "https")) (codes "localhost:4433") (Some (codes "/a?b=%20")) None None) }
+    ensures session { ReadsRequest true
+        (session_list (codes "[::1]:4433") (codes "/chat") session_fields)
+        (Says (codes "CONNECT") (Some (codes "https")) (codes "[::1]:4433") (Some (codes "/chat")) (Some (codes "webtransport")) None) }
+    ensures tunnel { ReadsRequest false (tunnel_list (codes "example.com:443") browser_fields)
+        (Says (codes "CONNECT") None (codes "example.com:443") None None None) }
+    ensures response { ReadsResponse asked.Other (response_list (codes "200") browser_fields)
+        (SaysStatus asked.Other 200 None) }
+{}
+
+/// How much content a response has: any that comes after a 2xx status to a CONNECT request, none of a
+/// response to HEAD, an interim one, or one with status 204 or 304, and else what was announced.
+pub fn responses_have_their_content()
+    ensures tunnel { (code : ℕ) (announced : Option ℕ) → 200 ≤ code → code < 300
+        → expected asked.Connect code announced ≡ None }
+    ensures session { (code : ℕ) (announced : Option ℕ) → 200 ≤ code → code < 300
+        → expected asked.Session code announced ≡ None }
+    ensures head { (code : ℕ) (announced : Option ℕ)
+        → expected asked.Head code announced ≡ Some 0 }
+    ensures interim { (kind : Asked) (code : ℕ) (announced : Option ℕ) → code < 200
+        → expected kind code announced ≡ Some 0 }
+    ensures no_content { (announced : Option ℕ) → expected asked.Other 204 announced ≡ Some 0 }
+    ensures not_modified { (kind : Asked) (announced : Option ℕ)
+        → expected kind 304 announced ≡ Some 0 }
+    ensures announced { (code : ℕ) (announced : Option ℕ) → 200 ≤ code → (code ≡ 204 → ⊥)
+        → (code ≡ 304 → ⊥) → expected asked.Other code announced ≡ announced }
 {}
 
 /// A section with one of these lines is malformed, whatever is beside it, and whatever its value is.
@@ -105,8 +152,9 @@ pub fn broken_lines_are_refused()
         → RefusesLine section.Trailers name value }
 {}
 
-/// So is a section with a pseudo-header field after a regular field, or with two of one name. The rules
-/// of sections are those of requests and of responses.
+/// So is a section with a pseudo-header field after a regular field, or with two of one name, and one
+/// that may announce a length, but has a `content-length` that is no number, or two that differ. The
+/// rules of sections are those of requests and of responses.
 pub fn broken_sections_are_refused()
     ensures late { (kind : SectionKind) (before between after : List Field) (field pseudo : Field)
         → is_pseudo field ≡ false → is_pseudo pseudo ≡ true
@@ -114,6 +162,14 @@ pub fn broken_sections_are_refused()
     ensures repeated { (kind : SectionKind) (name : List ℕ) (before between after : List Field)
         (v w : List ℕ) → starts_with 58 name ≡ true
         → IsSection kind (before ++ (name, v) ∷ (between ++ (name, w) ∷ after)) → ⊥ }
+    ensures no_length { (kind : SectionKind) (value : List ℕ) → (kind ≡ section.Tunnel → ⊥)
+        → (kind ≡ section.Trailers → ⊥) → list_all is_solid value ≡ true → IsNoNumber value
+        → RefusesLine kind (codes "content-length") value }
+    ensures two_lengths { (kind : SectionKind) (v w : List ℕ) (n m : ℕ)
+        (before between after : List Field) → (kind ≡ section.Tunnel → ⊥)
+        → (kind ≡ section.Trailers → ⊥) → IsNumber v n → IsNumber w m → (n ≡ m → ⊥)
+        → IsSection kind (before ++ (codes "content-length", v)
+        ∷ (between ++ (codes "content-length", w) ∷ after)) → ⊥ }
     ensures request_section { (extended : Bool) (fields : List Field)
         → IsWellFormed extended fields → IsSection section.Request fields }
     ensures response_section { (kind : Asked) (fields : List Field)
@@ -146,7 +202,7 @@ pub fn broken_requests_are_refused()
         → Has (codes ":path") value fields → starts_with 47 value ≡ false
         → (value ≡ codes "*" → ⊥) → IsRefused fields }
     ensures path_byte { (fields : List Field) (value : List ℕ) → IsHttp fields
-        → Has (codes ":path") value fields → list_all is_path_byte value ≡ false
+        → Has (codes ":path") value fields → list_all is_in_path value ≡ false
         → (value ≡ codes "*" → ⊥) → IsRefused fields }
     ensures asterisk { (fields : List Field) → IsHttp fields
         → Has (codes ":path") (codes "*") fields

@@ -1,4 +1,4 @@
-use Rattle.wtp_messages.proofs.PlainLemmas.{request_read, session_read, tunnel_read}
+use Rattle.wtp_messages.proofs.PlainLemmas.{request_read, session_read, tunnel_read, request_with_length}
 use Rattle.wtp_messages.proofs.laws.plain_requests_are_read.Goals as goal
 
 pub returns-clause-request : goal.returns-clause-request
@@ -9,3 +9,6 @@ returns-clause-session c = session_read
 
 pub returns-clause-tunnel : goal.returns-clause-tunnel
 returns-clause-tunnel c = tunnel_read
+
+pub returns-clause-with_length : goal.returns-clause-with_length
+returns-clause-with_length c = request_with_length
