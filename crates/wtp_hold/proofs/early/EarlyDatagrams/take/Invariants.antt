@@ -6,4 +6,5 @@ use Rattle.wtp_hold.proofs.early.EarlyDatagrams.take.Given as goal
 abbrev pub invariant-loop-i : goal.invariant-loop-i
 invariant-loop-i l =
     takes l.session l.fn.self
-    ≡ put_before (all_kept (take l.i l.self-inside.datagrams.items)) (takes l.session (all_kept (drop l.i l.self-inside.datagrams.items)))
+    ≡ put_before (all_kept (take l.i l.self-inside.datagrams.items))
+    (takes l.session (all_kept (drop l.i l.self-inside.datagrams.items)))
