@@ -6,3 +6,4 @@ pub mod Response
 pub mod Content
 pub mod Message
 pub mod Words
+pub mod Cookie

@@ -3,6 +3,7 @@
 #![tactic(auto)]
 
 pub mod content;
+pub mod cookie;
 mod length;
 pub mod malformed;
 pub mod message;
