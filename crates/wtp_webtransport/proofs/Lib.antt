@@ -14,4 +14,5 @@ pub mod PieceLemmas
 pub mod RunLemmas
 pub mod SaidLemmas
 pub mod SaidRunLemmas
+pub mod SoundLemmas
 pub mod ProgressLemmas
