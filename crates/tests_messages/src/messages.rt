@@ -6,6 +6,7 @@ use std::process::Abort;
 use wtp_fields::fields::FieldList;
 use wtp_messages::check_trailers;
 use wtp_messages::content::Content;
+use wtp_messages::cookie::cookie;
 use wtp_messages::malformed::Malformed;
 use wtp_messages::message::{Message, Role, Section};
 use wtp_messages::request::Request;
@@ -307,4 +308,31 @@ fn a_request_has_its_content(rt: HostRuntime) {
     );
     assert_same(&rt, message.data(1 << 32), Ok(()), "capsules of any length");
     assert_same(&rt, message.finish(), Ok(()), "the end");
+}
+
+/// A request, and its cookies: the second row is the example of RFC 9113, section 8.2.3.
+static COOKIES: [(&[u8], Option<&[u8]>); 5] = [
+    (b"get", None),
+    (
+        b"get|+cookie=a=b|+cookie=c=d|+cookie=e=f",
+        Some(b"a=b; c=d; e=f"),
+    ),
+    (b"get|+cookie=a=b", Some(b"a=b")),
+    (b"get|+cookie=|+x=y|+cookie=", Some(b"; ")),
+    (b"get|+cookies=a=b|+cookie2=c", None),
+];
+
+#[test]
+fn cookies_are_joined(rt: HostRuntime) {
+    for row in &COOKIES {
+        let (_, list) = list_of(&rt, rt.alloc(), row.0);
+        let Ok(found) = cookie(rt.alloc(), &list) else {
+            continue;
+        };
+        let came = match &found {
+            Some(text) => Some(text.as_slice()),
+            None => None,
+        };
+        assert!(rt; came == row.1, "the cookies of {:?}", row.0);
+    }
 }

@@ -4,3 +4,4 @@ pub mod FirstLemmas
 pub mod HoldLemmas
 pub mod PieceLemmas
 pub mod RunLemmas
+pub mod EarlyLemmas

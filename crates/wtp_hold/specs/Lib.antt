@@ -1,3 +1,4 @@
 pub mod Holding
 pub mod Holdings
 pub mod Pieces
+pub mod Early

@@ -9,3 +9,4 @@ pub mod Broken
 pub mod Content
 pub mod Message
 pub mod Words
+pub mod Cookie

@@ -4,6 +4,7 @@
 
 mod authority;
 pub mod content;
+pub mod cookie;
 pub mod laws;
 mod length;
 pub mod malformed;

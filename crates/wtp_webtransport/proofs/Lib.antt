@@ -14,6 +14,7 @@ pub mod PieceLemmas
 pub mod RunLemmas
 pub mod SaidLemmas
 pub mod SaidRunLemmas
+pub mod SoundLemmas
 pub mod ProgressLemmas
 pub mod ErrorLemmas
 pub mod LossLemmas

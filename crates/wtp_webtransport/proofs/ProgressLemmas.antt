@@ -68,6 +68,7 @@ use Rattle.wtp_webtransport.specs.Calls.{Continues, course_of}
 use Rattle.wtp_webtransport.specs.Progress.{unread_calls, calls_left, IsSound, GoOn}
 use Rattle.wtp_webtransport.proofs.CallLemmas.{fails_ends}
 use Rattle.wtp_webtransport.proofs.CutLemmas.{longer}
+use Rattle.wtp_webtransport.proofs.SoundLemmas.{call_sound}
 
 -- ---- calls that take no bytes of the frames
 
@@ -489,10 +490,11 @@ unread_one : (x : Unread) → unread_calls x ≤ 1
 unread_one unread.Nothing = omega arith
 unread_one other = omega arith
 
-calls_fewer : (limit : ℕ) (os : List Outcome) (c : Connection) (s : Stream) (bytes : List ℕ) (fin : Bool) → GoOn limit os c s bytes fin → length os ≤ calls_left s bytes
-calls_fewer limit [] c s bytes fin h = omega arith
-calls_fewer limit (o ∷ os) c s bytes fin h =
-    omega (arith, call_nears limit c s bytes fin o h.0 h.1 h.2, calls_fewer limit os o.2 o.3 (drop o.0 bytes) fin h.3)
+calls_fewer : (limit : ℕ) (os : List Outcome) (c : Connection) (s : Stream) (bytes : List ℕ) (fin : Bool) → IsSound s → GoOn limit os c s bytes fin → length os ≤ calls_left s bytes
+calls_fewer limit [] c s bytes fin sound h = omega arith
+calls_fewer limit (o ∷ os) c s bytes fin sound h =
+    let later : IsSound o.3 = call_sound limit c s bytes fin o sound h.0 in
+    omega (arith, call_nears limit c s bytes fin o sound h.0 h.1, calls_fewer limit os o.2 o.3 (drop o.0 bytes) fin later h.2)
 
-pub calls_few : (limit : ℕ) (os : List Outcome) (c : Connection) (s : Stream) (bytes : List ℕ) (fin : Bool) → GoOn limit os c s bytes fin → length os ≤ length bytes + 3
-calls_few limit os c s bytes fin h = omega (arith, calls_fewer limit os c s bytes fin h, unread_one s.unread, free_two s.frames)
+pub calls_few : (limit : ℕ) (os : List Outcome) (c : Connection) (s : Stream) (bytes : List ℕ) (fin : Bool) → IsSound s → GoOn limit os c s bytes fin → length os ≤ length bytes + 3
+calls_few limit os c s bytes fin sound h = omega (arith, calls_fewer limit os c s bytes fin sound h, unread_one s.unread, free_two s.frames)

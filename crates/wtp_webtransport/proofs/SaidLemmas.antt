@@ -57,7 +57,7 @@ head_within : (o : Option ((ℕ × ℕ) × List ℕ)) (g : List ℕ) → pair_at
 head_within None g e = e
 head_within (Some p) g e = starts_within (sort_of p.0.0 p.0.1) p.0.1 p.1
 
-taken_within : (p : Place) (a : List ℕ) → IsWithin (taken_of p a).1
+pub taken_within : (p : Place) (a : List ℕ) → IsWithin (taken_of p a).1
 taken_within (Head h) a = head_within (pair_at (h ++ a)) (h ++ a) refl
 taken_within (Value k v n) a = value_within k v n a
 taken_within (Skipping n) a = skipping_within (n - length a)

@@ -26,7 +26,6 @@ IsSound s = (p : Place) → s.capsules ≡ Some p → IsWithin p
 abbrev pub GoOn : ℕ → List Outcome → Connection → Stream → List ℕ → Bool → Type 0
 GoOn limit [] c s bytes fin = Unit {0}
 GoOn limit (o ∷ os) c s bytes fin =
-    IsSound s
-    × Receives limit c s bytes fin o
+    Receives limit c s bytes fin o
     × (course_of o.1 ≡ Continues)
     × GoOn limit os o.2 o.3 (drop o.0 bytes) fin

@@ -46,7 +46,8 @@ pub enum Event<'a> {
     /// SETTINGS of the peer: what they define, and their payload.
     Settings(PeerSettings, &'a [u8]),
     /// GOAWAY: at a client the ID of the first request that is not processed, at a server that of a
-    /// push (RFC 9114, section 5.2). All open sessions are draining, as with `Draining`
+    /// push (RFC 9114, section 5.2). One with the ID of the last one is an event too, and changes
+    /// nothing. All open sessions are draining, as with `Draining`
     /// (draft-ietf-webtrans-http3-07, section 4.6): those are the sessions of the streams that are
     /// [`Open`](wtp_connection::connection::Known::Open) for `Connection::known`. A client sends no
     /// new request.
@@ -56,6 +57,10 @@ pub enum Event<'a> {
     /// A field section of the message: what it is, and its fields.
     Headers(HeadersKind, FieldList),
     /// At a server, the header section of a request for a session of WebTransport.
+    ///
+    /// How many sessions a connection has is not bounded: refuse more than you allow with status 429, or
+    /// reset the stream with H3_REQUEST_REJECTED and
+    /// [`abandon`](crate::connection::Connection::abandon) it (draft-ietf-webtrans-http3-07, section 3).
     SessionRequested(FieldList),
     /// At a client, the header section of the response that accepts a session, with its status.
     SessionReady(u32, FieldList),
@@ -63,7 +68,8 @@ pub enum Event<'a> {
     /// follows is the rest of an ordinary response.
     Rejected(u32, FieldList),
     /// The peer closed the session whose own stream this is. The streams of the session are to be
-    /// reset and stopped, and the own half of this one is to be ended.
+    /// reset and stopped: [`join`](crate::connection::Connection::join) returns the error of each. The own
+    /// half of this one is to be ended.
     SessionClosed(Close),
     /// The session whose own stream this is ended otherwise: the peer reset this stream or asked to
     /// stop the own half of it, the application abandoned it, or there was an error of it, after

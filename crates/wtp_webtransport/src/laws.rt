@@ -11,7 +11,7 @@ ghost use Rattle.wtp_webtransport.specs.Said.{of_session, said, Says, Follow, Is
 ghost use Rattle.wtp_connection.specs.Opening.{is_critical};
 ghost use Rattle.wtp_webtransport.specs.Endings.{KeepsSession, KeepsAfter, accepts_session, Marks, MarksAfter, IsQuiet, IsLoss, had_session, AreOver, IsDone};
 ghost use Rattle.wtp_webtransport.specs.Joining.{resets, stops_half, abandons, joins, overflows, rejects};
-ghost use Rattle.wtp_webtransport.specs.Streams.{is_held, answered, stream_of};
+ghost use Rattle.wtp_webtransport.specs.Streams.{is_held, answered, stream_of, asking_stream, session_stream};
 ghost use Rattle.wtp_webtransport.specs.Sessions.{known_of};
 ghost use Rattle.wtp_webtransport.specs.declared.stream.Part.TheVariants as part;
 ghost use Rattle.wtp_webtransport.specs.declared.stream.Unread.TheVariants as unread;
@@ -20,6 +20,8 @@ ghost use Rattle.wtp_connection.specs.declared.stream.Stream.TheVariants as fram
 ghost use Rattle.wtp_frames.specs.declared.endpoint.Side.TheVariants.{Server};
 ghost use Rattle.wtp_messages.specs.declared.message.Message.{Message};
 ghost use Rattle.wtp_connection.specs.declared.connection.Known.TheVariants.{Coming, Over};
+ghost use Rattle.wtp_connection.specs.declared.stream.Stream.{Stream as Frames};
+ghost use Rattle.wtp_messages.specs.declared.response.Asked.{Asked};
 ghost use Rattle.wtp_connection.specs.declared.connection.Known.{Known};
 ghost use Rattle.wtp_messages.specs.Content.{fits, left_after};
 ghost use Rattle.wtp_qpack.specs.Integer.{IsInt};
@@ -146,6 +148,16 @@ pub fn calls_may_be_cut()
 /// `a` and `b` say, byte by byte of pieces, and end with the same states; up to an error or the end they
 /// say so alone. This is with memory, and before a session is open on the stream (of that see
 /// [`sessions_may_be_cut`]).
+///
+/// `IsCall` says three things of each call:
+///
+/// - `ordinary`: no session is open on the stream.
+/// - `frames`: the message of the stream, if one goes on, has frames. Only `overflow` leaves a message
+///   without them, and the connection is over then.
+/// - `free`: a piece of content came on no control stream, and on none of QPACK: these have no DATA.
+///
+/// A caller need not look after the last two: they hold of every stream that `accept`, `open` or
+/// `Stream::of_session` created and that calls alone changed, though no law says so.
 pub fn streams_may_be_cut()
     ensures stops { (limit : ℕ) (os fs gs : List Outcome) (z w y : Outcome) (c : Connection) (s : Stream)
         (a b : List ℕ) (fin : Bool) → Reads limit os z c s a false → course_of z.1 ≡ Stops
@@ -246,11 +258,32 @@ pub fn bytes_of_events_are_consumed_last()
 /// A loop of calls ends: of `n` bytes at most `n + 3` calls return an event after which the caller goes on
 /// with the bytes that are left, before one needs more bytes, waits, lacks memory, or returns the last
 /// event of the stream.
+///
+/// `IsSound` says that a capsule that is cut is not complete yet: bytes of its head or its value are
+/// missing. So it is of every stream ([`streams_are_sound`]).
 #[tactic(auto, using(crate::proofs::ProgressLemmas::call_nears, crate::proofs::ProgressLemmas::calls_few))]
 pub fn calls_end()
     ensures call { (limit : ℕ) (c : Connection) (s : Stream) (bytes : List ℕ) (fin : Bool) (o : Outcome)
         → IsSound s → Receives limit c s bytes fin o → course_of o.1 ≡ Continues
         → calls_left o.3 (drop o.0 bytes) < calls_left s bytes }
     ensures all { (limit : ℕ) (os : List Outcome) (c : Connection) (s : Stream) (bytes : List ℕ) (fin : Bool)
-        → GoOn limit os c s bytes fin → length os ≤ length bytes + 3 }
+        → IsSound s → GoOn limit os c s bytes fin → length os ≤ length bytes + 3 }
+{}
+
+/// Of a capsule that is cut bytes are missing: so it is of every stream that `accept`, `open` and
+/// `Stream::of_session` create, and every call leaves it so.
+pub fn streams_are_sound()
+    ensures accepted { (t : Frames) → IsSound (stream_of t) }
+    ensures opened { (t : Frames) (a : Asked) → IsSound (asking_stream t a) }
+    ensures own { (id : ℕ) → IsSound (session_stream id) }
+    ensures receive { (limit : ℕ) (c : Connection) (s : Stream) (bytes : List ℕ) (fin : Bool) (o : Outcome)
+        → IsSound s → Receives limit c s bytes fin o → IsSound o.3 }
+    ensures join { (c : Connection) (s : Stream) (k : Known) → IsSound s → IsSound (joins c s k).2 }
+    ensures reset { (c : Connection) (s : Stream) → IsSound s → IsSound (resets c s).2 }
+    ensures stop { (c : Connection) (s : Stream) → IsSound s → IsSound (stops_half c s).2 }
+    ensures abandon { (c : Connection) (s : Stream) → IsSound s → IsSound (abandons c s).2 }
+    ensures overflow { (c : Connection) (s : Stream) → IsSound s → IsSound (overflows c s).2 }
+    ensures reject { (c : Connection) (s : Stream) (id : ℕ) (goaway : Option ℕ)
+        → IsSound s → IsSound (rejects c s id goaway).2 }
+    ensures answer { (s : Stream) (status : ℕ) → IsSound s → IsSound (answered s status) }
 {}
