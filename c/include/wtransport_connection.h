@@ -17,6 +17,15 @@ extern "C" {
    copied, stored and compared. Other words than those that a call made are refused with WT_INVALID,
    and change nothing, or they are those of another state.
 
+   Bytes that are held. A session's own stream may hold the first bytes of a capsule, in the array
+   `held` of wt_receive and wt_receive_pushed. wt_stream_answer, wt_session_known, wt_stream_join,
+   wt_stream_waits, wt_stream_belongs, wt_stream_reset, wt_stream_stop, wt_stream_abandon and
+   wt_stream_overflow take the struct of a stream without them: what they return and how they change
+   the struct is the same whatever these bytes are, and they stay as they are in the array; none are
+   held any more if the event says so. A struct that no stream has with any bytes is refused. But how
+   far the capsule is they do not look at: words of that which no call made are refused by wt_receive
+   and wt_receive_pushed alone.
+
    Limits. 16 streams wait for sessions that are to come, and the next one is refused. 64 interim
    responses are read, 1,024 frames in a row without anything for the caller, and SETTINGS of 4,096
    bytes. The other limits are in wt_endpoint. How many bytes the caller keeps for a stream is its
@@ -179,9 +188,11 @@ typedef struct wt_event {
    if the stream ends right after them. Call it until WT_EVENT_MORE or WT_EVENT_WAITS: the bytes
    that were not consumed are then to be passed again, with more after them, or when the wait is
    over. It allocates.
-   `held` keeps the bytes of a capsule that is cut between two calls of a session's own stream, as
-   long as this: room for 1028 bytes, or for max_datagram if that is more, suffices. Other streams
-   hold none, and may have null. `table` is for QPACK's dynamic table, which this version does not
+   `held` keeps the bytes of a capsule that is cut between two calls of a session's own stream: at
+   most 15 of its type and length, or the bytes of its value that came, which are those of a close, at
+   most 1028, or of a datagram, at most max_datagram. So room for 1028 bytes, or for max_datagram if
+   that is more, suffices (as tests see; a call with too little says how much it needs, and changes
+   nothing). Other streams hold none, and may have null. `table` is for QPACK's dynamic table, which this version does not
    have: null, with the length 0.
    WT_OK: *event is the event. Its fields are the first event->fields of `fields`, with their texts
    in `out`; event->used bytes of `out` are these texts, or what the comments above say.
@@ -193,9 +204,58 @@ int wt_receive(wt_connection *connection, wt_stream *stream, uint8_t *held, size
                uint8_t fin, wt_event *event, wt_field *fields, size_t fields_room, uint8_t *out,
                size_t out_room);
 
+/* ---- QUIC stacks that give each byte once ----
+
+   ngtcp2, aioquic and others give the bytes of a stream once, in chunks. wt_receive_pushed takes
+   such a chunk, and holds what wt_receive would leave, in an array of the caller, `room`. The caller
+   keeps a wt_hold and its array for each stream, beside the wt_stream:
+
+     do {
+       answer = wt_receive_pushed(&connection, &s->state, s->held, sizeof s->held, NULL, 0, &s->hold,
+                                  s->room, sizeof s->room, chunk, length, fin, &event, fields, 64,
+                                  out, sizeof out);
+       if (answer != WT_OK) return answer;
+       act(s, &event, (s->hold.in_array ? s->room : chunk) + event.offset, fields, out);
+       chunk += s->hold.taken;
+       length -= s->hold.taken;
+     } while (event.kind != WT_EVENT_MORE && event.kind != WT_EVENT_WAITS);
+     if (length > 0) answer = wt_stream_overflow(&connection, &s->state, &event);
+
+   When the wait of a stream is over, the same is called with no chunk and the length 0. */
+
+/* The bytes of a stream that are held. It begins as {0}. */
+typedef struct wt_hold {
+  size_t start, end;   /* they are room[start] to room[end - 1] */
+  size_t taken;        /* after a call: how many bytes of the chunk it took */
+  uint8_t fin;         /* 1 if the stream ends after the bytes that came, otherwise 0 */
+  uint8_t in_array;    /* after a call: 1 if the bytes of the event are in `room`, 0 if in the chunk */
+  uint8_t reserved[6]; /* 0 */
+} wt_hold;
+
+/* Reads what is next on a stream: as wt_receive in the bytes of the chunk if none are held, and
+   otherwise in those that are held and as many of the chunk as `room` has room for. fin is not 0 if
+   the stream ends right after the chunk, and need not be said again with the bytes that were not
+   taken. It allocates.
+   WT_OK: *event is the event, with its bytes where hold->in_array says, until the next call. The next
+   one is to be called with the bytes of the chunk from the first hold->taken on. Call it until
+   WT_EVENT_MORE or WT_EVENT_WAITS: all bytes were then taken, or those that were not consumed are more
+   than `room` has room for: go on with a longer array that begins with the same bytes, or call
+   wt_stream_overflow. After other events no byte of the chunk is held. event->consumed is the credit
+   for QUIC's flow control, here too. Where a chunk is longer than the array, WT_EVENT_SKIPPED also says
+   that some of it was not read yet.
+   An array of 16 bytes more than max_section, and of at least 4112, has room for each stream that does
+   not wait; a stream that waits for its session or for an answer needs as many bytes as the caller
+   keeps of one.
+   The other answers are those of wt_receive, and the same bytes are held. Also WT_INVALID: *hold is
+   not the hold of an array as long as `room`. */
+int wt_receive_pushed(wt_connection *connection, wt_stream *stream, uint8_t *held, size_t held_room,
+                      uint8_t *table, size_t table_length, wt_hold *hold, uint8_t *room,
+                      size_t room_length, const uint8_t *chunk, size_t length, uint8_t fin,
+                      wt_event *event, wt_field *fields, size_t fields_room, uint8_t *out,
+                      size_t out_room);
+
 /* Says that the CONNECT request of a stream is answered with this status, after the answer was
-   written: with 2xx its session is open. 1xx changes nothing. WT_INVALID: *stream is not valid. The
-   bytes that are held stay, here and below. */
+   written: with 2xx its session is open. 1xx changes nothing. WT_INVALID: *stream is not valid. */
 int wt_stream_answer(wt_stream *stream, uint32_t status);
 
 /* What is known of a session. */

@@ -172,6 +172,17 @@ class Event(ctypes.Structure):
     ]
 
 
+class Hold(ctypes.Structure):
+    _fields_ = [
+        ("start", c_size_t),
+        ("end", c_size_t),
+        ("taken", c_size_t),
+        ("fin", c_uint8),
+        ("in_array", c_uint8),
+        ("reserved", c_uint8 * 6),
+    ]
+
+
 # The structs of the header by their names there.
 STRUCTS = {
     "wt_stream_header": StreamHeader,
@@ -185,6 +196,7 @@ STRUCTS = {
     "wt_connection": Connection,
     "wt_stream": Stream,
     "wt_event": Event,
+    "wt_hold": Hold,
 }
 
 SIZE, U32, U64 = POINTER(c_size_t), POINTER(c_uint32), POINTER(c_uint64)
@@ -198,6 +210,10 @@ BYTES, FIELDS, SETTINGS = (
 OUT = [c_char_p, c_size_t, SIZE]
 
 CONNECTION, STREAM, EVENT = POINTER(Connection), POINTER(Stream), POINTER(Event)
+HOLD = POINTER(Hold)
+# The memory and the input of a call that reads a stream, and what it gives.
+RECEIVES = [CONNECTION, STREAM, *BYTES, *BYTES]
+GIVES = [*BYTES, c_uint8, EVENT, *FIELDS, *BYTES]
 
 # The arguments of each call.
 ARGUMENTS = {
@@ -237,7 +253,8 @@ ARGUMENTS = {
     "wt_stream_accept": [CONNECTION, c_uint64, STREAM],
     "wt_stream_of_request": [CONNECTION, c_uint32, STREAM],
     "wt_stream_of_session": [c_uint64, STREAM],
-    "wt_receive": [CONNECTION, STREAM, *BYTES, *BYTES, *BYTES, c_uint8, EVENT, *FIELDS, *BYTES],
+    "wt_receive": [*RECEIVES, *GIVES],
+    "wt_receive_pushed": [*RECEIVES, HOLD, *BYTES, *GIVES],
     "wt_stream_answer": [STREAM, c_uint32],
     "wt_session_known": [CONNECTION, c_uint64, STREAM, c_size_t, U32],
     "wt_stream_join": [CONNECTION, STREAM, c_uint32, EVENT],

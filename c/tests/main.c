@@ -29,6 +29,7 @@ int main(void) {
   test_connection_rows();
   test_connection_calls();
   test_connection_words();
+  test_connection_pushes();
   printf("%lu passed, %lu failed\n", passed, failed);
   return failed > 0;
 }

@@ -13,3 +13,4 @@ pub mod LimitLemmas
 pub mod BesideLemmas
 pub mod BlankLemmas
 pub mod ReceivingLemmas
+pub mod PushingLemmas

@@ -16,3 +16,4 @@ pub mod Connections
 pub mod ConnectionEvents
 pub mod ConnectionCalls
 pub mod Changes
+pub mod Pushing

@@ -9,6 +9,8 @@ ghost use Rattle.wt_c.specs.Connections.{side_with, endpoint_of, IsEndpoint, con
 pub mod beside;
 pub mod changes;
 pub mod events;
+pub mod hold;
+pub mod pushing;
 pub mod receiving;
 pub mod sessions;
 pub mod streams;
