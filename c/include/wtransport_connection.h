@@ -72,6 +72,41 @@ int wt_connection_allows_sessions(const wt_connection *connection);
    WT_INVALID. */
 int wt_connection_unprocessed(const wt_connection *connection, uint64_t id);
 
+/* The settings of the peer: the value of each setting that has a name, or its default. */
+typedef struct wt_peer_settings {
+  uint64_t qpack_max_table_capacity;  /* 0x01, by default 0 */
+  uint64_t max_field_section_size;    /* 0x06: do not send a larger one; UINT64_MAX, which is the
+                                         default, if there is no limit */
+  uint64_t qpack_blocked_streams;     /* 0x07, by default 0 */
+  uint64_t webtransport_max_sessions; /* 0xc671706a, by default 0 */
+  uint64_t wt_max_sessions;           /* 0x14e9cd29, of later drafts, by default 0 */
+  uint8_t enable_connect_protocol;    /* 0x08: 1 or 0, which is the default */
+  uint8_t h3_datagram;                /* 0x33: the same */
+  uint8_t enable_webtransport;        /* 0x2b603742: the same */
+  uint8_t came;                       /* 1 if SETTINGS of the peer came, otherwise 0 */
+  uint32_t reserved_half;             /* 0 */
+  uint64_t reserved[2];               /* 0 */
+} wt_peer_settings;
+
+/* Says what the settings of the peer are: those of its SETTINGS, from WT_EVENT_SETTINGS on. Before
+   it each has its default, or is the one remembered. Settings without a name here are in the
+   event's bytes, for wt_settings_read. WT_INVALID: *connection is not valid. */
+int wt_connection_settings(const wt_connection *connection, wt_peer_settings *settings);
+
+/* Begins the connection of a client that resumes a session of TLS and sends early data (0-RTT).
+   *remembered is what wt_connection_settings said in that session: these are the server's settings
+   until its SETTINGS come, which must keep them (RFC 9114, section 7.2.4.2): otherwise the event
+   is WT_EVENT_CONNECTION_ERROR. Sessions are possible once SETTINGS came: a request for one is not
+   sent as early data. At a server this is wt_connection_new. WT_INVALID: as wt_connection_new, or a
+   number of *remembered is out of its range. */
+int wt_connection_resuming(uint32_t abi, const wt_endpoint *endpoint,
+                           const wt_peer_settings *remembered, wt_connection *connection);
+
+/* Says that the server did not accept early data: until its SETTINGS come each setting has its
+   default again, and they need not keep what is remembered. Nothing changes after its SETTINGS, and
+   if no session is resumed. WT_INVALID: *connection is not valid. */
+int wt_early_data_refused(wt_connection *connection);
+
 /* Begins a stream that the peer opened, by its ID. WT_INVALID: *connection is not valid. */
 int wt_stream_accept(wt_connection *connection, uint64_t id, wt_stream *stream);
 
@@ -339,6 +374,45 @@ enum {
 /* What to do with a datagram, by what is known of its session: one of WT_DATAGRAM_.., or
    WT_INVALID. */
 int wt_datagram_use(uint32_t known);
+
+/* ---- GOAWAY ----
+
+   The own control stream begins with its type (wt_stream_header_write) and SETTINGS (wt_frame_write);
+   after these this library has one more frame for it, GOAWAY. There are no others that an endpoint
+   must send: MAX_PUSH_ID and CANCEL_PUSH are of pushes, which this library does not have. */
+
+#define WT_NO_GOAWAY UINT64_C(0xffffffffffffffff)
+
+/* Writes a GOAWAY frame (RFC 9114, sections 5.2 and 7.2.6). side is this endpoint, one of WT_SIDE_..
+   At a server requests on streams from this ID on are not processed: 2^62 - 4 first, and when no more
+   of them can be under way, the ID after the last one that was processed. At a client pushes from
+   this push ID on are not: 0. *last is the ID of the last GOAWAY, and WT_NO_GOAWAY before the first:
+   an ID may be sent again, and a lower one.
+   WT_OK, WT_BUFFER_TOO_SMALL: as above. With WT_OK *last is the ID. WT_INVALID: side is another number,
+   the ID is 2^62 or more or above *last, or at a server it is not that of a bidirectional stream that a
+   client opened. */
+int wt_goaway_write(uint8_t side, uint64_t id, uint64_t *last, uint8_t *out, size_t room, size_t *used);
+
+/* ---- Requests that are reset before their answer (RFC 9114, sections 4.1.1 and 10.5) ----
+
+   A client that sends requests and resets them at once costs a server work, and QUIC's limit of
+   streams does not bound it: a stream that is reset makes room for the next one. A server counts them,
+   with the same struct for all requests of a connection. */
+
+typedef struct wt_request_budget {
+  uint64_t excess;  /* how many more requests may be reset before their answer than are answered: 100,
+                       say */
+  uint64_t answers; /* how many were answered: 0 at first */
+  uint64_t resets;  /* how many were reset before their answer: 0 at first */
+} wt_request_budget;
+
+/* Counts a request that was answered: one whose final response was sent. WT_OK. */
+int wt_request_answered(wt_request_budget *budget);
+
+/* Counts a request that its client reset before it was answered.
+   WT_OK: go on. WT_ERROR: more were reset than were answered and the excess together; *error_code is
+   WT_H3_EXCESSIVE_LOAD, for the connection. Every later call then returns it too, and counts nothing. */
+int wt_request_reset(wt_request_budget *budget, uint64_t *error_code);
 
 #ifdef __cplusplus
 }

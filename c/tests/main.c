@@ -30,6 +30,7 @@ int main(void) {
   test_connection_calls();
   test_connection_words();
   test_connection_pushes();
+  test_connection_peer();
   printf("%lu passed, %lu failed\n", passed, failed);
   return failed > 0;
 }
