@@ -181,7 +181,7 @@ static void is_meant(int way, const record *all) {
   static const uint32_t first[WAYS] = {WT_EVENT_OPENED, WT_EVENT_OPENED, WT_EVENT_DRAINING,
                                        WT_EVENT_JOINS, WT_EVENT_OPENED};
   static const uint32_t last[WAYS] = {WT_EVENT_SETTINGS, WT_EVENT_END, WT_EVENT_END, WT_EVENT_END,
-                                      WT_EVENT_OPENED};
+                                      WT_EVENT_END};
   uint32_t kind;
   memcpy(&kind, all->bytes, sizeof kind);
   CHECK(kind == first[way]);
