@@ -256,7 +256,7 @@ int wt_receive(wt_connection *connection, wt_stream *stream, uint8_t *held, size
      } while (event.kind != WT_EVENT_MORE && event.kind != WT_EVENT_WAITS);
      if (length > 0) answer = wt_stream_overflow(&connection, &s->state, &event);
 
-   When the wait of a stream is over, the same is called with no chunk and the length 0. */
+   When the wait of a stream is over, the same is called with a chunk of length 0. */
 
 /* The bytes of a stream that are held. It begins as {0}. */
 typedef struct wt_hold {

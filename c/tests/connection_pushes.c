@@ -78,7 +78,7 @@ static size_t push(wt_connection *c, pushed *p, const uint8_t *chunk, size_t siz
                    record *to) {
   size_t left = size, turn;
   for (turn = 0; turn < 2 * size + 9; turn++) {
-    left = push_once(c, p, chunk + (size - left), left, fin, to);
+    left = push_once(c, p, left > 0 ? chunk + (size - left) : chunk, left, fin, to);
     if (p->r.event.kind <= WT_EVENT_WAITS) return left;
   }
   CHECK(!"a loop ends");
