@@ -281,8 +281,9 @@ typedef struct wt_hold {
    An array of 16 bytes more than max_section, and of at least 4112, has room for each stream that does
    not wait; a stream that waits for its session or for an answer needs as many bytes as the caller
    keeps of one.
-   The other answers are those of wt_receive, and the same bytes are held. Also WT_INVALID: *hold is
-   not the hold of an array as long as `room`. */
+   The other answers are those of wt_receive, and the same bytes are held, if at another place. Also
+   WT_INVALID: *hold is not the hold of an array as long as `room`. The call uses all of `room`: what is
+   there beside the bytes held, and those of the event, is not specified. */
 int wt_receive_pushed(wt_connection *connection, wt_stream *stream, uint8_t *held, size_t held_room,
                       uint8_t *table, size_t table_length, wt_hold *hold, uint8_t *room,
                       size_t room_length, const uint8_t *chunk, size_t length, uint8_t fin,
