@@ -283,50 +283,109 @@ static void count_event(played *p, const wt_event *e, const uint8_t *bytes, cons
   note(300 + e->kind, e->number);
 }
 
-static played play(const uint8_t *d, size_t n, uint8_t side, uint64_t id, size_t step) {
-  static const wt_endpoint both = {0, 1, 1, 1, 4096, 2048, 100, {0, 0, 0, 0, 0}};
-  wt_endpoint endpoint = both;
-  wt_connection c;
+/* What a stream is read with. */
+typedef struct player {
+  wt_connection connection;
   wt_stream stream;
   uint8_t held[1100], out[4096];
   wt_field fields[64];
-  wt_event e;
+  wt_event event;
+} player;
+
+static void begin(player *r, uint8_t side, uint64_t id) {
+  static const wt_endpoint both = {0, 1, 1, 1, 4096, 2048, 100, {0, 0, 0, 0, 0}};
+  wt_endpoint endpoint = both;
+  endpoint.side = side;
+  MUST(wt_connection_new(WT_ABI, &endpoint, &r->connection) == WT_OK);
+  if (side == WT_SIDE_CLIENT)
+    MUST(wt_stream_of_request(&r->connection, (uint32_t)id & 3, &r->stream) == WT_OK);
+  else
+    MUST(wt_stream_accept(&r->connection, id, &r->stream) == WT_OK);
+}
+
+/* What follows an event: whether the stream goes on with the bytes that came. */
+enum { NEXT, FULL, STOP };
+static int follow(player *r) {
+  wt_event *e = &r->event;
+  if (e->kind == WT_EVENT_WAITS && e->detail == WT_WAITS_ANSWER) {
+    MUST(wt_stream_answer(&r->stream, 200) == WT_OK);
+    return NEXT;
+  }
+  if (e->kind == WT_EVENT_JOINS)
+    MUST(wt_stream_join(&r->connection, &r->stream, WT_KNOWN_OPEN, e) == WT_OK);
+  if (e->kind == WT_EVENT_WAITS) return STOP;
+  return e->kind == WT_EVENT_MORE ? FULL : NEXT;
+}
+
+static played play(const uint8_t *d, size_t n, uint8_t side, uint64_t id, size_t step) {
+  player r;
   played p = {0, 0, 0};
   size_t at = 0, end = step < n ? step : n;
-  endpoint.side = side;
-  MUST(wt_connection_new(WT_ABI, &endpoint, &c) == WT_OK);
-  MUST((side == WT_SIDE_CLIENT ? wt_stream_of_request(&c, (uint32_t)id & 3, &stream)
-                               : wt_stream_accept(&c, id, &stream)) == WT_OK);
+  begin(&r, side, id);
   for (size_t calls = 0;; calls++) {
-    int answer = wt_receive(&c, &stream, held, sizeof held, NULL, 0, d + at, end - at, end == n, &e,
-                            fields, 64, out, sizeof out);
-    MUST(answer == WT_OK && e.consumed <= end - at && e.held <= sizeof held && calls < 8 * n + 64);
-    count_event(&p, &e, d + at, out);
-    at += e.consumed;
-    if (e.kind == WT_EVENT_WAITS && e.detail == WT_WAITS_ANSWER) {
-      MUST(wt_stream_answer(&stream, 200) == WT_OK);
-      continue;
+    wt_event *e = &r.event;
+    int answer = wt_receive(&r.connection, &r.stream, r.held, sizeof r.held, NULL, 0, d + at, end - at,
+                            end == n, e, r.fields, 64, r.out, sizeof r.out);
+    MUST(answer == WT_OK && e->consumed <= end - at && e->held <= sizeof r.held && calls < 8 * n + 64);
+    count_event(&p, e, d + at, r.out);
+    at += e->consumed;
+    switch (follow(&r)) {
+      case NEXT:
+        continue;
+      case FULL:
+        if (end < n) break;
+        return p;
+      default:
+        return p;
     }
-    if (e.kind == WT_EVENT_JOINS) MUST(wt_stream_join(&c, &stream, WT_KNOWN_OPEN, &e) == WT_OK);
-    if (e.kind == WT_EVENT_WAITS) return p;
-    if (e.kind != WT_EVENT_MORE) continue;
-    if (end == n) return p;
     end = n - end < step ? n : end + step;
   }
 }
 
-/* A stream of a connection, whole and cut where the second byte says: the same events. The first byte
-   is the side and the stream. Of a malformed section any rule that it breaks may be named. */
+/* The same of chunks that come once: what a call leaves is held, in an array with room for a frame. */
+static played push(const uint8_t *d, size_t n, uint8_t side, uint64_t id, size_t step) {
+  static const wt_hold none;
+  static uint8_t room[4112];
+  player r;
+  played p = {0, 0, 0};
+  wt_hold hold = none;
+  size_t at = 0, end = step < n ? step : n;
+  begin(&r, side, id);
+  for (size_t calls = 0;; calls++) {
+    int answer = wt_receive_pushed(&r.connection, &r.stream, r.held, sizeof r.held, NULL, 0, &hold, room,
+                                   sizeof room, d + at, end - at, end == n, &r.event, r.fields, 64, r.out,
+                                   sizeof r.out);
+    MUST(answer == WT_OK && hold.taken <= end - at && hold.end <= sizeof room && calls < 8 * n + 64);
+    count_event(&p, &r.event, hold.in_array ? room : d + at, r.out);
+    at += hold.taken;
+    switch (follow(&r)) {
+      case NEXT:
+        continue;
+      case FULL:
+        MUST(at == end);
+        if (end < n) break;
+        return p;
+      default:
+        return p;
+    }
+    end = n - end < step ? n : end + step;
+  }
+}
+
+/* A stream of a connection, whole, cut where the second byte says, and pushed in these pieces: the same
+   events. The first byte is the side and the stream. Of a malformed section any rule that it breaks may be named. */
 static void connection(const uint8_t *d, size_t n) {
   uint8_t side;
   uint64_t id;
-  played whole, cut;
+  played whole, cut, pushed;
   if (n < 2) return;
   side = d[0] & 1;
   id = d[0] >> 1 & 3;
   whole = play(d + 2, n - 2, side, id, n);
   cut = play(d + 2, n - 2, side, id, d[1] > 0 ? d[1] : 1);
+  pushed = push(d + 2, n - 2, side, id, d[1] > 0 ? d[1] : 1);
   MUST(whole.sum == cut.sum && whole.events == cut.events && whole.content == cut.content);
+  MUST(whole.sum == pushed.sum && whole.events == pushed.events && whole.content == pushed.content);
 }
 
 #include "schedule.h"

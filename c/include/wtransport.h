@@ -210,7 +210,8 @@ enum {
 };
 
 /* Writes a frame with a payload: DATA, HEADERS, SETTINGS, or of a type that is reserved for exercise
-   (0x21 + 0x1f * n). A payload may be longer than those that wt_read_frame reads.
+   (0x21 + 0x1f * n). wt_goaway_write writes GOAWAY. A payload may be longer than those that
+   wt_read_frame reads.
    WT_OK, WT_BUFFER_TOO_SMALL: as above. WT_INVALID: the type is another, or the payload has 2^62 bytes. */
 int wt_frame_write(uint64_t type, const uint8_t *payload, size_t length, uint8_t *out, size_t room,
                    size_t *used);

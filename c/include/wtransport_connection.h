@@ -17,6 +17,15 @@ extern "C" {
    copied, stored and compared. Other words than those that a call made are refused with WT_INVALID,
    and change nothing, or they are those of another state.
 
+   Bytes that are held. A session's own stream may hold the first bytes of a capsule, in the array
+   `held` of wt_receive and wt_receive_pushed. wt_stream_answer, wt_session_known, wt_stream_join,
+   wt_stream_waits, wt_stream_belongs, wt_stream_reset, wt_stream_stop, wt_stream_abandon and
+   wt_stream_overflow take the struct of a stream without them: what they return and how they change
+   the struct is the same whatever these bytes are, and they stay as they are in the array; none are
+   held any more if the event says so. A struct that no stream has with any bytes is refused. But how
+   far the capsule is they do not look at: words of that which no call made are refused by wt_receive
+   and wt_receive_pushed alone.
+
    Limits. 16 streams wait for sessions that are to come, and the next one is refused. 64 interim
    responses are read, 1,024 frames in a row without anything for the caller, and SETTINGS of 4,096
    bytes. The other limits are in wt_endpoint. How many bytes the caller keeps for a stream is its
@@ -62,6 +71,41 @@ int wt_connection_allows_sessions(const wt_connection *connection);
    its GOAWAY says, and may be sent again on another connection (RFC 9114, section 5.2): 1 or 0; or
    WT_INVALID. */
 int wt_connection_unprocessed(const wt_connection *connection, uint64_t id);
+
+/* The settings of the peer: the value of each setting that has a name, or its default. */
+typedef struct wt_peer_settings {
+  uint64_t qpack_max_table_capacity;  /* 0x01, by default 0 */
+  uint64_t max_field_section_size;    /* 0x06: do not send a larger one; UINT64_MAX, which is the
+                                         default, if there is no limit */
+  uint64_t qpack_blocked_streams;     /* 0x07, by default 0 */
+  uint64_t webtransport_max_sessions; /* 0xc671706a, by default 0 */
+  uint64_t wt_max_sessions;           /* 0x14e9cd29, of later drafts, by default 0 */
+  uint8_t enable_connect_protocol;    /* 0x08: 1 or 0, which is the default */
+  uint8_t h3_datagram;                /* 0x33: the same */
+  uint8_t enable_webtransport;        /* 0x2b603742: the same */
+  uint8_t came;                       /* 1 if SETTINGS of the peer came, otherwise 0 */
+  uint32_t reserved_half;             /* 0 */
+  uint64_t reserved[2];               /* 0 */
+} wt_peer_settings;
+
+/* Says what the settings of the peer are: those of its SETTINGS, from WT_EVENT_SETTINGS on. Before
+   it each has its default, or is the one remembered. Settings without a name here are in the
+   event's bytes, for wt_settings_read. WT_INVALID: *connection is not valid. */
+int wt_connection_settings(const wt_connection *connection, wt_peer_settings *settings);
+
+/* Begins the connection of a client that resumes a session of TLS and sends early data (0-RTT).
+   *remembered is what wt_connection_settings said in that session: these are the server's settings
+   until its SETTINGS come, which must keep them (RFC 9114, section 7.2.4.2): otherwise the event
+   is WT_EVENT_CONNECTION_ERROR. Sessions are possible once SETTINGS came: a request for one is not
+   sent as early data. At a server this is wt_connection_new. WT_INVALID: as wt_connection_new, or a
+   number of *remembered is out of its range. */
+int wt_connection_resuming(uint32_t abi, const wt_endpoint *endpoint,
+                           const wt_peer_settings *remembered, wt_connection *connection);
+
+/* Says that the server did not accept early data: until its SETTINGS come each setting has its
+   default again, and they need not keep what is remembered. Nothing changes after its SETTINGS, and
+   if no session is resumed. WT_INVALID: *connection is not valid. */
+int wt_early_data_refused(wt_connection *connection);
 
 /* Begins a stream that the peer opened, by its ID. WT_INVALID: *connection is not valid. */
 int wt_stream_accept(wt_connection *connection, uint64_t id, wt_stream *stream);
@@ -179,9 +223,11 @@ typedef struct wt_event {
    if the stream ends right after them. Call it until WT_EVENT_MORE or WT_EVENT_WAITS: the bytes
    that were not consumed are then to be passed again, with more after them, or when the wait is
    over. It allocates.
-   `held` keeps the bytes of a capsule that is cut between two calls of a session's own stream, as
-   long as this: room for 1028 bytes, or for max_datagram if that is more, suffices. Other streams
-   hold none, and may have null. `table` is for QPACK's dynamic table, which this version does not
+   `held` keeps the bytes of a capsule that is cut between two calls of a session's own stream: at
+   most 15 of its type and length, or the bytes of its value that came, which are those of a close, at
+   most 1028, or of a datagram, at most max_datagram. So room for 1028 bytes, or for max_datagram if
+   that is more, suffices (as tests see; a call with too little says how much it needs, and changes
+   nothing). Other streams hold none, and may have null. `table` is for QPACK's dynamic table, which this version does not
    have: null, with the length 0.
    WT_OK: *event is the event. Its fields are the first event->fields of `fields`, with their texts
    in `out`; event->used bytes of `out` are these texts, or what the comments above say.
@@ -193,9 +239,59 @@ int wt_receive(wt_connection *connection, wt_stream *stream, uint8_t *held, size
                uint8_t fin, wt_event *event, wt_field *fields, size_t fields_room, uint8_t *out,
                size_t out_room);
 
+/* ---- QUIC stacks that give each byte once ----
+
+   ngtcp2, aioquic and others give the bytes of a stream once, in chunks. wt_receive_pushed takes
+   such a chunk, and holds what wt_receive would leave, in an array of the caller, `room`. The caller
+   keeps a wt_hold and its array for each stream, beside the wt_stream:
+
+     do {
+       answer = wt_receive_pushed(&connection, &s->state, s->held, sizeof s->held, NULL, 0, &s->hold,
+                                  s->room, sizeof s->room, chunk, length, fin, &event, fields, 64,
+                                  out, sizeof out);
+       if (answer != WT_OK) return answer;
+       act(s, &event, (s->hold.in_array ? s->room : chunk) + event.offset, fields, out);
+       chunk += s->hold.taken;
+       length -= s->hold.taken;
+     } while (event.kind != WT_EVENT_MORE && event.kind != WT_EVENT_WAITS);
+     if (length > 0) answer = wt_stream_overflow(&connection, &s->state, &event);
+
+   When the wait of a stream is over, the same is called with a chunk of length 0. */
+
+/* The bytes of a stream that are held. It begins as {0}. */
+typedef struct wt_hold {
+  size_t start, end;   /* they are room[start] to room[end - 1] */
+  size_t taken;        /* after a call: how many bytes of the chunk it took */
+  uint8_t fin;         /* 1 if the stream ends after the bytes that came, otherwise 0 */
+  uint8_t in_array;    /* after a call: 1 if the bytes of the event are in `room`, 0 if in the chunk */
+  uint8_t reserved[6]; /* 0 */
+} wt_hold;
+
+/* Reads what is next on a stream: as wt_receive in the bytes of the chunk if none are held, and
+   otherwise in those that are held and as many of the chunk as `room` has room for. fin is not 0 if
+   the stream ends right after the chunk, and need not be said again with the bytes that were not
+   taken. It allocates.
+   WT_OK: *event is the event, with its bytes where hold->in_array says, until the next call. The next
+   one is to be called with the bytes of the chunk from the first hold->taken on. Call it until
+   WT_EVENT_MORE or WT_EVENT_WAITS: all bytes were then taken, or those that were not consumed are more
+   than `room` has room for: go on with a longer array that begins with the same bytes, or call
+   wt_stream_overflow. After other events no byte of the chunk is held. event->consumed is the credit
+   for QUIC's flow control, here too. Where a chunk is longer than the array, WT_EVENT_SKIPPED also says
+   that some of it was not read yet.
+   An array of 16 bytes more than max_section, and of at least 4112, has room for each stream that does
+   not wait; a stream that waits for its session or for an answer needs as many bytes as the caller
+   keeps of one.
+   The other answers are those of wt_receive, and the same bytes are held, if at another place. Also
+   WT_INVALID: *hold is not the hold of an array as long as `room`. The call uses all of `room`: what is
+   there beside the bytes held, and those of the event, is not specified. */
+int wt_receive_pushed(wt_connection *connection, wt_stream *stream, uint8_t *held, size_t held_room,
+                      uint8_t *table, size_t table_length, wt_hold *hold, uint8_t *room,
+                      size_t room_length, const uint8_t *chunk, size_t length, uint8_t fin,
+                      wt_event *event, wt_field *fields, size_t fields_room, uint8_t *out,
+                      size_t out_room);
+
 /* Says that the CONNECT request of a stream is answered with this status, after the answer was
-   written: with 2xx its session is open. 1xx changes nothing. WT_INVALID: *stream is not valid. The
-   bytes that are held stay, here and below. */
+   written: with 2xx its session is open. 1xx changes nothing. WT_INVALID: *stream is not valid. */
 int wt_stream_answer(wt_stream *stream, uint32_t status);
 
 /* What is known of a session. */
@@ -279,6 +375,45 @@ enum {
 /* What to do with a datagram, by what is known of its session: one of WT_DATAGRAM_.., or
    WT_INVALID. */
 int wt_datagram_use(uint32_t known);
+
+/* ---- GOAWAY ----
+
+   The own control stream begins with its type (wt_stream_header_write) and SETTINGS (wt_frame_write);
+   after these this library has one more frame for it, GOAWAY. There are no others that an endpoint
+   must send: MAX_PUSH_ID and CANCEL_PUSH are of pushes, which this library does not have. */
+
+#define WT_NO_GOAWAY UINT64_C(0xffffffffffffffff)
+
+/* Writes a GOAWAY frame (RFC 9114, sections 5.2 and 7.2.6). side is this endpoint, one of WT_SIDE_..
+   At a server requests on streams from this ID on are not processed: 2^62 - 4 first, and when no more
+   of them can be under way, the ID after the last one that was processed. At a client pushes from
+   this push ID on are not: 0. *last is the ID of the last GOAWAY, and WT_NO_GOAWAY before the first:
+   an ID may be sent again, and a lower one.
+   WT_OK, WT_BUFFER_TOO_SMALL: as above. With WT_OK *last is the ID. WT_INVALID: side is another number,
+   the ID is 2^62 or more or above *last, or at a server it is not that of a bidirectional stream that a
+   client opened. */
+int wt_goaway_write(uint8_t side, uint64_t id, uint64_t *last, uint8_t *out, size_t room, size_t *used);
+
+/* ---- Requests that are reset before their answer (RFC 9114, sections 4.1.1 and 10.5) ----
+
+   A client that sends requests and resets them at once costs a server work, and QUIC's limit of
+   streams does not bound it: a stream that is reset makes room for the next one. A server counts them,
+   with the same struct for all requests of a connection. */
+
+typedef struct wt_request_budget {
+  uint64_t excess;  /* how many more requests may be reset before their answer than are answered: 100,
+                       say */
+  uint64_t answers; /* how many were answered: 0 at first */
+  uint64_t resets;  /* how many were reset before their answer: 0 at first */
+} wt_request_budget;
+
+/* Counts a request that was answered: one whose final response was sent. WT_OK. */
+int wt_request_answered(wt_request_budget *budget);
+
+/* Counts a request that its client reset before it was answered.
+   WT_OK: go on. WT_ERROR: more were reset than were answered and the excess together; *error_code is
+   WT_H3_EXCESSIVE_LOAD, for the connection. Every later call then returns it too, and counts nothing. */
+int wt_request_reset(wt_request_budget *budget, uint64_t *error_code);
 
 #ifdef __cplusplus
 }

@@ -306,6 +306,40 @@ def connection():
     checks.same("session", (event.kind, event.number, event.length), (c.EVENT_DATAGRAM, 4, 2))
 
 
+def pushed():
+    """The same request byte by byte, the settings of the peer, GOAWAY and a budget."""
+    endpoint = c.Endpoint(c.SIDE_SERVER, 1, 1, 1, 65536, 4096, 1200)
+    server, stream, event, hold = c.Connection(), c.Stream(), c.Event(), c.Hold()
+    lib.wt_connection_new(c.ABI, endpoint, server)
+    lib.wt_stream_accept(server, 0, stream)
+    fields, out, room = (c.Field * 8)(), create_string_buffer(99), create_string_buffer(99)
+    came = []
+    for byte in b"\x01\x08\x00\x00\xd1\xd7\xc1\x50\x01a":
+        chunk = bytes([byte])
+        while True:
+            memory, beside = (None, 0, None, 0, hold, room, 99), (event, fields, 8, out, 99)
+            answer = lib.wt_receive_pushed(server, stream, *memory, chunk, len(chunk), 0, *beside)
+            checks.same("pushed", answer, OK)
+            chunk = chunk[hold.taken :]
+            if event.kind == c.EVENT_MORE:
+                break
+            came.append((event.kind, event.fields))
+    checks.same("events pushed", came, [(c.EVENT_OPENED, 0), (c.EVENT_HEADERS, 4)])
+    peer = c.PeerSettings()
+    checks.same("settings of the peer", lib.wt_connection_settings(server, peer), OK)
+    checks.same("no limit", (peer.max_field_section_size, peer.came), (2**64 - 1, 0))
+    checks.same("resuming", lib.wt_connection_resuming(c.ABI, endpoint, peer, server), OK)
+    checks.same("refused", lib.wt_early_data_refused(server), OK)
+    last, used, code = c_uint64(c.NO_GOAWAY), c_size_t(), c_uint64()
+    answer = lib.wt_goaway_write(c.SIDE_SERVER, 4, last, out, 99, used)
+    checks.same("goaway", (answer, out.raw[: used.value], last.value), (OK, b"\x07\x01\x04", 4))
+    budget = c.RequestBudget(0, 0, 0)
+    checks.same("answered", lib.wt_request_answered(budget), OK)
+    checks.same("reset", lib.wt_request_reset(budget, code), OK)
+    checks.same("too many", lib.wt_request_reset(budget, code), c.ERROR)
+    checks.same("code", code.value, c.H3_EXCESSIVE_LOAD)
+
+
 def declarations(header):
     """Checks the constants, the structs and the calls of wtransport_c.py by those of the header."""
     constants = re.findall(r"\bWT_(\w+) = (-?\w+)", header)
@@ -348,6 +382,7 @@ def main():
     header = "".join((TOP / "c/include" / part).read_text(encoding="utf-8") for part in parts)
     by_hand()
     connection()
+    pushed()
     declarations(header)
     version(header)
     if len(sys.argv) > 2:

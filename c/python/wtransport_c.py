@@ -69,6 +69,7 @@ CAPSULE_CLOSE_SESSION = 0x2843
 MAX_CAPSULE_VALUE, MAX_CAPSULE_REST, MAX_CLOSE_REASON = 1028, 1043, 1024
 
 ABI = 1
+NO_GOAWAY = 0xFFFFFFFFFFFFFFFF
 SIDE_CLIENT, SIDE_SERVER = 0, 1
 ASKED_OTHER, ASKED_HEAD, ASKED_CONNECT, ASKED_SESSION = 0, 1, 2, 3
 
@@ -172,6 +173,37 @@ class Event(ctypes.Structure):
     ]
 
 
+class PeerSettings(ctypes.Structure):
+    _fields_ = [
+        ("qpack_max_table_capacity", c_uint64),
+        ("max_field_section_size", c_uint64),
+        ("qpack_blocked_streams", c_uint64),
+        ("webtransport_max_sessions", c_uint64),
+        ("wt_max_sessions", c_uint64),
+        ("enable_connect_protocol", c_uint8),
+        ("h3_datagram", c_uint8),
+        ("enable_webtransport", c_uint8),
+        ("came", c_uint8),
+        ("reserved_half", c_uint32),
+        ("reserved", c_uint64 * 2),
+    ]
+
+
+class Hold(ctypes.Structure):
+    _fields_ = [
+        ("start", c_size_t),
+        ("end", c_size_t),
+        ("taken", c_size_t),
+        ("fin", c_uint8),
+        ("in_array", c_uint8),
+        ("reserved", c_uint8 * 6),
+    ]
+
+
+class RequestBudget(ctypes.Structure):
+    _fields_ = [("excess", c_uint64), ("answers", c_uint64), ("resets", c_uint64)]
+
+
 # The structs of the header by their names there.
 STRUCTS = {
     "wt_stream_header": StreamHeader,
@@ -185,6 +217,9 @@ STRUCTS = {
     "wt_connection": Connection,
     "wt_stream": Stream,
     "wt_event": Event,
+    "wt_peer_settings": PeerSettings,
+    "wt_hold": Hold,
+    "wt_request_budget": RequestBudget,
 }
 
 SIZE, U32, U64 = POINTER(c_size_t), POINTER(c_uint32), POINTER(c_uint64)
@@ -198,6 +233,10 @@ BYTES, FIELDS, SETTINGS = (
 OUT = [c_char_p, c_size_t, SIZE]
 
 CONNECTION, STREAM, EVENT = POINTER(Connection), POINTER(Stream), POINTER(Event)
+PEER, HOLD, BUDGET = POINTER(PeerSettings), POINTER(Hold), POINTER(RequestBudget)
+# The memory and the input of a call that reads a stream, and what it gives.
+RECEIVES = [CONNECTION, STREAM, *BYTES, *BYTES]
+GIVES = [*BYTES, c_uint8, EVENT, *FIELDS, *BYTES]
 
 # The arguments of each call.
 ARGUMENTS = {
@@ -234,10 +273,14 @@ ARGUMENTS = {
     "wt_connection_new": [c_uint32, POINTER(Endpoint), CONNECTION],
     "wt_connection_allows_sessions": [CONNECTION],
     "wt_connection_unprocessed": [CONNECTION, c_uint64],
+    "wt_connection_settings": [CONNECTION, PEER],
+    "wt_connection_resuming": [c_uint32, POINTER(Endpoint), PEER, CONNECTION],
+    "wt_early_data_refused": [CONNECTION],
     "wt_stream_accept": [CONNECTION, c_uint64, STREAM],
     "wt_stream_of_request": [CONNECTION, c_uint32, STREAM],
     "wt_stream_of_session": [c_uint64, STREAM],
-    "wt_receive": [CONNECTION, STREAM, *BYTES, *BYTES, *BYTES, c_uint8, EVENT, *FIELDS, *BYTES],
+    "wt_receive": [*RECEIVES, *GIVES],
+    "wt_receive_pushed": [*RECEIVES, HOLD, *BYTES, *GIVES],
     "wt_stream_answer": [STREAM, c_uint32],
     "wt_session_known": [CONNECTION, c_uint64, STREAM, c_size_t, U32],
     "wt_stream_join": [CONNECTION, STREAM, c_uint32, EVENT],
@@ -250,6 +293,9 @@ ARGUMENTS = {
     "wt_stopped": [CONNECTION, c_uint32, U64],
     "wt_datagram_receive": [CONNECTION, *BYTES, EVENT],
     "wt_datagram_use": [c_uint32],
+    "wt_goaway_write": [c_uint8, c_uint64, U64, *OUT],
+    "wt_request_answered": [BUDGET],
+    "wt_request_reset": [BUDGET, U64],
     "wt_code_name": [c_uint64, *OUT],
     "wt_code_scope": [c_uint64],
     "wt_application_code_to_http3": [c_uint32],

@@ -176,6 +176,39 @@ static int receive_capsule(void) {
   return answer;
 }
 
+/* A request whose first bytes are held: after WT_MEMORY they still are. */
+static int receive_pushed(void) {
+  static const wt_endpoint server = {WT_SIDE_SERVER, 0, 0, 1, 4096, 4096, 100, {0, 0, 0, 0, 0}};
+  static wt_hold none;
+  wt_hold hold = none;
+  wt_connection c;
+  wt_stream stream;
+  wt_event event;
+  wt_field fields[8];
+  uint8_t room[256], out[128];
+  size_t size, at = 3;
+  const uint8_t *frame = request_frame(&size);
+  long k = left;
+  int answer, turn;
+  left = -1;
+  if (wt_connection_new(WT_ABI, &server, &c) != WT_OK || wt_stream_accept(&c, 0, &stream) != WT_OK)
+    return WT_INVALID;
+  for (turn = 0; turn < 2; turn++)
+    if (wt_receive_pushed(&c, &stream, NULL, 0, NULL, 0, &hold, room, sizeof room, frame, at, 0,
+                          &event, fields, 8, out, sizeof out) != WT_OK)
+      return WT_INVALID;
+  left = k;
+  answer = wt_receive_pushed(&c, &stream, NULL, 0, NULL, 0, &hold, room, sizeof room, frame + at,
+                             size - at, 0, &event, fields, 8, out, sizeof out);
+  left = -1;
+  if (answer != WT_MEMORY) return answer;
+  if (hold.end - hold.start != at || memcmp(room + hold.start, frame, at) != 0) return WT_INVALID;
+  if (wt_receive_pushed(&c, &stream, NULL, 0, NULL, 0, &hold, room, sizeof room, frame + at,
+                        size - at, 0, &event, fields, 8, out, sizeof out) != WT_OK)
+    return WT_INVALID;
+  return event.kind == WT_EVENT_HEADERS && event.fields == 5 ? WT_MEMORY : WT_INVALID;
+}
+
 static void refuse(const char *name, int (*call)(void)) {
   for (long k = 0; k < 200; k++) {
     int answer;
@@ -212,6 +245,7 @@ int main(void) {
   refuse("wt_close_write", write_close);
   refuse("wt_receive of a request", receive_request);
   refuse("wt_receive of a capsule", receive_capsule);
+  refuse("wt_receive_pushed", receive_pushed);
   printf("%lu passed, %lu failed\n", passed, failed);
   return failed > 0;
 }

@@ -40,4 +40,6 @@ void test_closes(void);
 void test_connection_rows(void);
 void test_connection_calls(void);
 void test_connection_words(void);
+void test_connection_pushes(void);
+void test_connection_peer(void);
 #endif

@@ -29,6 +29,8 @@ int main(void) {
   test_connection_rows();
   test_connection_calls();
   test_connection_words();
+  test_connection_pushes();
+  test_connection_peer();
   printf("%lu passed, %lu failed\n", passed, failed);
   return failed > 0;
 }

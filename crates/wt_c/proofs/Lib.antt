@@ -13,3 +13,5 @@ pub mod LimitLemmas
 pub mod BesideLemmas
 pub mod BlankLemmas
 pub mod ReceivingLemmas
+pub mod PeerLemmas
+pub mod PushingLemmas

@@ -16,3 +16,7 @@ pub mod Connections
 pub mod ConnectionEvents
 pub mod ConnectionCalls
 pub mod Changes
+pub mod ControlSending
+pub mod RequestBudgets
+pub mod PeerSettings
+pub mod Pushing

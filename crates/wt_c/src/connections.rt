@@ -7,8 +7,13 @@ ghost use Rattle.wtp_webtransport.specs.Streams.{connection_of, is_unprocessed_b
 ghost use Rattle.wt_c.specs.Connections.{side_with, endpoint_of, IsEndpoint, connection_with, with_connection, HasConnection, IsNoConnection, Says};
 
 pub mod beside;
+pub mod budget;
 pub mod changes;
+pub mod control;
 pub mod events;
+pub mod hold;
+pub mod peer;
+pub mod pushing;
 pub mod receiving;
 pub mod sessions;
 pub mod streams;
@@ -66,7 +71,7 @@ pub struct WtConnection {
 
 impl WtConnection {
     // Creates the struct of a connection with these limits.
-    fn of(connection: &Connection, max_fields: u64, max_datagram: u64) -> Self
+    pub(crate) fn of(connection: &Connection, max_fields: u64, max_datagram: u64) -> Self
         ensures { result ≡ connection_with connection.now max_fields max_datagram }
     {
         WtConnection {
@@ -98,7 +103,7 @@ impl WtConnection {
 
 impl WtEndpoint {
     // Returns whether this is a struct of this version.
-    fn is_valid(&self) -> bool
+    pub(crate) fn is_valid(&self) -> bool
         ensures { MatchBool result (IsEndpoint self.now) (¬ (IsEndpoint self.now)) }
     {
         self.side <= 1
@@ -110,7 +115,7 @@ impl WtEndpoint {
     }
 
     // Returns the endpoint.
-    fn endpoint(&self) -> Endpoint
+    pub(crate) fn endpoint(&self) -> Endpoint
         ensures { result ≡ endpoint_of self.now }
     {
         Endpoint {

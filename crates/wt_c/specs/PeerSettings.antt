@@ -1,0 +1,51 @@
+-- The settings of the peer in a struct of C (RFC 9114, section 7.2.4.1): 1 and 0 for what is
+-- supported and is not, and the largest number of 64 bits for no limit.
+use Rattle.std.specs.Prelude.{◌≡◌, ℕ, ◌≤◌, ◌==◌, ◌^◌, ◌-◌, not, if◌then◌else◌, Option, Some, None, replicate}
+use Rattle.wtp_frames.specs.Words.{flag_number}
+use Rattle.wtp_connection.specs.declared.settings.PeerSettings.{PeerSettings}
+use Rattle.wt_c.specs.declared.connections.peer.WtPeerSettings.{WtPeerSettings}
+
+abbrev pub limit_number : Option ℕ → ℕ
+limit_number None = 2 ^ 64 - 1
+limit_number (Some n) = n
+
+abbrev pub limit_at : ℕ → Option ℕ
+limit_at n = if n == 2 ^ 64 - 1 then None else Some n
+
+-- the struct of these settings, and whether they came
+abbrev pub peer_with : PeerSettings → ℕ → WtPeerSettings
+peer_with v came = record {
+  qpack_max_table_capacity = v.qpack_max_table_capacity;
+  max_field_section_size = limit_number v.max_field_section_size;
+  qpack_blocked_streams = v.qpack_blocked_streams;
+  webtransport_max_sessions = v.webtransport_max_sessions;
+  wt_max_sessions = v.wt_max_sessions;
+  enable_connect_protocol = flag_number v.enable_connect_protocol;
+  h3_datagram = flag_number v.h3_datagram;
+  enable_webtransport = flag_number v.enable_webtransport;
+  came = came;
+  reserved_half = 0;
+  reserved = replicate 2 0;
+}
+
+-- the settings of the struct
+abbrev pub peer_at : WtPeerSettings → PeerSettings
+peer_at w = record {
+  qpack_max_table_capacity = w.qpack_max_table_capacity;
+  max_field_section_size = limit_at w.max_field_section_size;
+  qpack_blocked_streams = w.qpack_blocked_streams;
+  enable_connect_protocol = not (w.enable_connect_protocol == 0);
+  h3_datagram = not (w.h3_datagram == 0);
+  enable_webtransport = not (w.enable_webtransport == 0);
+  webtransport_max_sessions = w.webtransport_max_sessions;
+  wt_max_sessions = w.wt_max_sessions;
+}
+
+-- a struct of this version
+pub record IsPeer (w : WtPeerSettings) : Type 0 where
+  pub connect : w.enable_connect_protocol ≤ 1
+  pub datagram : w.h3_datagram ≤ 1
+  pub webtransport : w.enable_webtransport ≤ 1
+  pub came : w.came ≤ 1
+  pub half : w.reserved_half ≡ 0
+  pub words : w.reserved ≡ replicate 2 0
