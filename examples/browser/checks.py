@@ -1,8 +1,9 @@
 """Asserts what browsers, clients, load and peers with faults see of a server.
 
-    checks.py PORT PID OUT FRAMES BROWSER...
+    checks.py PORT PID OUT FRAMES PROXY BROWSER...
 
-PORT and PID are the server's, OUT has its certificate and its log, FRAMES is the program wt_frames.
+PORT and PID are the server's, OUT has its certificate and its log, FRAMES is the program wt_frames,
+and PROXY the port of a proxy that drops, delays and reorders packets for the server.
 Each browser is opened on the test page. Ends with 'N passed, M failed'.
 """
 from __future__ import annotations
@@ -15,6 +16,7 @@ import browsers
 import faults
 import limits
 import load
+import loss
 import rules
 from client import client_of, log_of, number, settle
 
@@ -67,6 +69,15 @@ async def check_load(report: Report, port: int, pid: int) -> None:
             f"KiB after each 100 sessions: {sizes}",
         )
     print(f"      {seconds:.1f} s, datagrams sent again: {again}")
+
+
+async def check_loss(report: Report, port: int, proxy: int) -> None:
+    closed, came, server_closed, server_came, left = await loss.run(port, proxy)
+    sessions = loss.CONNECTIONS * loss.SESSIONS
+    report.check("loss: sessions closed", (closed, server_closed), (sessions, sessions))
+    streams = sessions * loss.STREAMS
+    report.check("loss: streams echoed", (came, server_came), (streams, streams))
+    report.check("loss: sessions, streams and readers that are left", left, [0, 0, 0])
 
 
 async def check_faults(report: Report, port: int, frames: str) -> None:
@@ -135,12 +146,13 @@ def check_rest(report: Report, port: int, log_file: str) -> None:
 
 
 def main() -> None:
-    port, pid, out, frames, *names = sys.argv[1:]
-    port, pid, report = int(port), int(pid), Report()
+    out, frames, proxy, *names = sys.argv[3:]
+    port, pid, report = int(sys.argv[1]), int(sys.argv[2]), Report()
     for name in names:
         browsers.check(report, name, port, out)
     asyncio.run(check_sessions(report, port))
     asyncio.run(check_load(report, port, pid))
+    asyncio.run(check_loss(report, port, int(proxy)))
     asyncio.run(check_limits(report, port))
     asyncio.run(check_faults(report, port, frames))
     asyncio.run(check_rules(report, port))
