@@ -3,13 +3,19 @@
 The page does one thing for each row and reports what it saw. A browser that cannot do a row has it
 in LEFT_OUT, with the reason.
 """
+from __future__ import annotations
+
 import contextlib
 import os
 import subprocess
 import tempfile
 import time
+from typing import TYPE_CHECKING, Iterator
 
 from client import ask, log_of
+
+if TYPE_CHECKING:
+    from checks import Report
 
 HERE = os.path.dirname(os.path.abspath(__file__))
 SIZES = (0, 1, 4096, 100_000)
@@ -32,7 +38,7 @@ LEFT_OUT = {  # by the name of the row: why
 }
 
 
-def page_rows(page):
+def page_rows(page: int) -> Iterator[tuple[str, object]]:
     """(name, what the page has to see). `page` is the size of the page that is fetched."""
     yield "session accepted", "ready"
     yield "denied with 404", "refused"
@@ -57,11 +63,11 @@ def page_rows(page):
     yield "fetch of what is not there", [404, 10, "h3"]
 
 
-def server_rows(log):
+def server_rows(log: dict) -> Iterator[tuple[str, object, object]]:
     """(name, what the server saw, what it has to see) while the browser was there."""
     rows = log["rows"]
 
-    def values(path, what):
+    def values(path: str, what: str) -> list[list]:
         return [row[2:] for row in rows if row[:2] == [path, what]]
 
     yield "codes of resets that came", values("/echo", "reset"), [[code] for code in PAGE_CODES]
@@ -81,7 +87,7 @@ def server_rows(log):
 
 
 @contextlib.contextmanager
-def opened(browser, port, out):
+def opened(browser: str, port: int, out: str) -> Iterator[None]:
     """A browser on the test page, with a profile of its own. It is ended by its process ID."""
     with tempfile.TemporaryDirectory(ignore_cleanup_errors=True) as profile, open(
         os.path.join(out, browser + ".log"), "wb"
@@ -98,7 +104,7 @@ def opened(browser, port, out):
                     process.kill()
 
 
-def check(report, browser, port, out):
+def check(report: Report, browser: str, port: int, out: str) -> None:
     """Opens a browser, waits for its rows, and asserts them and what the server saw."""
     ask(port, "/clear", b"")
     with opened(browser, port, out):

@@ -1,10 +1,13 @@
 """Asserts what browsers, clients, load and peers with faults see of a server.
 
-    checks.py PORT PID OUT FRAMES BROWSER...
+    checks.py PORT PID OUT FRAMES PROXY BROWSER...
 
-PORT and PID are the server's, OUT has its certificate and its log, FRAMES is the program wt_frames.
+PORT and PID are the server's, OUT has its certificate and its log, FRAMES is the program wt_frames,
+and PROXY the port of a proxy that drops, delays and reorders packets for the server.
 Each browser is opened on the test page. Ends with 'N passed, M failed'.
 """
+from __future__ import annotations
+
 import asyncio
 import os
 import sys
@@ -13,6 +16,7 @@ import browsers
 import faults
 import limits
 import load
+import loss
 import rules
 from client import client_of, log_of, number, settle
 
@@ -23,23 +27,23 @@ HEAP_GROWTH = 16  # KiB that its heap may grow by, from when it is smallest
 class Report:
     """Counts what was checked."""
 
-    def __init__(self):
+    def __init__(self) -> None:
         self.passed = self.failed = self.left_out = 0
 
-    def check(self, name, saw, wanted):
+    def check(self, name: str, saw: object, wanted: object) -> None:
         holds = saw == wanted
         self.expect(name, holds, f"{saw!r}" if holds else f"{saw!r} and not {wanted!r}")
 
-    def expect(self, name, holds, saw):
+    def expect(self, name: str, holds: bool, saw: str) -> None:
         self.passed, self.failed = self.passed + bool(holds), self.failed + (not holds)
         print(f"{'ok  ' if holds else 'FAIL'}  {name}: {saw}", flush=True)
 
-    def leave_out(self, name, reason):
+    def leave_out(self, name: str, reason: str) -> None:
         self.left_out += 1
         print(f"left  {name}: {reason}", flush=True)
 
 
-async def check_load(report, port, pid):
+async def check_load(report: Report, port: int, pid: int) -> None:
     closed, echoed, datagrams, again, seconds, left, memory, heap = await load.run(port, pid)
     sessions = load.CONNECTIONS * load.SESSIONS
     report.check("load: sessions closed", closed, sessions)
@@ -67,7 +71,16 @@ async def check_load(report, port, pid):
     print(f"      {seconds:.1f} s, datagrams sent again: {again}")
 
 
-async def check_faults(report, port, frames):
+async def check_loss(report: Report, port: int, proxy: int) -> None:
+    closed, came, server_closed, server_came, left = await loss.run(port, proxy)
+    sessions = loss.CONNECTIONS * loss.SESSIONS
+    report.check("loss: sessions closed", (closed, server_closed), (sessions, sessions))
+    streams = sessions * loss.STREAMS
+    report.check("loss: streams echoed", (came, server_came), (streams, streams))
+    report.check("loss: sessions, streams and readers that are left", left, [0, 0, 0])
+
+
+async def check_faults(report: Report, port: int, frames: str) -> None:
     async with client_of(port) as bystander:
         session = await bystander.open_session(b"/echo")
         for row in faults.ROWS:
@@ -83,7 +96,7 @@ async def check_faults(report, port, frames):
         report.check("fault: a session of another connection goes on", goes_on, True)
 
 
-async def check_rules(report, port):
+async def check_rules(report: Report, port: int) -> None:
     for row in rules.FAULTS:
         wanted = ("stream" if row.ends_stream else "connection", row.code)
         report.check("rule: " + row.name, await faults.answer(port, row), wanted)
@@ -91,7 +104,7 @@ async def check_rules(report, port):
         report.check("rule: " + name, await action(port), wanted)
 
 
-async def check_limits(report, port):
+async def check_limits(report: Report, port: int) -> None:
     async with client_of(port) as bystander:
         session = await bystander.open_session(b"/echo")
         for name, action, wanted in limits.ROWS:
@@ -100,7 +113,7 @@ async def check_limits(report, port):
         report.check("limit: a session of another connection goes on", goes_on, True)
 
 
-async def check_sessions(report, port):
+async def check_sessions(report: Report, port: int) -> None:
     """What Chromium does not do: several sessions on one connection, GREASE streams, a stream that
     comes before its session, an empty datagram that comes back."""
     before = log_of(port)["counts"].get("reserved stream", 0)
@@ -119,7 +132,7 @@ async def check_sessions(report, port):
     report.check("client: GREASE survived, streams", streams, 1)
 
 
-def check_rest(report, port, log_file):
+def check_rest(report: Report, port: int, log_file: str) -> None:
     """What the server still holds when all clients are gone."""
     log = settle(port)
     report.check(
@@ -132,13 +145,14 @@ def check_rest(report, port, log_file):
     report.check("end: most undecided bytes of a frame", log["undecided"], limits.FRAME)
 
 
-def main():
-    port, pid, out, frames, *names = sys.argv[1:]
-    port, pid, report = int(port), int(pid), Report()
+def main() -> None:
+    out, frames, proxy, *names = sys.argv[3:]
+    port, pid, report = int(sys.argv[1]), int(sys.argv[2]), Report()
     for name in names:
         browsers.check(report, name, port, out)
     asyncio.run(check_sessions(report, port))
     asyncio.run(check_load(report, port, pid))
+    asyncio.run(check_loss(report, port, int(proxy)))
     asyncio.run(check_limits(report, port))
     asyncio.run(check_faults(report, port, frames))
     asyncio.run(check_rules(report, port))

@@ -4,10 +4,13 @@ The codes are those that RFC 9114, RFC 9204, RFC 9297 and draft-ietf-webtrans-ht
 the fault is one of frames alone, the same bytes are given to the program wt_frames, which names the
 code too: with its arguments in `listing`.
 """
+from __future__ import annotations
+
 import subprocess
 from dataclasses import dataclass
 
-from client import SETTINGS, client_of, frame, number, section, session_lines, session_request
+from client import SETTINGS, Client, client_of, frame, number, section, session_lines
+from client import session_request
 
 BI, UNI, CONTROL = "bidirectional", "unidirectional", "control"
 SESSION, DATAGRAM = "session", "datagram"
@@ -22,16 +25,16 @@ class Row:
     kind: str
     data: bytes
     code: int
-    listing: tuple = None
+    listing: tuple[str, str] | None = None
     end: bool = False
     ends_stream: bool = False
 
 
-def settings(*pairs):
+def settings(*pairs: tuple[int, int]) -> bytes:
     return frame(0x04, b"".join(number(n) + number(v) for n, v in pairs))
 
 
-def without(name):
+def without(name: bytes) -> bytes:
     """A session's request without one of its lines."""
     return frame(0x01, section(*(line for line in session_lines(b"/echo") if line[0] != name)))
 
@@ -108,7 +111,7 @@ LISTED = [
 ]
 
 
-def listed(program, row):
+def listed(program: str, row: Row) -> int | None:
     """The code that wt_frames names for these bytes, or None."""
     data = (REQUEST if row.kind == SESSION else b"") + row.data
     done = subprocess.run([program, *row.listing], input=data, capture_output=True, check=False)
@@ -116,7 +119,7 @@ def listed(program, row):
     return int(last[2]) if last[0] == "FAULT" else None
 
 
-async def provoke(client, row):
+async def provoke(client: Client, row: Row) -> int | None:
     """Sends the bytes of a row; returns the number of the stream that has the fault."""
     if row.kind == CONTROL:
         return client.open(b"\x00" + row.data, row.end, one_way=True)
@@ -132,7 +135,7 @@ async def provoke(client, row):
     return client.open(number(0x41) + number(session) + b"late")
 
 
-async def answer(port, row):
+async def answer(port: int, row: Row) -> tuple:
     """('connection' or 'stream', code, others go on): what the server did about a row."""
     async with client_of(port, b"" if row.kind == CONTROL else SETTINGS) as client:
         neighbour = await client.open_session(b"/echo") if row.ends_stream else None
@@ -150,7 +153,7 @@ async def answer(port, row):
         return ("stream" if goes_on else "stream, and others do not go on"), *sorted(codes)
 
 
-async def endless_frame(port):
+async def endless_frame(port: int) -> str:
     """An unknown frame of 2^40 bytes, of which a megabyte comes: whether the server keeps the
     connection, answers a session beside it, and goes on when the stream is reset."""
     async with client_of(port) as client:

@@ -5,10 +5,12 @@ it served that stream. Numbers are in their widest form (RFC 9000, section 16), 
 byte of a frame or capsule comes after as many as there can be. What is beyond a limit is in
 faults.py.
 """
+from __future__ import annotations
+
 import asyncio
 import time
 
-from client import client_of, frame, log_of, number, section, session_lines
+from client import Client, client_of, frame, log_of, number, section, session_lines
 
 PAYLOAD = 4096  # the most bytes of a frame's payload
 VALUE = 1028  # the most bytes of a close capsule's value: a code and a reason
@@ -19,17 +21,17 @@ REJECTED = 0x3994BD84  # BUFFERED_STREAM_REJECTED of draft-ietf-webtrans-http3-0
 PATIENCE = 10  # seconds
 
 
-def wide(value):
+def wide(value: int) -> bytes:
     """A variable-length integer in 8 bytes."""
     return (3 << 62 | value).to_bytes(8, "big")
 
 
-def wide_frame(kind, payload):
+def wide_frame(kind: int, payload: bytes) -> bytes:
     """A frame, or a capsule, with 16 bytes before its payload."""
     return wide(kind) + wide(len(payload)) + payload
 
 
-async def held(port, wanted):
+async def held(port: int, wanted: int) -> int | None:
     """Waits until the server holds so many bytes of a stream; returns how many it does hold."""
     deadline, saw = time.monotonic() + PATIENCE, None
     while saw != wanted and time.monotonic() < deadline:
@@ -38,7 +40,7 @@ async def held(port, wanted):
     return saw
 
 
-async def send_in_pieces(client, stream, data):
+async def send_in_pieces(client: Client, stream: int, data: bytes) -> None:
     """Sends bytes in pieces, each in a packet of its own: the first twenty of a byte each."""
     cuts = [*range(20), *range(20, len(data), 700), len(data)]
     for start, stop in zip(cuts, cuts[1:]):
@@ -46,7 +48,7 @@ async def send_in_pieces(client, stream, data):
         await asyncio.sleep(0.002)
 
 
-async def long_request(port):
+async def long_request(port: int) -> tuple[int | None, bool]:
     """A HEADERS frame that requests a session."""
     lines = session_lines(b"/echo")
     spare = PAYLOAD - len(section(*lines, (b"x-filler", b"f" * 3000)))
@@ -59,14 +61,14 @@ async def long_request(port):
         return saw, await client.echoes(session, b"after a long request")
 
 
-async def long_settings(port):
+async def long_settings(port: int) -> tuple[int | None, bool]:
     """A SETTINGS frame: H3_DATAGRAM and ENABLE_WEBTRANSPORT, one setting that is reserved for
     exercise, which the server counts, and others that are unknown to it."""
     unknown = [n for n in range(0x10000, 0x10200) if (n - 0x21) % 0x1F != 0]
     names = [0x33, 0x2B603742, 0x21 + 0x1F * 500, *unknown][: PAYLOAD // 16]
     settings = wide_frame(0x04, b"".join(wide(name) + wide(1) for name in names))
 
-    def count():
+    def count() -> int:
         return log_of(port)["counts"].get("reserved setting", 0)
 
     before = count()
@@ -79,7 +81,7 @@ async def long_settings(port):
         return saw, goes_on and (early, count() - before) == (0, 1)
 
 
-async def long_close(port):
+async def long_close(port: int) -> tuple[int | None, bool]:
     """A close capsule in two DATA frames, and between them another frame."""
     reason, path = b"r" * (VALUE - 4), "/echo?long-close"
     capsule, other = wide_frame(0x2843, bytes(4) + reason), wide_frame(0x21, bytes(PAYLOAD))
@@ -93,7 +95,7 @@ async def long_close(port):
     return saw, closed == [[0, reason.decode()]]
 
 
-async def early_stream(port):
+async def early_stream(port: int) -> tuple[int | None, bool]:
     """A stream of a session whose request comes later."""
     text = bytes(i % 251 for i in range(FRAME))
     async with client_of(port) as client:
@@ -106,7 +108,7 @@ async def early_stream(port):
         return saw, client.stream(stream).data == text
 
 
-async def early_streams(port):
+async def early_streams(port: int) -> tuple[int | None, bool]:
     """Streams of a session whose request comes later: one more than may wait is rejected."""
     async with client_of(port) as client:
         head = number(0x41) + number(4 * (STREAMS + 1))

@@ -1,20 +1,22 @@
 """1,000 sessions and 10,000 streams of one client after another, and what they cost the server."""
+from __future__ import annotations
+
 import asyncio
 import time
 
-from client import ask, client_of, close_capsule, log_of, number, settle
+from client import Client, ask, client_of, close_capsule, log_of, number, settle
 
 CONNECTIONS, SESSIONS, STREAMS = 10, 100, 10  # sessions on each connection, streams in each session
 AT_ONCE = 10  # sessions at the same time
 
 
-def resident(pid):
+def resident(pid: int) -> int:
     """The memory of a process, in KiB."""
     with open(f"/proc/{pid}/status", encoding="ascii") as file:
         return next(int(line.split()[1]) for line in file if line.startswith("VmRSS:"))
 
 
-async def use_session(client, name):
+async def use_session(client: Client, name: str) -> tuple[bool, int, bool, int]:
     """One session: streams both ways and one way, a datagram, the close. Returns what came back:
     whether the close did, the streams, the datagram, and how often that was sent again."""
     session = await client.open_session(b"/echo?load")
@@ -38,7 +40,7 @@ async def use_session(client, name):
     return is_closed, sum(came), client.datagrams.pop(datagram, 0) > 0, again
 
 
-async def run(port, pid):
+async def run(port: int, pid: int) -> tuple:
     """Runs all; returns the counts, the seconds, and for each connection: the sessions, streams and
     readers that the server has when all sessions are closed, and its memory in KiB and the bytes of
     its heap when the connection is."""

@@ -170,6 +170,15 @@ async def long_content(port: int) -> bool:
         return client.stream(stream).data.endswith(ask(port, "/"))
 
 
+async def head(port: int) -> bool:
+    """Whether the answer to a request with HEAD is HEADERS alone (RFC 9110, section 9.3.2)."""
+    async with client_of(port) as client:
+        request = frame(0x01, section((b":method", b"HEAD"), *LINES[1:]))
+        stream = client.stream(client.open(request, end=True))
+        await client.until(lambda: stream.is_ended)
+        return stream.data[:1] == b"\x01" and len(stream.data) == 2 + stream.data[1]
+
+
 async def long_capsule(port: int) -> bool:
     """An unknown capsule of 6,000 bytes in one DATA frame, and then one with a datagram."""
     async with client_of(port) as client:
@@ -293,6 +302,7 @@ ROWS: list[tuple[str, Action, object]] = [
     ("a request that is reset within its HEADERS", reset_before_headers, (INCOMPLETE, True)),
     ("a session whose stream is reset", lost_session, (GONE, [[None, ""]])),
     ("content of 100,000 bytes in one frame", long_content, True),
+    ("HEAD", head, True),
     ("an unknown capsule of 6,000 bytes, and a DATAGRAM capsule", long_capsule, True),
     ("GOAWAY twice with one ID", partial(goes_on, start=GOAWAY_TWICE), True),
     ("a stream cancellation", partial(goes_on, start=SETTINGS, data=b"\x03\x4c"), True),

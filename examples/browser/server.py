@@ -73,6 +73,11 @@ def pattern(size: int) -> bytes:
     return bytes(i * 7 % 251 for i in range(size))
 
 
+def command(session: Session) -> str:
+    """What a session does: the path of its URL."""
+    return session.path.split("?")[0]
+
+
 class Log:
     """What the server saw, for a test: rows of sessions, and for those of a load only counts."""
 
@@ -148,17 +153,16 @@ class Site(Application):
         return 200, [(b"content-type", b"text/html; charset=utf-8"), *shared], page
 
     def session(self, session: Session, fields: Fields) -> int:
-        session.command = session.path.split("?")[0]
-        status = 200 if session.command in ("/echo", "/commands", "/push") else 404
-        if session.command in ("/deny/403", "/deny/404"):
-            status = int(session.command[-3:])
+        status = 200 if command(session) in ("/echo", "/commands", "/push") else 404
+        if command(session) in ("/deny/403", "/deny/404"):
+            status = int(command(session)[-3:])
         if status != 200:
             self.log.add(session, "denied", status)
         return status
 
     def opened(self, session: Session) -> None:
         self.log.add(session, "opened", session.connection.serial)
-        if session.command == "/push":
+        if command(session) == "/push":
             for size in SIZES if session.path == "/push" else (0,):
                 stream = session.open_stream(bidirectional=True)
                 self.pushed[stream] = [pattern(size), b""]
@@ -169,7 +173,7 @@ class Site(Application):
         session = stream.session
         if stream in self.pushed:
             self._check_pushed(stream, data, end)
-        elif session.command == "/commands":
+        elif command(session) == "/commands":
             self._obey(stream, data.decode())
         elif stream.is_bidirectional:
             stream.send(data, end)

@@ -131,9 +131,7 @@ class Stream:
             case EventKind.END if self.session:
                 self.connection.application.received(self, b"", True)
             case EventKind.END if self.fields:
-                status, fields, content = self.connection.application.request(self.fields)
-                head = wtransport.write_response(status, fields)
-                self.send(head + wtransport.write_data(content), True)
+                self._respond(*self.connection.application.request(self.fields))
             case EventKind.RESET if self.session:
                 self.connection.application.was_reset(self, wtransport.to_application(code))
             case EventKind.RESET:
@@ -154,6 +152,12 @@ class Stream:
             self.abort(c.H3_REQUEST_CANCELLED)
         elif purpose == Purpose.IGNORED:
             self._stop(c.H3_STREAM_CREATION_ERROR)
+
+    def _respond(self, status: int, fields: Fields, content: bytes) -> None:
+        """Answers a request; one with HEAD without the content (RFC 9110, section 9.3.2)."""
+        is_head = (b":method", b"HEAD") in self.fields
+        data = b"" if is_head else wtransport.write_data(content)
+        self.send(wtransport.write_response(status, fields) + data, True)
 
     def _answer(self, fields: Fields) -> None:
         """Answers the request for a session."""
