@@ -80,7 +80,8 @@ impl Streams {
 
     /// Returns a stream whose session is over: both halves of it are to be reset and stopped with
     /// WEBTRANSPORT_SESSION_GONE (draft-ietf-webtrans-http3-02, section 5). It is read no further. Each
-    /// such stream is returned once, the one with the lowest ID first.
+    /// such stream is returned once, the one with the lowest ID first. Call it until `None` after a session
+    /// ended: it looks at all streams.
     pub fn next_to_reset(&mut self) -> Option<u64>
         ensures id { result ≡ first_cut_is (table_of self.old) }
         ensures table { table_of self.new ≡ cuts_in (table_of self.old) result }
