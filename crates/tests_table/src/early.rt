@@ -97,7 +97,10 @@ fn refused_memory_registers_nothing(rt: HostRuntime) {
         if streams.accept(6).is_ok() {
             break;
         }
-        assert!(rt; streams.receive(6, &[], false).is_none(), "there is no stream");
+        assert!(rt;
+            streams.receive(6, &[], false).is_none(),
+            "there is no stream"
+        );
     }
     let waits = read(&mut streams, 6, EARLY.as_slice());
     assert!(rt; waits == (3, 0), "the stream is registered by a later call");

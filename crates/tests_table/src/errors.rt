@@ -44,7 +44,10 @@ fn errors_of_the_peer_have_their_codes(rt: HostRuntime) {
     };
     assert!(rt; by_question, "a capsule that is invalid ends its stream");
     let settings = Error::from(StreamsFault::Settings);
-    assert!(rt; ends_connection(settings, 0x0109), "SETTINGS that are invalid");
+    assert!(rt;
+        ends_connection(settings, 0x0109),
+        "SETTINGS that are invalid"
+    );
     let frame = Error::from(FramesFault::FrameUnexpected);
     assert!(rt; ends_connection(frame, 0x0105), "an unexpected frame");
     let incomplete = Error::from(FramesFault::RequestIncomplete);
@@ -54,7 +57,10 @@ fn errors_of_the_peer_have_their_codes(rt: HostRuntime) {
     let index = Error::from(DecodingError::IndexNotfound);
     assert!(rt; ends_connection(index, 0x0200), "an index without an entry");
     let section = Error::from(FieldSectionError::Decoding(DecodingError::UnexpectedFin));
-    assert!(rt; ends_connection(section, 0x0200), "a section that ends too early");
+    assert!(rt;
+        ends_connection(section, 0x0200),
+        "a section that ends too early"
+    );
     let method = Error::from(HeadersParseError::MissingMethod);
     assert!(rt; ends_stream(method, 0x010e), "a request without a method");
     let text = Error::from(ToHeadersError::NotUtf8);
@@ -72,5 +78,8 @@ fn other_errors_have_codes_of_this_endpoint(rt: HostRuntime) {
     let now = Error::from(SendError::Unexpected);
     assert!(rt; ends_stream(now, 0x0102), "what may not be sent now");
     assert!(rt; Error::from(AllocError) == Error::Memory, "memory");
-    assert!(rt; Error::from(SendError::Memory) == Error::Memory, "memory for what is sent");
+    assert!(rt;
+        Error::from(SendError::Memory) == Error::Memory,
+        "memory for what is sent"
+    );
 }

@@ -49,7 +49,10 @@ fn code_of(event: Option<Event<'_>>) -> u64 {
 #[test]
 fn an_early_stream_follows_its_session(rt: HostRuntime) -> Result<(), AllocError> {
     let mut streams = asked(rt.alloc())?;
-    assert!(rt; streams.next_to_read().is_none(), "the session is not answered");
+    assert!(rt;
+        streams.next_to_read().is_none(),
+        "the session is not answered"
+    );
     assert!(rt; action(&mut streams) == 1, "its datagrams are early");
     assert!(rt; streams.answer(0, 200), "it is accepted");
     assert!(rt; !streams.answer(0, 200), "it waits for no other answer");
@@ -63,7 +66,8 @@ fn an_early_stream_follows_its_session(rt: HostRuntime) -> Result<(), AllocError
     };
     assert!(rt; joined, "the early stream is joined");
     let data = match streams.receive(6, b"ab", false) {
-        Some(received) => received.consumed == 2 && matches!(received.event, Event::StreamData(b"ab")),
+        Some(received) => received.consumed == 2
+            && matches!(received.event, Event::StreamData(b"ab")),
         None => false,
     };
     assert!(rt; data, "its bytes follow");
@@ -79,10 +83,16 @@ fn streams_end_with_their_session(rt: HostRuntime) -> Result<(), AllocError> {
     assert!(rt; streams.next_to_reset().is_none(), "the session is open");
     let lost = matches!(streams.stop(0), Some(Event::SessionLost));
     assert!(rt; lost, "it ends when its own half is stopped");
-    assert!(rt; streams.next_to_reset() == Some(1), "a stream that was opened here ends");
+    assert!(rt;
+        streams.next_to_reset() == Some(1),
+        "a stream that was opened here ends"
+    );
     assert!(rt; streams.next_to_reset() == Some(6), "and one of the peer");
     assert!(rt; streams.next_to_reset().is_none(), "and no other one");
-    assert!(rt; read(&mut streams, 6, b"cd") == (2, 0), "nothing more is read of it");
+    assert!(rt;
+        read(&mut streams, 6, b"cd") == (2, 0),
+        "nothing more is read of it"
+    );
     assert!(rt; action(&mut streams) == 2, "datagrams are dropped");
     streams.accept(10)?;
     let gone = read(&mut streams, 10, EARLY.as_slice());
@@ -95,7 +105,10 @@ fn a_refused_session_refuses_its_streams(rt: HostRuntime) -> Result<(), AllocErr
     let mut streams = asked(rt.alloc())?;
     assert!(rt; streams.answer(0, 404), "it is refused");
     assert!(rt; streams.next_to_read() == Some(0), "its own stream goes on");
-    assert!(rt; streams.next_to_read() == Some(6), "its stream waits no longer");
+    assert!(rt;
+        streams.next_to_read() == Some(6),
+        "its stream waits no longer"
+    );
     let refused = read(&mut streams, 6, b"ab");
     assert!(rt; refused == (2, 0x3994_bd84), "and is rejected");
     Ok(())
@@ -104,10 +117,22 @@ fn a_refused_session_refuses_its_streams(rt: HostRuntime) -> Result<(), AllocErr
 #[test]
 fn streams_end_before_their_last_byte(rt: HostRuntime) -> Result<(), AllocError> {
     let mut streams = asked(rt.alloc())?;
-    assert!(rt; code_of(streams.reject(0, Some(4))) == 0, "the request is before GOAWAY");
-    assert!(rt; code_of(streams.reject(0, Some(0))) == 0x010b, "and is not processed after it");
-    assert!(rt; code_of(streams.overflow(6)) == 0x3994_bd84, "too many bytes wait");
-    assert!(rt; matches!(streams.reset(6), Some(Event::More)), "the stream is over");
+    assert!(rt;
+        code_of(streams.reject(0, Some(4))) == 0,
+        "the request is before GOAWAY"
+    );
+    assert!(rt;
+        code_of(streams.reject(0, Some(0))) == 0x010b,
+        "and is not processed after it"
+    );
+    assert!(rt;
+        code_of(streams.overflow(6)) == 0x3994_bd84,
+        "too many bytes wait"
+    );
+    assert!(rt;
+        matches!(streams.reset(6), Some(Event::More)),
+        "the stream is over"
+    );
     streams.accept(4)?;
     let reset = matches!(streams.reset(4), Some(Event::Reset(Some(_))));
     assert!(rt; reset, "a request is reset before its HEADERS");
@@ -130,7 +155,10 @@ fn a_client_knows_its_sessions(rt: HostRuntime) -> Result<(), AllocError> {
     let waits = read(&mut streams, 3, EARLY.as_slice());
     assert!(rt; waits == (3, 0), "the session has no answer");
     streams.forget(0);
-    assert!(rt; streams.next_to_read() == Some(3), "the session is given up");
+    assert!(rt;
+        streams.next_to_read() == Some(3),
+        "the session is given up"
+    );
     let refused = read(&mut streams, 3, b"ab");
     assert!(rt; refused == (2, 0x3994_bd84), "its stream is rejected");
     streams.accept(7)?;
