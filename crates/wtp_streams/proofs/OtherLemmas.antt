@@ -1,5 +1,5 @@
 -- The other streams of a table after a call on one.
-use Rattle.std.proofs.Common.{◌≡◌, ◌≢◌, ℕ, ◌==◌, Bool, true, false, cond, List, [], ◌∷◌, length, Option, Some, None, refl, sym, ap, ◌∙◌}
+use Rattle.std.proofs.Common.{◌≡◌, ◌≢◌, ℕ, Bool, true, false, cond, List, [], ◌∷◌, length, Option, Some, None, refl, sym, ap, ◌∙◌}
 use Rattle.std.proofs.lemmas.Bool.{eqb-true, ne_eqb}
 use Rattle.std.specs.declared.cmp.Ordering.{Ordering}
 use Rattle.std.specs.declared.cmp.Ordering.TheVariants.{Less, Equal, Greater}
@@ -129,7 +129,8 @@ if_left : (x : Option (ℕ × Told)) (t : Table) (id len : ℕ) → IsLeft id t 
 if_left None t id len = λ k n. refl
 if_left (Some x) t id len = then_left x.1 t id x.0 len
 
-reads_left : (t : Table) (id : ℕ) (bytes : List ℕ) (fin : Bool) (r : Result) → ReadsIn t id bytes fin r → IsLeft id t r.1
+reads_left : (t : Table) (id : ℕ) (bytes : List ℕ) (fin : Bool) (r : Result) → ReadsIn t id bytes fin r
+    → IsLeft id t r.1
 reads_left t id bytes fin r g =
     result_left id t r (joined_if g.0.0 g.0.1 id (length bytes)) g.2
     (λ k n. if_left g.0.0 g.0.1 id (length bytes) k n ∙ next_left (entry_at t id) t id bytes fin g.0 g.1 k n)

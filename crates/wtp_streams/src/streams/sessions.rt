@@ -58,11 +58,11 @@ impl Streams {
     pub fn datagram<'a>(&mut self, bytes: &'a [u8]) -> Result<Option<Datagram<'a>>, Fault>
         ensures taken { MatchResult result
             (λ d. takes (table_of self.old).connection bytes.now
-                ≡ Ok (option_map (λ x. (x.session, x.payload.now)) d))
+            ≡ Ok (option_map (λ x. (x.session, x.payload.now)) d))
             (λ f. takes (table_of self.old).connection bytes.now ≡ Err f) }
         ensures action { MatchResult result
             (λ d. option_map (λ x. x.action) d
-                ≡ option_map (λ x. action_in (table_of self.new) x.session) d)
+            ≡ option_map (λ x. action_in (table_of self.new) x.session) d)
             (λ f. Unit {0}) }
         ensures table { table_of self.new ≡ with_connection (table_of self.old)
             (after_datagram (table_of self.old).connection bytes.now) }
