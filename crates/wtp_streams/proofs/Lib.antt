@@ -3,3 +3,4 @@ pub mod CallLemmas
 pub mod CountLemmas
 pub mod EndingLemmas
 pub mod OtherLemmas
+pub mod NamedLemmas

@@ -1,12 +1,13 @@
 //! Laws of the definitions that the contracts cite. Each function does nothing: its contract is the
 //! law.
-ghost use Rattle.std.specs.Prelude.{ℕ, Bool, List, Option, Some};
+ghost use Rattle.std.specs.Prelude.{◌≡◌, ℕ, Bool, false, List, Option, Some, None};
 ghost use Rattle.wtp_frames.specs.declared.endpoint.Endpoint.{Endpoint};
 ghost use Rattle.wtp_connection.specs.declared.stream.Purpose.{Purpose};
 ghost use Rattle.wtp_webtransport.specs.Joining.{after_datagram};
 ghost use Rattle.wtp_messages.specs.declared.response.Asked.{Asked};
+ghost use Rattle.wtp_streams.specs.declared.entry.Entry.{Entry};
 ghost use Rattle.wtp_streams.specs.declared.limits.Limits.{Limits};
-ghost use Rattle.wtp_streams.specs.Table.{Table, table_for, with_connection, IsCounted, IsLeft, named_by};
+ghost use Rattle.wtp_streams.specs.Table.{Table, table_for, with_connection, IsCounted, IsLeft, entry_at, first_cut, first_ready, is_cut, is_ready, named_by};
 ghost use Rattle.wtp_streams.specs.Calls.{accepts_in, opens_in, belongs_in, Result, ReceivesIn, forgets_in, resets_in, stops_in, abandons_in, overflows_in, rejects_in, stopped_in, answers_in, cuts_in};
 
 /// The connection counts exactly the streams of the table that wait for their sessions: none of a table
@@ -50,4 +51,15 @@ pub fn other_streams_are_left()
     ensures answer { (t : Table) (id status : ℕ) → IsLeft id t (answers_in t id status) }
     ensures cut { (t : Table) (id : ℕ) → IsLeft id t (cuts_in t (Some id)) }
     ensures name { (t : Table) (id : ℕ) → IsLeft id t (named_by t (Some id)) }
+{}
+
+/// No stream is left over: where [`next_to_read`](crate::streams::Streams::next_to_read) returns `None` no
+/// stream that waited is to be read again, and where
+/// [`next_to_reset`](crate::streams::Streams::next_to_reset) does no stream is joined with a session that is
+/// over.
+pub fn all_streams_are_named()
+    ensures read { (t : Table) → first_ready t ≡ None → (id : ℕ) (e : Entry) → entry_at t id ≡ Some e
+        → is_ready t e ≡ false }
+    ensures reset { (t : Table) → first_cut t ≡ None → (id : ℕ) (e : Entry) → entry_at t id ≡ Some e
+        → is_cut t e ≡ false }
 {}
