@@ -4,3 +4,9 @@
 
 #[cfg(test)]
 mod early;
+#[cfg(test)]
+mod errors;
+#[cfg(test)]
+mod playing;
+#[cfg(test)]
+mod sessions;

@@ -180,7 +180,8 @@ too_large_keeps _ c s size n = λ h. refl
 
 -- ---- field sections
 
-interim_keeps : (x : Joined) (c : Connection) (s : Stream) (status : ℕ) (fields : List Field) (start end : ℕ) (bytes : List ℕ)
+interim_keeps : (x : Joined) (c : Connection) (s : Stream) (status : ℕ) (fields : List Field) (start end : ℕ)
+    (bytes : List ℕ)
     → x.0.waiting + places s.frames ≡ c.streams.waiting + places x.1
     → Keeps c s (interim_by c s status fields (span_in start end bytes) x)
 interim_keeps (d, t, None) c s status fields start end bytes e = λ h. e
@@ -188,19 +189,22 @@ interim_keeps (d, t, Some f) c s status fields start end bytes e =
     fails_keeps c (with_streams c d) s (with_frames s t) (fault.Streams f) (length bytes) (λ h. e)
 
 -- a request, by whether SETTINGS came, and whether they allow sessions
-session_keeps : (came allowed : Bool) (c : Connection) (s : Stream) (m : Message) (fields : List Field) (start end : ℕ) (bytes : List ℕ)
+session_keeps : (came allowed : Bool) (c : Connection) (s : Stream) (m : Message) (fields : List Field)
+    (start end : ℕ) (bytes : List ℕ)
     → Keeps c s (request_by (asks_session came allowed) c s m fields (span_in start end bytes))
 session_keeps false allowed c s m fields start end bytes = λ h. refl
 session_keeps true true c s m fields start end bytes = λ h. refl
 session_keeps true false c s m fields start end bytes = λ h. refl
 
-connect_keeps : (session : Bool) (c : Connection) (s : Stream) (m : Message) (fields : List Field) (start end : ℕ) (bytes : List ℕ)
+connect_keeps : (session : Bool) (c : Connection) (s : Stream) (m : Message) (fields : List Field)
+    (start end : ℕ) (bytes : List ℕ)
     → Keeps c s (request_by (asks_connect c session) c s m fields (span_in start end bytes))
 connect_keeps false c s m fields start end bytes = λ h. refl
 connect_keeps true c s m fields start end bytes =
     session_keeps c.configured (allows_sessions c) c s m fields start end bytes
 
-request_keeps : (connect session : Bool) (c : Connection) (s : Stream) (m : Message) (fields : List Field) (start end : ℕ) (bytes : List ℕ)
+request_keeps : (connect session : Bool) (c : Connection) (s : Stream) (m : Message) (fields : List Field)
+    (start end : ℕ) (bytes : List ℕ)
     → Keeps c s (request_by (asks_by c connect session) c s m fields (span_in start end bytes))
 request_keeps false session c s m fields start end bytes = λ h. refl
 request_keeps true session c s m fields start end bytes =
@@ -209,36 +213,43 @@ request_keeps true session c s m fields start end bytes =
 connects_places : (s : Stream) (session : Bool) → places (connects s session).frames ≡ places s.frames
 connects_places s session = connected_places s.frames
 
-response_places : (a : Option Asked) (success : Bool) (s : Stream) (m : Message) (status : ℕ) (fields : List Field) (start end : ℕ) (bytes : List ℕ)
+response_places : (a : Option Asked) (success : Bool) (s : Stream) (m : Message) (status : ℕ)
+    (fields : List Field) (start end : ℕ) (bytes : List ℕ)
     → places (response_in a success s m status fields (span_in start end bytes)).2.frames ≡ places s.frames
 response_places (Some asked.Session) true s m status fields start end bytes = connects_places s true
 response_places (Some asked.Session) false s m status fields start end bytes = refl
 response_places (Some asked.Connect) true s m status fields start end bytes = connects_places s false
 response_places _ success s m status fields start end bytes = refl
 
-takes_keeps : (x : Result Section Malformed) (c : Connection) (s : Stream) (m : Message) (fields : List Field) (start end : ℕ) (bytes : List ℕ)
+takes_keeps : (x : Result Section Malformed) (c : Connection) (s : Stream) (m : Message) (fields : List Field)
+    (start end : ℕ) (bytes : List ℕ)
     → Keeps c s (takes c s m fields (span_in start end bytes) (taken_of x))
 takes_keeps (Ok (section.Request request)) c s m fields start end bytes =
     request_keeps (is_connect fields) (asks_for_session fields) c s m fields start end bytes
 takes_keeps (Ok (section.Interim response)) c s m fields start end bytes =
-    interim_keeps (tells_interim c.streams s.frames) c s response.status fields start end bytes (interim_counts s.frames c.streams)
+    interim_keeps (tells_interim c.streams s.frames) c s response.status fields start end bytes
+    (interim_counts s.frames c.streams)
 takes_keeps (Ok (section.Response response)) c s m fields start end bytes = λ h.
-    sym (ap (λ n. c.streams.waiting + n) (response_places s.asked (is_success (Some response.status)) s m response.status fields start end bytes))
+    sym (ap (λ n. c.streams.waiting + n) (response_places s.asked (is_success (Some response.status)) s m
+    response.status fields start end bytes))
 takes_keeps (Ok section.Trailers) c s m fields start end bytes = λ h. refl
 takes_keeps (Err rule) c s m fields start end bytes = malformed_keeps c s rule (length bytes)
 
-result_keeps : (r : Result (List Field) FieldSectionError) (c : Connection) (s : Stream) (m : Message) (start end : ℕ) (bytes : List ℕ) (o : Outcome)
+result_keeps : (r : Result (List Field) FieldSectionError) (c : Connection) (s : Stream) (m : Message)
+    (start end : ℕ) (bytes : List ℕ) (o : Outcome)
     → ResultGives c s m (span_in start end bytes) r o
     → Keeps c s o
 result_keeps (Ok fields) c s m start end bytes o g =
-    at c s o (takes c s g.1 fields (span_in start end bytes) (taken_of g.0)) g.3 (takes_keeps g.0 c s g.1 fields start end bytes)
+    at c s o (takes c s g.1 fields (span_in start end bytes) (taken_of g.0)) g.3
+    (takes_keeps g.0 c s g.1 fields start end bytes)
 result_keeps (Err section_error.TooLarge) c s m start end bytes o g =
     at c s o _ g (too_large_keeps s.part c s None end)
 result_keeps (Err section_error.Memory) c s m start end bytes o g = at c s o _ g (λ h. refl)
 result_keeps (Err (section_error.Decoding x)) c s m start end bytes o g =
     at c s o _ g (fails_keeps c c s s (fault.Section x) (length bytes) (λ h. refl))
 
-prefix_keeps : (names : Bool) (limit : ℕ) (c : Connection) (s : Stream) (m : Message) (start end : ℕ) (bytes : List ℕ) (o : Outcome)
+prefix_keeps : (names : Bool) (limit : ℕ) (c : Connection) (s : Stream) (m : Message) (start end : ℕ)
+    (bytes : List ℕ) (o : Outcome)
     → PrefixGives names limit c s m (span_in start end bytes) bytes o
     → Keeps c s o
 prefix_keeps true limit c s m start end bytes o g =
@@ -310,7 +321,8 @@ content_due_keeps n limit c s bytes fin o g =
     (λ f. content_keeps (nat_lt (length bytes) n) c s n bytes o f)
     (λ f. goes_keeps limit c s bytes fin o f)
 
-due_keeps : (p : Part) (empty : Bool) (limit : ℕ) (c : Connection) (s : Stream) (bytes : List ℕ) (fin : Bool) (o : Outcome)
+due_keeps : (p : Part) (empty : Bool) (limit : ℕ) (c : Connection) (s : Stream) (bytes : List ℕ) (fin : Bool)
+    (o : Outcome)
     → DueGives (due_by p empty) limit c s bytes fin o
     → Keeps c s o
 due_keeps (part.Unanswered session m) empty limit c s bytes fin o g = at c s o _ g (λ h. refl)

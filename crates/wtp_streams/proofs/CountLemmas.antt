@@ -102,7 +102,7 @@ pub entry_counted : (t : Table) (id : ℕ) (e x : Entry) (c : Connection)
 entry_counted t id e x c at b over h = λ intact.
     let n : t.connection.streams.waiting ≡ waiting_in t.entries = h (over intact) in
     let p : places e.stream.frames ≤ t.connection.streams.waiting =
-        omega (arith, n, places_counted t id e at) in
+    omega (arith, n, places_counted t id e at) in
     omega (arith, n, b p, set_counts t id e x at)
 
 pub outcome_counted : (t : Table) (id : ℕ) (e : Entry) (told : Told) (c : Connection) (s : Stream)
@@ -265,7 +265,14 @@ accepts_counted None t id at h = λ intact.
     let n : (with_stream t.connection.streams.endpoint.side t.connection.streams id).waiting
     ≡ t.connection.streams.waiting =
     begun_waiting t.connection.streams.endpoint.side t.connection.streams id in
-    omega (arith, n, frames_none id, h intact, insert_counts t.entries id (entry_of (accepted t.connection id).1 None false) at)
+    omega (
+      arith,
+      n,
+      frames_none id,
+      h intact,
+      insert_counts t.entries id
+          (entry_of (accepted t.connection id).1 None false) at,
+    )
 
 pub accept_counted : (t : Table) (id : ℕ) → IsCounted t → IsCounted (accepts_in t id)
 accept_counted t id h = accepts_counted (entry_at t id) t id refl h

@@ -1,5 +1,5 @@
 -- How many streams of a table wait after a stream ends, and after calls about sessions.
-use Rattle.std.proofs.Common.{◌≡◌, ℕ, ◌+◌, ◌≤◌, ◌&&◌, ◌||◌, not, Bool, true, false, cond, nat_le, List, Option, Some, None, Result, Ok, Err, refl, sym, ap, ◌∙◌, arith}
+use Rattle.std.proofs.Common.{◌≡◌, ℕ, ◌+◌, ◌≤◌, ◌&&◌, ◌||◌, not, Bool, true, false, cond, nat_le, List, Option, Some, None, Ok, Err, refl, sym, ap, ◌∙◌}
 use Rattle.wtp_core.specs.declared.error.scope.ErrorScope.{ErrorScope}
 use Rattle.wtp_core.specs.declared.error.scope.ErrorScope.TheVariants as scope
 use Rattle.wtp_connection.specs.declared.connection.Connection.{Connection as Streams}
@@ -9,7 +9,7 @@ use Rattle.wtp_connection.specs.declared.fault.Fault.{Fault as StreamsFault}
 use Rattle.wtp_connection.specs.declared.fault.Fault.TheVariants as streams_fault
 use Rattle.wtp_connection.specs.declared.stream.Purpose.{Purpose}
 use Rattle.wtp_connection.specs.declared.stream.Stream.{Stream as Frames}
-use Rattle.wtp_connection.specs.Datagrams.{Taken as StreamsTaken, taken as streams_taken, after_taken as streams_after}
+use Rattle.wtp_connection.specs.Datagrams.{Taken as StreamsTaken, taken as streams_taken}
 use Rattle.wtp_connection.specs.Fault.{scope_of as streams_scope}
 use Rattle.wtp_connection.specs.Opening.{is_for_critical}
 use Rattle.wtp_connection.specs.Streams.{Joined, abandons as abandons_frames, resets as resets_frames, reset_answer, overflows as overflows_frames, overflows_open, stops as stops_streams, closed_by as streams_closed}
@@ -22,8 +22,8 @@ use Rattle.wtp_webtransport.specs.declared.stream.Stream.{Stream}
 use Rattle.wtp_webtransport.specs.declared.stream.Part.{Part}
 use Rattle.wtp_webtransport.specs.declared.stream.Part.TheVariants as part
 use Rattle.wtp_webtransport.specs.Fault.{scope_of}
-use Rattle.wtp_webtransport.specs.Streams.{with_streams, with_frames, is_held, is_done, connects, answered, answered_by, answered_with, with_part}
-use Rattle.wtp_webtransport.specs.Joining.{Outcome as Joining, joins, resets, reset_by, reset_in, stops_half, abandons, overflows, overflowed_by, rejects, rejected_by, is_request, is_beyond, stops, stopped_by, after_datagram, taken_by, taken_of, after_taken}
+use Rattle.wtp_webtransport.specs.Streams.{with_streams, with_frames, is_held, is_done, connects, answered, answered_by, with_part}
+use Rattle.wtp_webtransport.specs.Joining.{Outcome as Joining, joins, resets, reset_by, reset_in, stops_half, abandons, overflows, overflowed_by, rejects, rejected_by, is_request, is_beyond, stops, stopped_by, after_datagram, taken_by}
 use Rattle.wtp_webtransport.specs.Receiving.{closed_by}
 use Rattle.wtp_streams.specs.declared.entry.Entry.{Entry}
 use Rattle.wtp_streams.specs.Table.{Table, entry_at, with_connection, places, IsCounted}
@@ -184,8 +184,11 @@ cond_stops false c x y f g = g
 
 stops_waiting : (c : Streams) (own : Purpose) → (stops_streams c own).0.waiting ≡ c.waiting
 stops_waiting c own =
-    cond_stops (is_for_critical own && not c.over) c
-    (streams_closed c (streams_fault.Stream stream.ClosedCriticalStream), Some (streams_fault.Stream stream.ClosedCriticalStream))
+    cond_stops (is_for_critical own && not c.over) c (
+      streams_closed c (streams_fault.Stream stream.ClosedCriticalStream),
+      Some
+          (streams_fault.Stream stream.ClosedCriticalStream),
+    )
     (c, None) (streams_closed_waiting c (streams_fault.Stream stream.ClosedCriticalStream)) refl
 
 stopped_waiting : (x : Streams × Option StreamsFault) (c : Connection)
@@ -208,9 +211,9 @@ stopped_counted t own h =
     let c : Connection = t.connection in
     let y : Connection × Option Fault = stopped_by c (stops_streams c.streams own) in
     let x : ((cond {A = Connection × Option Fault} c.over (c, None) y).0.streams.waiting ≡ c.streams.waiting)
-        × StaysOver c (cond {A = Connection × Option Fault} c.over (c, None) y).0 =
-        cond_connection c.over c (c, None) y (λ e. e) refl
-        (stopped_waiting (stops_streams c.streams own) c (stops_waiting c.streams own)) in
+    × StaysOver c (cond {A = Connection × Option Fault} c.over (c, None) y).0 =
+    cond_connection c.over c (c, None) y (λ e. e) refl
+    (stopped_waiting (stops_streams c.streams own) c (stops_waiting c.streams own)) in
     connection_counted t (stops c own).0 x.0 x.1 h
 
 datagram_waiting : (x : StreamsTaken) (c : Connection) → (taken_by c x).streams.waiting ≡ c.streams.waiting
@@ -233,8 +236,8 @@ datagram_counted t bytes h =
     let c : Connection = t.connection in
     let x : StreamsTaken = streams_taken c.streams bytes in
     let y : ((cond c.over c (taken_by c x)).streams.waiting ≡ c.streams.waiting)
-        × StaysOver c (cond c.over c (taken_by c x)) =
-        cond_taken c.over c (taken_by c x) (λ e. e) (datagram_waiting x c) in
+    × StaysOver c (cond c.over c (taken_by c x)) =
+    cond_taken c.over c (taken_by c x) (λ e. e) (datagram_waiting x c) in
     connection_counted t (after_datagram c bytes) y.0 y.1 h
 
 -- ---- sessions

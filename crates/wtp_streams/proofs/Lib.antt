@@ -2,3 +2,5 @@ pub mod RunLemmas
 pub mod CallLemmas
 pub mod CountLemmas
 pub mod EndingLemmas
+pub mod OtherLemmas
+pub mod NamedLemmas

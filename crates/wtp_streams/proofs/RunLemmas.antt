@@ -60,7 +60,8 @@ items_wait : (items : List Item) (n : ℕ) (c : Connection) (f : Connection → 
     → WaitsAs n 0 (of_items c f items)
 items_wait [] n c f e h = h c e
 items_wait (Whole kind.Settings payload ∷ items) n c f e h =
-    settings_wait (received_settings c payload) n c payload (λ d. of_items d f items) e (λ d i. items_wait items n d f i h)
+    settings_wait (received_settings c payload) n c payload (λ d. of_items d f items) e
+    (λ d i. items_wait items n d f i h)
 items_wait (Broken x ∷ items) n c f e h =
     let y : WaitsAs n 0 (of_items (closed_by c (fault.Stream x)) f items) =
     items_wait items n (closed_by c (fault.Stream x)) f (closed_waiting c (fault.Stream x) ∙ e) h in
@@ -176,7 +177,8 @@ settles_counts known.Impossible c d s n not e = refuses_counts c d s stream.Id e
 waits_counts : (c : Connection) (s n : ℕ) → Counts c (Joining n) (waits c s)
 waits_counts c s n = elim (cases_lt c.waiting 16) [
   | inl less ↦ rw (lt-ltb c.waiting 16 less) (omega arith)
-  | inr full ↦ rw (le-ltb c.waiting 16 full) (refuses_counts c c (Joining n) stream.BufferedStreamRejected (omega arith))
+  | inr full ↦ rw (le-ltb c.waiting 16 full) (refuses_counts c c (Joining n) stream.BufferedStreamRejected
+      (omega arith))
 ]
 
 pub joins_counts : (s : Stream) (k : Known) (c : Connection) → places s ≤ c.waiting → Counts c s (joins_open c s k)
@@ -185,17 +187,24 @@ joins_counts (Joining n) known.Open c h = settles_counts known.Open c c (Joining
 joins_counts (Joining n) known.Over c h = settles_counts known.Over c c (Joining n) n (λ e. cc) (omega arith)
 joins_counts (Joining n) known.Refused c h = settles_counts known.Refused c c (Joining n) n (λ e. cc) (omega arith)
 joins_counts (Joining n) known.Other c h = settles_counts known.Other c c (Joining n) n (λ e. cc) (omega arith)
-joins_counts (Joining n) known.Impossible c h = settles_counts known.Impossible c c (Joining n) n (λ e. cc) (omega arith)
+joins_counts (Joining n) known.Impossible c h = settles_counts known.Impossible c c (Joining n) n (λ e. cc)
+    (omega arith)
 joins_counts (Waiting n) known.Coming c h = refl
-joins_counts (Waiting n) known.Open c h = settles_counts known.Open c (freed c) (Waiting n) n (λ e. cc) (omega (arith, h))
-joins_counts (Waiting n) known.Over c h = settles_counts known.Over c (freed c) (Waiting n) n (λ e. cc) (omega (arith, h))
-joins_counts (Waiting n) known.Refused c h = settles_counts known.Refused c (freed c) (Waiting n) n (λ e. cc) (omega (arith, h))
-joins_counts (Waiting n) known.Other c h = settles_counts known.Other c (freed c) (Waiting n) n (λ e. cc) (omega (arith, h))
-joins_counts (Waiting n) known.Impossible c h = settles_counts known.Impossible c (freed c) (Waiting n) n (λ e. cc) (omega (arith, h))
+joins_counts (Waiting n) known.Open c h = settles_counts known.Open c (freed c) (Waiting n) n (λ e. cc)
+    (omega (arith, h))
+joins_counts (Waiting n) known.Over c h = settles_counts known.Over c (freed c) (Waiting n) n (λ e. cc)
+    (omega (arith, h))
+joins_counts (Waiting n) known.Refused c h = settles_counts known.Refused c (freed c) (Waiting n) n (λ e. cc)
+    (omega (arith, h))
+joins_counts (Waiting n) known.Other c h = settles_counts known.Other c (freed c) (Waiting n) n (λ e. cc)
+    (omega (arith, h))
+joins_counts (Waiting n) known.Impossible c h = settles_counts known.Impossible c (freed c) (Waiting n) n
+    (λ e. cc) (omega (arith, h))
 joins_counts (Session n) known.Over c h = refuses_counts c c (Session n) stream.SessionGone (omega arith)
 joins_counts other k c h = refl
 
-cond_counts : (b : Bool) (c : Connection) (s : Stream) (x y : Joined) → Counts c s x → Counts c s y → Counts c s (cond b x y)
+cond_counts : (b : Bool) (c : Connection) (s : Stream) (x y : Joined) → Counts c s x → Counts c s y
+    → Counts c s (cond b x y)
 cond_counts true c s x y f g = f
 cond_counts false c s x y f g = g
 
@@ -205,7 +214,8 @@ without_waiting c other h = omega arith
 
 pub overflow_counts : (s : Stream) (c : Connection) → places s ≤ c.waiting → Counts c s (overflows_open c s)
 overflow_counts (Joining n) c h = refuses_counts c c (Joining n) stream.BufferedStreamRejected (omega arith)
-overflow_counts (Waiting n) c h = refuses_counts c (freed c) (Waiting n) stream.BufferedStreamRejected (omega (arith, h))
+overflow_counts (Waiting n) c h = refuses_counts c (freed c) (Waiting n) stream.BufferedStreamRejected
+    (omega (arith, h))
 overflow_counts Incomplete c h = refl
 overflow_counts Over c h = refl
 overflow_counts other c h = refuses_counts c c other stream.ExcessiveLoad (omega arith)
@@ -260,7 +270,8 @@ first_true false b e = e
 
 pub reset_counts : (c : Connection) (s : Stream) (o : Option Fault)
     → places s ≤ c.waiting
-    → Counts c s (cond (is_critical s && not c.over) (refuses c stream.ClosedCriticalStream) (without c s, over_from s, o))
+    → Counts c s (cond (is_critical s && not c.over) (refuses c stream.ClosedCriticalStream)
+    (without c s, over_from s, o))
 reset_counts c s o h =
     reset_cond (is_critical s && not c.over) c s o
     (λ e. critical_none s (first_true (is_critical s) (not c.over) e)) h

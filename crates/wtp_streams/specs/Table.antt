@@ -1,5 +1,5 @@
 -- A connection with its streams, by their IDs (RFC 9000, section 2.1).
-use Rattle.std.specs.Prelude.{◌≡◌, ℕ, ◌&&◌, not, Bool, true, false, List, [], Option, Some, None, option_map, sum_by}
+use Rattle.std.specs.Prelude.{◌≡◌, ◌≢◌, ℕ, ◌&&◌, not, Bool, true, false, List, [], Option, Some, None, option_map, sum_by}
 use Rattle.std.specs.Ordering.{nat_cmp}
 use Rattle.std.specs.List.{find}
 use Rattle.std.specs.Map.{lookup, set_value, values_of}
@@ -18,6 +18,7 @@ use Rattle.wtp_webtransport.specs.Events.{Told, Joined, Settings, Waits}
 use Rattle.wtp_webtransport.specs.Sessions.{known_of}
 use Rattle.wtp_webtransport.specs.Streams.{connection_of, waits_for}
 use Rattle.wtp_streams.specs.declared.entry.Entry.{Entry}
+use Rattle.wtp_streams.specs.declared.limits.Limits.{Limits}
 use Rattle.wtp_streams.specs.declared.streams.Streams.{Streams}
 
 -- what the streams have in common, the streams in the order of their IDs, the limit of a decoded field
@@ -37,11 +38,11 @@ table_of t = record {
 }
 
 -- one without streams
-abbrev pub table_for : Endpoint → Bool → ℕ → Table
-table_for e extended limit = record {
-  connection = connection_of e extended;
+abbrev pub table_for : Endpoint → Bool → Limits → Table
+table_for e extended limits = record {
+  connection = connection_of (record e { max_section = limits.max_section }) extended;
   entries = [];
-  limit = limit;
+  limit = limits.max_fields;
   configured = false;
 }
 
@@ -59,6 +60,10 @@ with_new t id e = record t { entries = insert_entry nat_cmp t.entries id e }
 
 abbrev pub with_connection : Table → Connection → Table
 with_connection t c = record t { connection = c }
+
+-- all streams but the one with this ID are the same
+abbrev pub IsLeft : ℕ → Table → Table → Type 0
+IsLeft id t u = (k : ℕ) → k ≢ id → entry_at u k ≡ entry_at t k
 
 -- ---- streams
 

@@ -6,4 +6,5 @@
 mod entry;
 pub mod error;
 pub mod laws;
+pub mod limits;
 pub mod streams;

@@ -8,6 +8,7 @@ mod endings;
 pub mod sessions;
 
 use crate::entry::{Entry, is_settings, joined_len};
+use crate::limits::Limits;
 use std::alloc::{AllocError, Global};
 use std::collections::BTreeMap;
 use wtp_connection::connection::Known;
@@ -35,14 +36,16 @@ pub struct Streams {
 
 impl Streams {
     /// Creates a connection without streams. `extended`: the own SETTINGS allow extended CONNECT, which
-    /// sessions of WebTransport need (RFC 9220, section 3). `limit` bounds the size of a decoded field
-    /// section (RFC 9114, section 4.2.2).
-    pub fn new(alloc: Global, endpoint: Endpoint, extended: bool, limit: u64) -> Self
-        ensures { table_of result ≡ table_for endpoint extended limit }
+    /// sessions of WebTransport need (RFC 9220, section 3). `limits` bounds field sections, in place of
+    /// that of `endpoint`.
+    pub fn new(alloc: Global, endpoint: Endpoint, extended: bool, limits: Limits) -> Self
+        ensures { table_of result ≡ table_for endpoint extended limits }
     {
+        let mut endpoint = endpoint;
+        endpoint.max_section = limits.max_section;
         Streams {
             connection: Connection::new(endpoint, extended),
-            fields: Fields::new(alloc, limit),
+            fields: Fields::new(alloc, limits.max_fields),
             configured: false,
             table: BTreeMap::new(alloc),
         }
@@ -216,7 +219,8 @@ impl Streams {
 
 impl Streams {
     /// Returns a stream whose wait is over: its bytes, which were not consumed, are to be passed again.
-    /// Each such stream is returned once, the one with the lowest ID first.
+    /// Each such stream is returned once, the one with the lowest ID first. Call it until `None` after
+    /// SETTINGS and answers, and after each event but a piece of data: it looks at all streams.
     pub fn next_to_read(&mut self) -> Option<u64>
         ensures id { result ≡ first_ready_is (table_of self.old) }
         ensures named { table_of self.new ≡ named_by (table_of self.old) result }

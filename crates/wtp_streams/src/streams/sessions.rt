@@ -58,11 +58,11 @@ impl Streams {
     pub fn datagram<'a>(&mut self, bytes: &'a [u8]) -> Result<Option<Datagram<'a>>, Fault>
         ensures taken { MatchResult result
             (λ d. takes (table_of self.old).connection bytes.now
-                ≡ Ok (option_map (λ x. (x.session, x.payload.now)) d))
+            ≡ Ok (option_map (λ x. (x.session, x.payload.now)) d))
             (λ f. takes (table_of self.old).connection bytes.now ≡ Err f) }
         ensures action { MatchResult result
             (λ d. option_map (λ x. x.action) d
-                ≡ option_map (λ x. action_in (table_of self.new) x.session) d)
+            ≡ option_map (λ x. action_in (table_of self.new) x.session) d)
             (λ f. Unit {0}) }
         ensures table { table_of self.new ≡ with_connection (table_of self.old)
             (after_datagram (table_of self.old).connection bytes.now) }
@@ -80,7 +80,8 @@ impl Streams {
 
     /// Returns a stream whose session is over: both halves of it are to be reset and stopped with
     /// WEBTRANSPORT_SESSION_GONE (draft-ietf-webtrans-http3-02, section 5). It is read no further. Each
-    /// such stream is returned once, the one with the lowest ID first.
+    /// such stream is returned once, the one with the lowest ID first. Call it until `None` after a session
+    /// ended: it looks at all streams.
     pub fn next_to_reset(&mut self) -> Option<u64>
         ensures id { result ≡ first_cut_is (table_of self.old) }
         ensures table { table_of self.new ≡ cuts_in (table_of self.old) result }

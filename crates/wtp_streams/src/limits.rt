@@ -1,0 +1,23 @@
+//! What the user of a connection bounds.
+ghost use Rattle.std.specs.Prelude.{◌≡◌};
+
+/// The largest field sections of a connection, in two measures (RFC 9114, section 4.2.2).
+#[derive(Clone, Copy, Debug, PartialEq, Eq)]
+pub struct Limits {
+    /// The largest encoded field section, in bytes. A larger one is skipped, and its size is reported.
+    pub max_section: u32,
+    /// The largest decoded one: for each field the lengths of its name and its value in bytes, plus 32.
+    pub max_fields: u64,
+}
+
+impl Limits {
+    /// Creates the limits of 65,536 bytes in both measures.
+    pub fn new() -> Self
+        ensures { result ≡ record { max_section = 65536; max_fields = 65536 } }
+    {
+        Limits {
+            max_section: 65_536,
+            max_fields: 65_536,
+        }
+    }
+}
