@@ -30,24 +30,37 @@ fn link_folder(folder: &str, wanted: Option<bool>) {
         fail(&format!("there is no {file} in WTRANSPORT_LIB_DIR, {folder}"));
     }
     println!("cargo:rerun-if-changed={folder}/{file}");
-    link(folder, archive);
+    search(folder);
+    link(archive);
 }
 
 /// Links the library that pkg-config finds.
 fn link_installed(wanted: Option<bool>) {
-    let folder = match pkg_config(&["--variable=libdir", "wtransport >= 0.8"]) {
-        Some(folder) => folder,
+    let flags = match pkg_config(&["--libs-only-L", "wtransport >= 0.8"]) {
+        Some(flags) => flags,
         None => fail(
             "pkg-config finds no libwtransport 0.8: install it (libwtransport-dev, or c/install in \
              Vesgrauf's repository), or name its folder in WTRANSPORT_LIB_DIR",
         ),
     };
-    link(folder.trim(), wanted.unwrap_or(false));
+    // a library in a folder of the system has no flag, and one that is not installed no variable
+    for folder in flags.split_whitespace().filter_map(|flag| flag.strip_prefix("-L")) {
+        search(folder);
+    }
+    if let Some(folder) = pkg_config(&["--variable=libdir", "wtransport"]) {
+        search(folder.trim());
+    }
+    link(wanted.unwrap_or(false));
 }
 
-fn link(folder: &str, archive: bool) {
+fn search(folder: &str) {
+    if !folder.is_empty() {
+        println!("cargo:rustc-link-search=native={folder}");
+    }
+}
+
+fn link(archive: bool) {
     let kind = if archive { "static" } else { "dylib" };
-    println!("cargo:rustc-link-search=native={folder}");
     println!("cargo:rustc-link-lib={kind}=wtransport");
 }
 

@@ -235,11 +235,11 @@ pub(crate) fn event_of<'a>(
         sys::WT_EVENT_SKIPPED => Event::Skipped,
         sys::WT_EVENT_DATA => Event::Data(bytes()),
         sys::WT_EVENT_STREAM_DATA => Event::StreamData(bytes()),
-        sys::WT_EVENT_TOO_LARGE => Event::TooLarge((event.detail == 1).then(|| event.number)),
+        sys::WT_EVENT_TOO_LARGE => Event::TooLarge((event.detail == 1).then_some(event.number)),
         sys::WT_EVENT_MALFORMED => Event::Malformed(Malformed::of(event.detail)),
         sys::WT_EVENT_STREAM_ERROR => Event::StreamError(code),
         sys::WT_EVENT_CONNECTION_ERROR => Event::ConnectionError(code),
-        sys::WT_EVENT_RESET => Event::Reset((event.detail == 1).then(|| code)),
+        sys::WT_EVENT_RESET => Event::Reset((event.detail == 1).then_some(code)),
         sys::WT_EVENT_END => Event::End,
         kind => unknown("event", kind),
     }

@@ -178,7 +178,7 @@ impl FrameCursor {
                 let kind = FrameKind::of(frame.kind);
                 CursorStep::Frame(FrameSpan {
                     kind,
-                    session_id: (kind == FrameKind::WebTransport).then(|| frame.session),
+                    session_id: (kind == FrameKind::WebTransport).then_some(frame.session),
                     start: consumed - frame.length,
                     end: consumed,
                 })

@@ -20,8 +20,9 @@
 //!
 //! # A server
 //!
-//! For each QUIC connection with the ALPN protocol [`WEBTRANSPORT_ALPN`] a server keeps a [`Connection`],
-//! and for each stream a [`Stream`] with the bytes that were not consumed.
+//! QUIC is configured with the ALPN protocol [`WEBTRANSPORT_ALPN`], with datagrams, and so that the peer may
+//! open at least three unidirectional streams beside those of its sessions. For each QUIC connection a server
+//! keeps a [`Connection`], and for each stream a [`Stream`] with the bytes that were not consumed.
 //!
 //! 1. At the start it opens a unidirectional stream and sends what
 //!    [`Settings::write_control_stream`](settings::Settings::write_control_stream) writes. It stays open.
@@ -31,6 +32,17 @@
 //!    SETTINGS after they came, for an answer after [`Stream::answer`].
 //! 5. A reset of a stream, a request to stop it and a datagram go to [`Connection::reset`],
 //!    [`Connection::stop`] (or [`Connection::stopped`]) and [`Connection::datagram`].
+//! 6. To close a session it writes what
+//!    [`CloseWebTransportSession`](capsule::CloseWebTransportSession) shows on the session's stream, ends its
+//!    half of the stream, and calls [`Connection::abandon`]. In each case the streams of a session that is over
+//!    are reset and stopped.
+//! 7. After the end of a stream its [`Stream`] may be dropped, that of a session too: a server's
+//!    [`Connection`] knows which requests have begun. A client keeps those of its sessions. One that is dropped
+//!    before its end is [abandoned](Connection::abandon) first.
+//!
+//! Only the bytes that were consumed are to be credited to the peer, so that QUIC's flow control bounds what
+//! waits: with a library such as quinn, which credits what is read, a stream is read no further while bytes of
+//! it wait.
 //!
 //! Here a client of this crate asks such a server for a session, without a network in between:
 //!

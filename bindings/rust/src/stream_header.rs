@@ -84,7 +84,7 @@ impl StreamHeader {
 
     /// Returns the session ID of a WebTransport stream, and `None` for every other kind.
     pub fn session_id(&self) -> Option<u64> {
-        (self.kind == StreamKind::WebTransport).then(|| self.session)
+        (self.kind == StreamKind::WebTransport).then_some(self.session)
     }
 
     /// Reads the header at the start of a stream: the header and its size, or `None` if there are too

@@ -385,7 +385,7 @@ pub fn stream_waits(stream: &Stream) -> (u32, u64) {
 pub fn stream_belongs(stream: &Stream) -> Option<u64> {
     let (mut belongs, mut session) = (0, 0);
     expect_ok(unsafe { wt_stream_belongs(stream, &mut belongs, &mut session) });
-    (belongs == 1).then(|| session)
+    (belongs == 1).then_some(session)
 }
 
 pub fn stream_reset(connection: &mut Connection, stream: &mut Stream) -> Event {

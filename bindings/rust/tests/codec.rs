@@ -2,7 +2,7 @@
 //! appendix B; RFC 9297; draft-ietf-webtrans-http3-02. They are those of `c/tests`.
 mod support;
 
-use support::Random;
+use support::{times, Random};
 use vesgrauf::capsule::{CapsuleCursor, CapsuleStep, CloseWebTransportSession};
 use vesgrauf::datagram::Datagram;
 use vesgrauf::error::{application_codes, Code, ErrorScope, ReadError, WriteError};
@@ -213,7 +213,7 @@ fn fields() {
     }
     // of any size
     let mut random = Random(5);
-    for _ in 0..200 {
+    for _ in 0..times(200) {
         let mut list = FieldList::new();
         for _ in 0..random.below(60) {
             let text = |random: &mut Random, longest| {

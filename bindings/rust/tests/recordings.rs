@@ -6,7 +6,7 @@ use std::collections::BTreeSet;
 use std::fs;
 use std::path::PathBuf;
 use support::json::Json;
-use support::{Player, Random, LIMITS};
+use support::{times, Player, Random, LIMITS};
 use vesgrauf::capsule::{CapsuleCursor, CapsuleStep, CloseWebTransportSession};
 use vesgrauf::datagram::Datagram;
 use vesgrauf::error::{Code, ReadError};
@@ -15,12 +15,6 @@ use vesgrauf::frame::{CursorStep, FrameCursor, FrameKind, StreamRole};
 use vesgrauf::settings::Settings;
 use vesgrauf::stream_header::{StreamHeader, StreamKind};
 use vesgrauf::{Asked, Endpoint, Stream};
-
-/// How many times a test is done: fewer under valgrind, where VESGRAUF_CUTS divides it.
-fn times(number: usize) -> usize {
-    let cuts = std::env::var("VESGRAUF_CUTS").ok().map(|cuts| cuts.parse::<usize>().unwrap());
-    cuts.map_or(number, |cuts| (number / cuts).max(1))
-}
 
 fn folder() -> PathBuf {
     PathBuf::from(env!("CARGO_MANIFEST_DIR")).join("../../tools/recordings.d")

@@ -4,10 +4,15 @@ use crate::reader::{Item, Reader};
 use crate::session::{Queues, Session};
 use bytes::Bytes;
 use quinn::{SendStream, WriteError};
+use std::time::Duration;
+use tokio::time::timeout;
 use vesgrauf::error::Code;
 use vesgrauf::fields::FieldList;
 use vesgrauf::frame::{write_head, FrameKind};
 use vesgrauf::session::SessionResponse;
+
+/// How long content that nobody asked for is read after the response.
+const DROPPING: Duration = Duration::from_secs(1);
 
 /// A request, at a server: for a session, or for something else.
 pub struct Request {
@@ -106,6 +111,10 @@ impl Request {
             });
             self.reader.shared.changed.notify_waiters();
         }
-        self.send.finish().await
+        // what still comes is dropped, for a while, and then refused (RFC 9114, section 4.1)
+        let (finished, _) =
+            tokio::join!(self.send.finish(), timeout(DROPPING, self.reader.drain()));
+        self.reader.stop(Code::H3_NO_ERROR);
+        finished
     }
 }

@@ -9,6 +9,12 @@ use vesgrauf::{Connection, Endpoint, Event, Limits, Stream, Waits};
 
 pub const LIMITS: Limits = Limits { max_section: 65_536, max_fields: 16_384, max_datagram: 1_200 };
 
+/// How many times a test is done: fewer under valgrind, where VESGRAUF_CUTS divides it.
+pub fn times(number: usize) -> usize {
+    let cuts = std::env::var("VESGRAUF_CUTS").ok().map(|cuts| cuts.parse::<usize>().unwrap());
+    cuts.map_or(number, |cuts| (number / cuts).max(1))
+}
+
 /// Random numbers by a seed (splitmix64).
 pub struct Random(pub u64);
 
