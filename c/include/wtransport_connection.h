@@ -338,7 +338,9 @@ int wt_stream_reset(wt_connection *connection, wt_stream *stream, wt_event *even
 
 /* The peer asked to stop the own half of a bidirectional stream (STOP_SENDING): reset that half.
    WT_OK: *event is WT_EVENT_SESSION_LOST if an open session ends by that, and otherwise
-   WT_EVENT_MORE. */
+   WT_EVENT_MORE. No session can follow a stop before the answer: a server then abandons the
+   stream; a client reads on, since a response counts although its request was stopped (RFC 9114,
+   section 4.1), and abandons the stream after WT_EVENT_SESSION_READY. */
 int wt_stream_stop(wt_connection *connection, wt_stream *stream, wt_event *event);
 
 /* A stream is read no further, for a reason of the application; so a session is closed, after its
