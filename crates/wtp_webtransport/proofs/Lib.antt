@@ -18,3 +18,4 @@ pub mod SoundLemmas
 pub mod ProgressLemmas
 pub mod ErrorLemmas
 pub mod LossLemmas
+pub mod PastLemmas

@@ -27,7 +27,7 @@ use Rattle.wtp_webtransport.specs.Events.{Told}
 use Rattle.wtp_webtransport.specs.Events as told
 use Rattle.wtp_webtransport.specs.Fault.{scope_of}
 use Rattle.wtp_webtransport.specs.Streams.{with_streams, with_frames, stream_of, due_by, is_held, is_done}
-use Rattle.wtp_webtransport.specs.Receiving.{Outcome, Receives, closed_by, closed_in, StreamGives, ReceivesIf, DueGives, GoesOn, FoundGives, told_more}
+use Rattle.wtp_webtransport.specs.Receiving.{Outcome, Receives, closed_by, closed_in, StreamGives, ReceivesIf, DueGives, GoesOn, FoundGives, told_more, last}
 use Rattle.wtp_webtransport.specs.Joining.{Outcome as Joining, reset_told, reset_in, reset_by, resets, lost_if, abandons, stops_half, joined_told, joined_by, joining_of, joins, overflowed_by, overflows, is_request, is_beyond, rejected_by, rejects}
 use Rattle.wtp_connection.specs.declared.connection.Known.TheVariants as known
 use Rattle.wtp_messages.specs.declared.message.Message.{Message}
@@ -379,3 +379,14 @@ pub done_rests : (limit : ℕ) (c : Connection) (s : Stream) (bytes : List ℕ) 
     → Receives limit c s bytes fin o
     → o ≡ (length bytes, told.More, c, s)
 done_rests limit c s bytes fin o v d u g = done_if c.over limit c s bytes fin o v d u g
+
+pub losing_loses : (limit : ℕ) (c : Connection) (s : Stream) (bytes : List ℕ) (fin : Bool) (o : Outcome)
+    → c.over ≡ false
+    → s.unread ≡ unread.Nothing
+    → s.part ≡ part.Losing
+    → Receives limit c s bytes fin o
+    → o ≡ last c s told.SessionLost (length bytes)
+losing_loses limit c s bytes fin o e u p g =
+    subst (λ (x : Part). DueGives (due_by x (length bytes == 0)) limit c s bytes fin o) p
+    (subst (λ (x : Unread). StreamGives x limit c s bytes fin o) u
+    (subst (λ (b : Bool). ReceivesIf b limit c s bytes fin o) e g))

@@ -82,6 +82,15 @@ had_session part.Losing = true
 had_session part.Past = true
 had_session _ = false
 
+-- it has or had one
+abbrev pub has_begun : Part → Bool
+has_begun (part.Session size) = true
+has_begun p = had_session p
+
+-- one that has or had a session before a call has or had one after it
+abbrev pub KeepsPast : Part → Part → Type 0
+KeepsPast p q = has_begun p ≡ true → has_begun q ≡ true
+
 -- ---- streams that are over
 
 -- the frames of the stream are over

@@ -3,13 +3,13 @@
 ghost use Rattle.std.specs.Prelude.{◌≡◌, ◌||◌, ◌+◌, ◌<◌, ◌≤◌, ℕ, Bool, true, false, List, ◌∷◌, ◌++◌, length, drop, Option};
 ghost use Rattle.wtp_webtransport.specs.declared.connection.Connection.{Connection};
 ghost use Rattle.wtp_webtransport.specs.declared.stream.Stream.{Stream};
-ghost use Rattle.wtp_webtransport.specs.Events.{More, Waits};
-ghost use Rattle.wtp_webtransport.specs.Receiving.{Outcome, Receives, SectionGives};
+ghost use Rattle.wtp_webtransport.specs.Events.{More, Waits, SessionLost};
+ghost use Rattle.wtp_webtransport.specs.Receiving.{Outcome, Receives, SectionGives, last};
 ghost use Rattle.wtp_webtransport.specs.Calls.{Stops, Finishes, Continues, Reads, SaysTo, left_of, told_before, told_all, course_of, plain, moved, IsSession, IsPiece, HasMemory, HasFrames, Grown};
 ghost use Rattle.wtp_webtransport.specs.Progress.{IsSound, calls_left, GoOn};
 ghost use Rattle.wtp_webtransport.specs.Said.{of_session, said, Says, Follow, IsOpen, SessionReads, session_told, AreAlike};
 ghost use Rattle.wtp_connection.specs.Opening.{is_critical};
-ghost use Rattle.wtp_webtransport.specs.Endings.{KeepsSession, KeepsAfter, accepts_session, Marks, MarksAfter, IsQuiet, IsLoss, had_session, AreOver, IsDone};
+ghost use Rattle.wtp_webtransport.specs.Endings.{KeepsSession, KeepsAfter, accepts_session, Marks, MarksAfter, IsQuiet, IsLoss, had_session, KeepsPast, AreOver, IsDone};
 ghost use Rattle.wtp_webtransport.specs.Joining.{resets, stops_half, abandons, joins, overflows, rejects};
 ghost use Rattle.wtp_webtransport.specs.Streams.{is_held, answered, stream_of, asking_stream, session_stream};
 ghost use Rattle.wtp_webtransport.specs.Sessions.{known_of};
@@ -51,9 +51,9 @@ pub fn sessions_end_once()
         ≡ (is_held s.part || accepts_session s.part status) }
 {}
 
-/// An error of the connection is its last event. The connection is over after a call exactly if it was
-/// before, or if the call returned `ConnectionError`. Then no call of any stream returns anything or
-/// changes anything, and bytes are consumed (`quiet`, `consumed`).
+/// An error of the connection is its last event. The connection is over after one of these calls exactly
+/// if it was before, or if the call returned `ConnectionError`. Then each of them returns `More` and
+/// changes nothing (`quiet`), and `receive` consumes all bytes (`consumed`).
 pub fn errors_are_last()
     ensures receive { (limit : ℕ) (c : Connection) (s : Stream) (bytes : List ℕ) (fin : Bool) (o : Outcome)
         → Receives limit c s bytes fin o → Marks c o }
@@ -69,16 +69,17 @@ pub fn errors_are_last()
     ensures quiet { (c : Connection) (s : Stream) → c.over ≡ true → IsQuiet c s }
 {}
 
-/// A stream that is over stays so. Once its frames are over and its last event was returned, every call
-/// consumes all bytes, returns `More`, and changes nothing.
+/// A stream that is over stays so. Once its frames are over, no section is unread, and no event of its
+/// message or session is due, each call of `receive` consumes all bytes, returns `More`, and changes
+/// nothing.
 pub fn streams_end_once()
     ensures { (limit : ℕ) (c : Connection) (s : Stream) (bytes : List ℕ) (fin : Bool) (o : Outcome)
         → AreOver s.frames → IsDone s.part → s.unread ≡ unread.Nothing
         → Receives limit c s bytes fin o → o ≡ (length bytes, More, c, s) }
 {}
 
-/// A session is closed by its CLOSE capsule or the end of its stream alone. If its stream is reset or
-/// abandoned, or the peer stops the own half, it is lost, or the connection is.
+/// No reset closes a session. If its stream is reset or abandoned, or the peer stops the own half, it is
+/// lost, or the connection ends; and after an error of its stream it is lost.
 pub fn sessions_are_lost()
     ensures reset { (c : Connection) (s : Stream) → c.over ≡ false → is_held s.part ≡ true
         → IsLoss (resets c s).0 }
@@ -86,14 +87,28 @@ pub fn sessions_are_lost()
         → IsLoss (stops_half c s).0 }
     ensures abandon { (c : Connection) (s : Stream) → c.over ≡ false → is_held s.part ≡ true
         → IsLoss (abandons c s).0 }
+    ensures failed { (limit : ℕ) (c : Connection) (s : Stream) (bytes : List ℕ) (fin : Bool) (o : Outcome)
+        → c.over ≡ false → s.unread ≡ unread.Nothing → s.part ≡ part.Losing
+        → Receives limit c s bytes fin o → o ≡ last c s SessionLost (length bytes) }
 {}
 
-/// A session is over exactly if its stream had it and has it no longer. So a stream that overtakes its
-/// session is never told that it is gone: before its request came, before the header section is whole,
-/// and before the answer the session is to come.
+/// A session is over exactly if its stream had it and has it no longer, and once it had one, that stays
+/// so (`had`). So a stream that overtakes its session is never told that it is gone: at a server the
+/// session is to come before its request has a byte, before the header section is whole, and before the
+/// answer. Of a request without a stream see `wtp_connection`.
 pub fn early_streams_wait()
     ensures over { (c : Connection) (s : Stream) → known_of c s ≡ Over → had_session s.part ≡ true }
     ensures past { (c : Connection) (s : Stream) → had_session s.part ≡ true → known_of c s ≡ Over }
+    ensures had { (limit : ℕ) (c : Connection) (s : Stream) (bytes : List ℕ) (fin : Bool) (o : Outcome)
+        → Receives limit c s bytes fin o → KeepsPast s.part o.3.part }
+    ensures reset { (c : Connection) (s : Stream) → KeepsPast s.part (resets c s).2.part }
+    ensures stop { (c : Connection) (s : Stream) → KeepsPast s.part (stops_half c s).2.part }
+    ensures abandon { (c : Connection) (s : Stream) → KeepsPast s.part (abandons c s).2.part }
+    ensures join { (c : Connection) (s : Stream) (k : Known) → KeepsPast s.part (joins c s k).2.part }
+    ensures overflow { (c : Connection) (s : Stream) → KeepsPast s.part (overflows c s).2.part }
+    ensures reject { (c : Connection) (s : Stream) (id : ℕ) (goaway : Option ℕ)
+        → KeepsPast s.part (rejects c s id goaway).2.part }
+    ensures answer { (s : Stream) (status : ℕ) → KeepsPast s.part (answered s status).part }
     ensures new { (c : Connection) → c.endpoint.side ≡ Server → known_of c (stream_of frames.Bi) ≡ Coming }
     ensures begun { (c : Connection) (s : Stream) (m : Message) → c.endpoint.side ≡ Server
         → s.part ≡ part.Head m → known_of c s ≡ Coming }
@@ -101,9 +116,10 @@ pub fn early_streams_wait()
         → known_of c s ≡ Coming }
 {}
 
-/// A stream that waits loses nothing. While a request has no answer, a call consumes nothing and changes
-/// nothing, so its bytes are read after the answer as if they came then. A request that waited for the
-/// peer's SETTINGS is read, by whatever connection they made, as the section that comes next.
+/// A request that waits loses nothing. While it has no answer, a call consumes nothing and changes
+/// nothing, so its bytes are read after the answer as if they came then. One that waited for the peer's
+/// SETTINGS is read, by whatever connection they made, as the section that comes next, once all of its
+/// bytes are passed.
 pub fn waits_change_nothing()
     ensures answer { (limit : ℕ) (c : Connection) (s : Stream) (m : Message) (session : Bool) (bytes : List ℕ)
         (fin : Bool) (o : Outcome) → c.over ≡ false → s.unread ≡ unread.Nothing
