@@ -1,6 +1,6 @@
 //! Datagrams whose sessions are to come (RFC 9297, section 2.1; draft-ietf-webtrans-http3-02, section
 //! 4.5).
-ghost use Rattle.std.specs.Prelude.{◌≡◌, ◌==◌, ◌≤◌, [], length, IfOk, OnErr, option_map};
+ghost use Rattle.std.specs.Prelude.{◌≡◌, ◌==◌, ◌<◌, ◌≤◌, [], length, IfOk, OnErr, option_map};
 ghost use Rattle.wtp_hold.specs.Early.{keeps, takes};
 
 use std::alloc::{AllocError, Global};
@@ -18,7 +18,8 @@ struct Datagram {
 
 /// The datagrams of a connection whose sessions are to come, in the order in which they came: at most
 /// 16. Keep here what is [`Early`](wtp_connection::connection::datagrams::DatagramFor), and take it when
-/// its session opens, or is refused.
+/// its session opens, or is refused. None is dropped by age: take those of a session that has not come
+/// after about a round trip, too (RFC 9297, section 2.1).
 #[derive(Drop)]
 pub struct EarlyDatagrams {
     alloc: Global,
@@ -38,7 +39,7 @@ impl Model for EarlyDatagrams {
 }
 
 impl EarlyDatagrams {
-    /// Creates the place for the datagrams of a connection. It has no memory while none is kept.
+    /// Creates the place for the datagrams of a connection. Nothing is allocated.
     pub fn new(alloc: Global) -> Self
         ensures { result ≡ [] }
     {
@@ -68,10 +69,12 @@ impl EarlyDatagrams {
     ///
     /// # Errors
     ///
-    /// If allocation fails: nothing changes, and the datagram is to be dropped.
+    /// If allocation fails, which needs fewer than 16 that are kept: nothing changes, and the datagram is
+    /// to be dropped.
     pub fn keep(&mut self, session: u64, payload: &[u8]) -> Result<bool, AllocError>
         ensures kept { IfOk result (λ is_kept. (is_kept, self.new) ≡ keeps self.old session payload.now) }
         ensures memory { OnErr result (self.new ≡ self.old) }
+        ensures room { OnErr result (length self.old < 16) }
     {
         if self.datagrams.len() >= MAX_DATAGRAMS {
             return Ok(false);
