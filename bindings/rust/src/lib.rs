@@ -1,0 +1,160 @@
+//! WebTransport over HTTP/3 without IO, from Vesgrauf: safe Rust over its C library, `libwtransport`,
+//! whose calls are proved to do what their definitions say.
+//!
+//! This crate is Vesgrauf's. It is neither the crate `wtransport`, which is an endpoint with sockets, nor
+//! `wtransport-proto`, which is its protocol core and has the same purpose as this crate: the README says
+//! what corresponds to what. It has no dependencies, no socket, no clock and no runtime: bytes of streams
+//! and datagrams go in, events come out, and what is sent is written as bytes. A whole server and a client
+//! over quinn are in the folder `quinn` beside this crate.
+//!
+//! # What is where
+//!
+//! | For | Use |
+//! |---|---|
+//! | a whole connection | [`Connection`], [`Stream`], [`Event`] |
+//! | what is read at most | [`Limits`], in an [`Endpoint`] |
+//! | what is sent | [`Endpoint::settings`], [`session`], [`frame`], [`stream_header`], [`datagram`], [`capsule`] |
+//! | fields of messages | [`fields::FieldList`] |
+//! | error codes, names, those of applications | [`error::Code`], [`error::application_codes`] |
+//! | one stream, below a connection of your own | [`frame::FrameCursor`], [`capsule::CapsuleCursor`], [`settings::Settings`], [`varint`] |
+//!
+//! # A server
+//!
+//! QUIC is configured with the ALPN protocol [`WEBTRANSPORT_ALPN`], with datagrams, and so that the peer may
+//! open at least three unidirectional streams beside those of its sessions. For each QUIC connection a server
+//! keeps a [`Connection`], and for each stream a [`Stream`] with the bytes that were not consumed.
+//!
+//! 1. At the start it opens a unidirectional stream and sends what
+//!    [`Settings::write_control_stream`](settings::Settings::write_control_stream) writes. It stays open.
+//! 2. For each stream of the peer: [`Connection::accept`], and [`Connection::receive`] with its bytes.
+//! 3. It does what the comment of each [`Event`] says.
+//! 4. It reads streams that [wait](Event::Waits) again: for a session after that was answered or ended, for
+//!    SETTINGS after they came, for an answer after [`Stream::answer`].
+//! 5. A reset of a stream, a request to stop it and a datagram go to [`Connection::reset`],
+//!    [`Connection::stop`] (or [`Connection::stopped`]) and [`Connection::datagram`].
+//! 6. To close a session it writes what
+//!    [`CloseWebTransportSession`](capsule::CloseWebTransportSession) shows on the session's stream, ends its
+//!    half of the stream, and calls [`Connection::abandon`]. In each case the streams of a session that is over
+//!    are reset and stopped.
+//! 7. After the end of a stream its [`Stream`] may be dropped, that of a session too: a server's
+//!    [`Connection`] knows which requests have begun. A client keeps those of its sessions. One that is dropped
+//!    before its end is [abandoned](Connection::abandon) first.
+//!
+//! Only the bytes that were consumed are to be credited to the peer, so that QUIC's flow control bounds what
+//! waits: with a library such as quinn, which credits what is read, a stream is read no further while bytes of
+//! it wait.
+//!
+//! Here a client of this crate asks such a server for a session, without a network in between:
+//!
+//! ```
+//! use vesgrauf::session::{SessionRequest, SessionResponse};
+//! use vesgrauf::{Asked, Connection, Endpoint, Event, Limits, Stream, Waits};
+//!
+//! const LIMITS: Limits = Limits { max_section: 65_536, max_fields: 65_536, max_datagram: 1_500 };
+//!
+//! /// Reads all that is next on a stream, and returns the event before the last one.
+//! fn last<'a>(connection: &mut Connection, stream: &mut Stream, mut bytes: &'a [u8]) -> Event<'a> {
+//!     let mut last = Event::More;
+//!     loop {
+//!         let received = connection.receive(stream, bytes, false);
+//!         bytes = &bytes[received.consumed..];
+//!         match received.event {
+//!             Event::More | Event::Waits(_) => return last,
+//!             Event::ConnectionError(code) => panic!("close the connection: {code}"),
+//!             event => last = event,
+//!         }
+//!     }
+//! }
+//!
+//! # fn main() -> Result<(), Box<dyn std::error::Error>> {
+//! let (server_end, client_end) = (Endpoint::server(LIMITS), Endpoint::client(LIMITS));
+//! let (mut server, mut client) = (Connection::new(server_end)?, Connection::new(client_end)?);
+//!
+//! // each sends its SETTINGS on its first unidirectional stream: the client on 2, the server on 3
+//! let (mut bytes, mut control) = (Vec::new(), server.accept(2));
+//! client_end.settings(0).write_control_stream(&mut bytes)?;
+//! assert!(matches!(last(&mut server, &mut control, &bytes), Event::Settings(_)));
+//! let (mut bytes, mut control) = (Vec::new(), client.accept(3));
+//! server_end.settings(16).write_control_stream(&mut bytes)?;
+//! assert!(matches!(last(&mut client, &mut control, &bytes), Event::Settings(_)));
+//! assert!(client.allows_sessions());
+//!
+//! // the client asks on its stream 0, and the server accepts
+//! let (mut bytes, mut asking) = (Vec::new(), client.open(Asked::Session));
+//! SessionRequest::new("https://localhost/chat").write(&mut bytes)?;
+//! let mut asked = server.accept(0);
+//! match last(&mut server, &mut asked, &bytes) {
+//!     Event::SessionRequested(fields) => assert_eq!(fields.first(b":path"), Some(&b"/chat"[..])),
+//!     event => panic!("{event:?}"),
+//! }
+//! assert_eq!(asked.waits(), Some(Waits::Answer));
+//! let mut bytes = Vec::new();
+//! SessionResponse::ok().write(&mut bytes)?;
+//! asked.answer(200);
+//! assert!(matches!(last(&mut client, &mut asking, &bytes), Event::SessionReady(200, _)));
+//!
+//! // a bidirectional stream of the session: 4 at the client
+//! let mut bytes = Vec::new();
+//! vesgrauf::frame::write_webtransport(0, &mut bytes)?;
+//! bytes.extend_from_slice(b"hello");
+//! let mut stream = server.accept(4);
+//! let received = server.receive(&mut stream, &bytes, true);
+//! assert_eq!(received.event, Event::Joins(0));
+//! let known = server.known(0, Some(&asked));
+//! assert_eq!(server.join(&mut stream, known), Event::Joined(0));
+//! let received = server.receive(&mut stream, &bytes[received.consumed..], true);
+//! assert_eq!(received.event, Event::StreamData(b"hello"));
+//! # Ok(())
+//! # }
+//! ```
+//!
+//! # Building
+//!
+//! The build script finds the library by `pkg-config`, or in the folder that the environment variable
+//! `WTRANSPORT_LIB_DIR` names. `WTRANSPORT_STATIC=1` links the archive `libwtransport.a`. The library needs
+//! x86-64 with SSE4.2 and POPCNT.
+//!
+//! Without the feature `std`, which is on by default, the crate needs `alloc` alone: the errors then do not
+//! implement [`std::error::Error`].
+//!
+//! # Memory and safety
+//!
+//! All unsafe code is in the file `src/sys.rs`. A [`Connection`] has no table and no queue. It keeps memory
+//! for one field section, a datagram and a reason, within its [`Limits`], and a [`Stream`] that of a capsule
+//! that is cut: at most 1,028 bytes, or [`Limits::max_datagram`] if that is more. How many bytes of a stream
+//! wait is the caller's own limit ([`Connection::overflow`]).
+//!
+//! What is proved is proved of the library, in its repository. Of this crate nothing is proved.
+#![cfg_attr(not(feature = "std"), no_std)]
+#![deny(unsafe_code)]
+#![warn(missing_docs)]
+
+extern crate alloc;
+
+pub mod capsule;
+pub mod connection;
+pub mod datagram;
+pub mod error;
+pub mod event;
+pub mod fields;
+pub mod frame;
+pub mod malformed;
+pub mod session;
+pub mod settings;
+pub mod stream;
+pub mod stream_header;
+#[allow(missing_docs)]
+mod sys;
+pub mod varint;
+
+pub use connection::{Asked, Connection, DatagramFor, Endpoint, Known, Limits, Side};
+pub use event::{Close, Event, HeadersKind, Purpose, Received, Waits};
+pub use stream::Stream;
+
+/// The ALPN protocol ID that a QUIC connection for WebTransport negotiates (RFC 9114, section 3.1).
+pub const WEBTRANSPORT_ALPN: &[u8] = b"h3";
+
+/// Returns the version of the library that is linked, a byte for each part: 0x000800 is 0.8.0.
+pub fn library_version() -> u32 {
+    sys::version()
+}

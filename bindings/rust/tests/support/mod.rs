@@ -1,0 +1,172 @@
+//! What tests have in common: random numbers, and a connection that is read in pieces.
+#![allow(dead_code)] // each test uses a part
+
+pub mod json;
+
+use std::collections::BTreeMap;
+use std::fmt::Write;
+use vesgrauf::{Connection, Endpoint, Event, Limits, Stream, Waits};
+
+pub const LIMITS: Limits = Limits { max_section: 65_536, max_fields: 16_384, max_datagram: 1_200 };
+
+/// How many times a test is done: fewer under valgrind, where VESGRAUF_CUTS divides it.
+pub fn times(number: usize) -> usize {
+    let cuts = std::env::var("VESGRAUF_CUTS").ok().map(|cuts| cuts.parse::<usize>().unwrap());
+    cuts.map_or(number, |cuts| (number / cuts).max(1))
+}
+
+/// Random numbers by a seed (splitmix64).
+pub struct Random(pub u64);
+
+impl Random {
+    /// Returns a number below `bound`.
+    pub fn below(&mut self, bound: usize) -> usize {
+        self.0 = self.0.wrapping_add(0x9e37_79b9_7f4a_7c15);
+        let mut z = self.0;
+        z = (z ^ (z >> 30)).wrapping_mul(0xbf58_476d_1ce4_e5b9);
+        z = (z ^ (z >> 27)).wrapping_mul(0x94d0_49bb_1331_11eb);
+        ((z ^ (z >> 31)) % bound as u64) as usize
+    }
+
+    /// Cuts bytes into pieces at random places.
+    pub fn pieces<'a>(&mut self, bytes: &'a [u8]) -> Vec<&'a [u8]> {
+        let longest = 1 + self.below(bytes.len().max(1));
+        let (mut pieces, mut rest) = (Vec::new(), bytes);
+        while !rest.is_empty() {
+            let size = (1 + self.below(longest)).min(rest.len());
+            pieces.push(&rest[..size]);
+            rest = &rest[size..];
+        }
+        pieces
+    }
+}
+
+/// A stream of the peer: what was not consumed, whether it ended, and its events as text.
+pub struct Read {
+    pub stream: Stream,
+    pub bytes: Vec<u8>,
+    pub fin: bool,
+    pub data: Vec<u8>,
+    pub text: String,
+}
+
+/// A connection whose streams come in pieces. Requests for sessions are answered with `status`.
+pub struct Player {
+    pub connection: Connection,
+    pub streams: BTreeMap<u64, Read>,
+    pub status: u32,
+    /// Whether something changed for which a stream may wait.
+    changed: bool,
+}
+
+impl Player {
+    pub fn new(endpoint: Endpoint, status: u32) -> Self {
+        let connection = Connection::new(endpoint).unwrap();
+        Player { connection, streams: BTreeMap::new(), status, changed: false }
+    }
+
+    pub fn add(&mut self, id: u64, stream: Stream) {
+        let (bytes, data, text) = (Vec::new(), Vec::new(), String::new());
+        self.streams.insert(id, Read { stream, bytes, fin: false, data, text });
+    }
+
+    pub fn accept(&mut self, id: u64) {
+        let stream = self.connection.accept(id);
+        self.add(id, stream);
+    }
+
+    /// Passes the next bytes of a stream.
+    pub fn receive(&mut self, id: u64, piece: &[u8], fin: bool) {
+        let read = self.streams.get_mut(&id).unwrap();
+        read.bytes.extend_from_slice(piece);
+        read.fin |= fin;
+        self.read(id);
+        while std::mem::take(&mut self.changed) {
+            let waiting = self.streams.iter().filter(|(_, read)| read.stream.waits().is_some());
+            let waiting: Vec<u64> = waiting.map(|(id, _)| *id).collect();
+            for id in waiting {
+                self.wake(id);
+            }
+        }
+    }
+
+    /// Passes all bytes of a stream, in these pieces.
+    pub fn play(&mut self, id: u64, pieces: &[&[u8]], fin: bool) {
+        for piece in pieces {
+            self.receive(id, piece, false);
+        }
+        if fin {
+            self.receive(id, b"", true);
+        }
+    }
+
+    /// Returns the events of a stream as text, in which pieces of content that follow each other are one.
+    pub fn text(&mut self, id: u64) -> String {
+        let read = self.streams.get_mut(&id).unwrap();
+        flush(read);
+        read.text.clone()
+    }
+
+    fn wake(&mut self, id: u64) {
+        let waits = self.streams[&id].stream.waits();
+        match waits {
+            Some(Waits::Session(session)) => self.join(id, session),
+            Some(Waits::Answer) => {
+                self.streams.get_mut(&id).unwrap().stream.answer(self.status);
+                self.changed = true;
+            }
+            _ => {}
+        }
+        self.read(id);
+    }
+
+    fn join(&mut self, id: u64, session: u64) {
+        let its = self.streams.get(&session).map(|its| &its.stream);
+        let known = self.connection.known(session, its);
+        let read = self.streams.get_mut(&id).unwrap();
+        match self.connection.join(&mut read.stream, known) {
+            Event::More | Event::Waits(_) => {}
+            event => tell(read, &event),
+        }
+    }
+
+    fn read(&mut self, id: u64) {
+        for _ in 0..10_000 {
+            let read = self.streams.get_mut(&id).unwrap();
+            let bytes = std::mem::take(&mut read.bytes);
+            let received = self.connection.receive(&mut read.stream, &bytes, read.fin);
+            assert!(received.consumed <= bytes.len());
+            read.bytes = bytes[received.consumed..].to_vec();
+            match received.event {
+                Event::More => return,
+                Event::Waits(Waits::Answer) => return self.wake(id),
+                Event::Waits(_) => return,
+                Event::Joins(session) => self.join(id, session),
+                event => {
+                    self.changed |= !matches!(event, Event::Data(_) | Event::StreamData(_));
+                    tell(read, &event);
+                }
+            }
+        }
+        panic!("the stream {id} does not end");
+    }
+}
+
+/// Appends an event to the text of its stream.
+pub fn tell(read: &mut Read, event: &Event<'_>) {
+    match event {
+        Event::Data(bytes) | Event::StreamData(bytes) => read.data.extend_from_slice(bytes),
+        Event::Opened(_) | Event::Skipped => {}
+        event => {
+            flush(read);
+            write!(read.text, "{event:?}; ").unwrap();
+        }
+    }
+}
+
+fn flush(read: &mut Read) {
+    if !read.data.is_empty() {
+        write!(read.text, "data {}; ", read.data.len()).unwrap();
+        read.data.clear();
+    }
+}
