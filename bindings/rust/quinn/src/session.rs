@@ -246,14 +246,16 @@ async fn run(
     shared.changed.notify_waiters();
     let here = closed == Closed::Here;
     let _ = end.send(Some(closed));
-    let ending = async {
-        let _ = send.finish().await;
-        match here {
-            true => reader.drain().await,
-            false => while matches!(reader.next().await, Item::Data(_) | Item::Datagram(_)) {},
-        }
-    };
-    let _ = tokio::time::timeout(ENDING, ending).await;
+    let _ = tokio::time::timeout(ENDING, finish(reader, send, here)).await;
+}
+
+/// Ends the stream of a session that is over. `here`: it was closed here, and the own half is ended.
+async fn finish(mut reader: Reader, mut send: SendStream, here: bool) {
+    if here {
+        return reader.drain().await;
+    }
+    let _ = send.finish().await;
+    while matches!(reader.next().await, Item::Data(_) | Item::Datagram(_)) {}
 }
 
 /// Writes the capsule that closes a session, in a DATA frame.
@@ -281,8 +283,11 @@ impl Send {
 
     /// Ends the half, and waits until the peer has all of it.
     pub async fn finish(&mut self) -> Result<(), StreamError> {
+        if self.finished {
+            return Ok(()); // quinn's call panics when it is repeated
+        }
         let finished = until_over(&self.over, self.quic.finish()).await;
-        self.finished |= matches!(finished, Some(Ok(())));
+        self.finished = finished.is_some();
         self.result(finished)
     }
 

@@ -7,10 +7,13 @@ use std::sync::Arc;
 use std::time::Duration;
 use vesgrauf::WEBTRANSPORT_ALPN;
 
-/// Flow control: a stream keeps at most this, a connection at most ten times as much.
+/// Flow control: a stream keeps at most 256 KiB, and a connection ten times as much. Of the streams of a
+/// connection 256 each way are open at once: a page may open a hundred beside that of its session.
 fn transport() -> Arc<TransportConfig> {
     let mut transport = TransportConfig::default();
     transport
+        .max_concurrent_bidi_streams(VarInt::from_u32(256))
+        .max_concurrent_uni_streams(VarInt::from_u32(256))
         .stream_receive_window(VarInt::from_u32(256 * 1024))
         .receive_window(VarInt::from_u32(2560 * 1024))
         .max_idle_timeout(Some(VarInt::from_u32(30_000).into()))

@@ -141,15 +141,9 @@ async fn session(server: Arc<Server>, request: Request) {
         }
     };
     let one_way = async {
-        while let Some(mut receive) = session.accept_uni().await {
+        while let Some(receive) = session.accept_uni().await {
             server.streams.fetch_add(1, Relaxed);
-            let session = session.clone();
-            tokio::spawn(async move {
-                let bytes = receive.read_to_end(ONE_WAY).await?;
-                let mut send = session.open_uni().await?;
-                send.write_all(&bytes).await?;
-                send.finish().await
-            });
+            tokio::spawn(send_back(session.clone(), receive));
         }
     };
     let datagrams = async {
@@ -162,6 +156,14 @@ async fn session(server: Arc<Server>, request: Request) {
     if session.closed().await != Closed::Lost {
         server.closed.fetch_add(1, Relaxed);
     }
+}
+
+/// Sends what comes on a unidirectional stream back on another.
+async fn send_back(session: Arc<Session>, mut receive: Receive) -> Result<(), StreamError> {
+    let bytes = receive.read_to_end(ONE_WAY).await?;
+    let mut send = session.open_uni().await?;
+    send.write_all(&bytes).await?;
+    send.finish().await
 }
 
 /// Sends what comes on a stream back, or does its command. A reset of the stream goes back too.
