@@ -27,10 +27,10 @@ pub taken_here : (xs : List Datagram) (i id : ℕ) (x : Datagram)
     ≡ (Some x.payload.items, all_kept (remove xs i))
 taken_here xs i id x inside at same =
     let front : drop i xs ≡ x ∷ drop (suc i) xs =
-        drop-cons xs i x inside ∙ ap (λ (y : Datagram). y ∷ drop (suc i) xs) (sym at) in
+    drop-cons xs i x inside ∙ ap (λ (y : Datagram). y ∷ drop (suc i) xs) (sym at) in
     let found =
-        ap (λ (ys : List Datagram). takes id (all_kept ys)) front
-        ∙ first_taken id x (drop (suc i) xs) same in
+    ap (λ (ys : List Datagram). takes id (all_kept ys)) front
+    ∙ first_taken id x (drop (suc i) xs) same in
     ap (put_before (all_kept (take i xs))) found
     ∙ ap (λ (ys : List (ℕ × List ℕ)). (Some x.payload.items, ys))
     (sym (map-append kept (take i xs) (drop (suc i) xs)))

@@ -9,12 +9,12 @@ returns-then-index-session c =
     let xs = c.loop-i.self-inside.datagrams.items in
     let inside : c.loop-i.i < length xs = search rules in
     let read =
-        c.remove.ensures.value
-        ∙ get_or_default xs c.loop-i.i c.remove.result c.index.result.now inside
-        ∙ sym c.index.ensures in
+    c.remove.ensures.value
+    ∙ get_or_default xs c.loop-i.i c.remove.result c.index.result.now inside
+    ∙ sym c.index.ensures in
     let same = ap (λ (d : Datagram). d.session) read ∙ c.if-index-session.true in
     let found =
-        taken_here xs c.loop-i.i c.args.session c.remove.result inside c.remove.ensures.value same in
+    taken_here xs c.loop-i.i c.args.session c.remove.result inside c.remove.ensures.value same in
     rw (c.remove.ensures.items) (sym found ∙ sym c.loop-i.invariant)
 
 pub returns : goal.returns
