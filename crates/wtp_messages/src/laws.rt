@@ -40,7 +40,7 @@ pub fn authorities_are_those_of_the_grammar()
 {}
 
 /// Requests of plain fields are read, whatever their values are, and say exactly these: `https` requests
-/// of any method, also with a `content-length`; requests for a session where extended CONNECT is
+/// of any method but CONNECT, also with a `content-length`; requests for a session where extended CONNECT is
 /// allowed; and CONNECT requests for a tunnel.
 pub fn plain_requests_are_read()
     ensures request { (extended : Bool) (method authority path : List ℕ) (others : List Field)
@@ -96,7 +96,8 @@ pub fn worked_messages_are_read()
 {}
 
 /// How much content a response has: any that comes after a 2xx status to a CONNECT request, none of a
-/// response to HEAD, an interim one, or one with status 204 or 304, and else what was announced.
+/// response to HEAD, an interim one, or one with status 204 or 304, and else, to a request of any other
+/// method, what was announced.
 pub fn responses_have_their_content()
     ensures tunnel { (code : ℕ) (announced : Option ℕ) → 200 ≤ code → code < 300
         → expected asked.Connect code announced ≡ None }
@@ -153,8 +154,9 @@ pub fn broken_lines_are_refused()
 {}
 
 /// So is a section with a pseudo-header field after a regular field, or with two of one name, and one
-/// that may announce a length, but has a `content-length` that is no number, or two that differ. The
-/// rules of sections are those of requests and of responses.
+/// that may announce a length, but has a `content-length` that is neither a list nor a number below
+/// 2^62, or two such fields with different numbers. The rules of sections are those of requests and of
+/// responses.
 pub fn broken_sections_are_refused()
     ensures late { (kind : SectionKind) (before between after : List Field) (field pseudo : Field)
         → is_pseudo field ≡ false → is_pseudo pseudo ≡ true

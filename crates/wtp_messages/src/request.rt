@@ -30,6 +30,7 @@ pub struct Request<'a> {
     /// The value of `:authority`, or else that of `host`. In a CONNECT request, and if the scheme is
     /// `http` or `https`, it is there: a host that is not empty, and maybe a port after a colon (RFC
     /// 3986, section 3.2). A CONNECT request without `:protocol` has a port.
+    /// The number of its port, and the groups of an IP literal, are not checked.
     pub authority: Option<&'a [u8]>,
     /// The value of `:path`. Only a CONNECT request without `:protocol` has none.
     pub path: Option<&'a [u8]>,

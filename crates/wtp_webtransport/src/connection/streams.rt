@@ -20,8 +20,8 @@ impl Connection {
     /// what became of it. Returns `StreamError` if the session is over or refused, and if 16 streams
     /// wait already, and `ConnectionError` if no session can have the ID. A request that asked for no
     /// session (`Known::Other`) is a `StreamError` at a server, and a `ConnectionError` at a client,
-    /// which knows what it asked for. Otherwise, also if the stream has joined its session before,
-    /// nothing changes, and it returns `More`.
+    /// which knows what it asked for. A stream that has joined its session before heeds `Known::Over`
+    /// alone. Otherwise nothing changes, and it returns `More`.
     pub fn join(&mut self, stream: &mut Stream, known: Known) -> Event<'static>
         ensures { (told_of result, self.new, stream.new) ≡ joins self.old stream.old known }
     {
