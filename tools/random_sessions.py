@@ -11,14 +11,14 @@ from dataclasses import dataclass
 
 from connection_model import CONNECT, CRITICAL, DATAGRAM, DEFAULTS, Side, WEBTRANSPORT_ON
 from connection_rows import frame
+from message_bytes import CONNECT as TUNNEL
+from message_bytes import GET, SESSION, capsule, line, prefixed
 from nghttp3_sections import fields_of
 from random_scripts import Maker, is_critical
 from random_streams import Batch, StreamOfScript, mixed
 from session_events import Sessions, are_alike, cut_by_session, decision_in, difference, is_done
 from session_events import is_last, is_start, of_streams, session_events_in
 from session_model import CLOSE, DRAIN, Surroundings, session_events
-from session_rows import CONNECT as TUNNEL
-from session_rows import GET, SESSION, capsule, line, prefixed
 
 # How many scripts a run of the program reads.
 BATCH = 500

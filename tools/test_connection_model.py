@@ -11,7 +11,7 @@ from recorded_connections import connections_in
 from recorded_sessions import RecordedSessions
 from replay import TOP, difference, ends_connection, is_start
 from session_events import Sessions
-from session_rows import CONNECT, GET, SESSION
+from message_bytes import CONNECT, GET, SESSION
 
 
 class ModelTest(unittest.TestCase):
@@ -68,7 +68,7 @@ class SessionsTest(unittest.TestCase):
     OPEN = [*ASKED, (0, ("answered", 200))]
 
     def fault(self, *events):
-        return Sessions(True, {}).fault(events)
+        return Sessions(True, {}, {}).fault(events)
 
     def test_streams_are_joined_as_their_session_is(self):
         joins, joined = (6, ("joins", 0, 3)), (6, ("joined", 0, 3))
@@ -80,6 +80,12 @@ class SessionsTest(unittest.TestCase):
         self.assertIsNotNone(self.fault(*self.ASKED, joins, joined))
         self.assertIsNotNone(self.fault(joins, *self.OPEN, (0, ("lost",)), joined))
         self.assertIsNotNone(self.fault(joins, *self.OPEN))
+
+    def test_streams_of_a_session_end_with_it(self):
+        ends = [(6, ("joins", 0, 3)), *self.OPEN, (6, ("joined", 0, 3)), (0, ("lost",))]
+        self.assertIsNone(self.fault(*ends, (6, ("fault", 0x170D7B68, "stream"))))
+        self.assertIsNotNone(self.fault(*ends))
+        self.assertIsNotNone(self.fault(*ends, (6, ("data", 3, 6))))
 
     def test_datagrams_are_for_open_sessions(self):
         deliver = (None, ("datagram", "0", "deliver", "-"))
