@@ -119,10 +119,9 @@ static void answer(stream *s, uint32_t status) {
 }
 static void refuse_fields(stream *s) {
   wt_event e;
-  if (!ok(wt_stream_abandon(&connection, &s->state, &e))) return;
-  if (e.kind == WT_EVENT_SESSION_LOST) end_streams(s->id);
-  else answer(s, 431);
+  answer(s, 431);
   quic_stop(s->id, WT_H3_NO_ERROR);
+  ok(wt_stream_abandon(&connection, &s->state, &e));
 }
 static void act(stream *s, wt_event e, const uint8_t *bytes) {
   switch (e.kind) {
