@@ -103,13 +103,20 @@ static void reject(uint64_t status) {
   quic_send(0, NULL, 0, 1);
 }
 
+/* The answer has more fields than the client reads. */
+static void give_up(void) {
+  wt_event e;
+  quic_end(0, WT_H3_REQUEST_CANCELLED);
+  ok(wt_stream_abandon(&connection, &request.state, &e));
+}
+
 static void act(const wt_event *e) {
   switch (e->kind) {
   case WT_EVENT_SETTINGS: ask(); break;
   case WT_EVENT_SESSION_READY: puts("the session is open"); close_session(); break;
   case WT_EVENT_REJECTED: reject(e->number); break;
-  case WT_EVENT_TOO_LARGE: case WT_EVENT_STREAM_ERROR: case WT_EVENT_MALFORMED:
-    quic_end(0, e->kind == WT_EVENT_TOO_LARGE ? WT_H3_REQUEST_CANCELLED : e->number); break;
+  case WT_EVENT_TOO_LARGE: give_up(); break;
+  case WT_EVENT_STREAM_ERROR: case WT_EVENT_MALFORMED: quic_end(0, e->number); break;
   case WT_EVENT_CONNECTION_ERROR: quic_close(e->number); break;
   }
 }
