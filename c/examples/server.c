@@ -7,7 +7,10 @@
 #include <stdio.h>
 #include <stdlib.h>
 
-enum { WINDOW = 1 << 16, HELD = 1200, FIELDS = 64, OUT = 1 << 14 };
+/* The limits. Each field counts 32 bytes of MAX_FIELDS beside its texts, so these are its fields and
+   their texts at most. A window has room for a field section with its frame. */
+enum { MAX_SECTION = 1 << 14, MAX_FIELDS = 1 << 14, HELD = 1200, WINDOW = 1 << 16 };
+enum { FIELDS = MAX_FIELDS / 32, OUT = MAX_FIELDS };
 
 typedef struct stream {
   uint64_t id;
@@ -23,6 +26,7 @@ static size_t count;
 static wt_connection connection;
 static wt_field fields[FIELDS];
 static uint8_t out[OUT];
+static int closed;
 
 /* ---- What QUIC does ---- */
 
@@ -38,12 +42,21 @@ static void quic_send(uint64_t id, const uint8_t *bytes, size_t length, int fin)
   puts(fin ? " end" : "");
 }
 
+/* Asks the peer to stop its half of a stream. */
+static void quic_stop(uint64_t id, uint64_t code) {
+  printf("%u: stop 0x%lx\n", (unsigned)id, (unsigned long)code);
+}
+
 /* Resets the own half of a stream, and asks the peer to stop its half. */
 static void quic_end(uint64_t id, uint64_t code) {
   printf("%u: reset and stop 0x%lx\n", (unsigned)id, (unsigned long)code);
 }
 
-static void quic_close(uint64_t code) { printf("close 0x%lx\n", (unsigned long)code); }
+/* Closes the connection; a second time does nothing. */
+static void quic_close(uint64_t code) {
+  if (!closed) printf("close 0x%lx\n", (unsigned long)code);
+  closed = 1;
+}
 
 /* ---- The streams of the connection ---- */
 
@@ -54,6 +67,12 @@ static stream *find(uint64_t id) {
   return NULL;
 }
 
+/* Whether a call succeeded: the connection is closed if it did not. */
+static int ok(int answer) {
+  if (answer != WT_OK) quic_close(WT_H3_INTERNAL_ERROR);
+  return answer == WT_OK;
+}
+
 /* Ends the streams of a session that is over, and then its own. */
 static void end_streams(uint64_t session) {
   size_t i;
@@ -62,10 +81,9 @@ static void end_streams(uint64_t session) {
     uint32_t belongs = 0;
     uint64_t its = 0;
     wt_event e;
-    if (wt_stream_belongs(&s->state, &belongs, &its) != WT_OK || !belongs || its != session)
-      continue;
+    if (!ok(wt_stream_belongs(&s->state, &belongs, &its)) || !belongs || its != session) continue;
     quic_end(s->id, WT_WEBTRANSPORT_SESSION_GONE);
-    wt_stream_abandon(&connection, &s->state, &e);
+    ok(wt_stream_abandon(&connection, &s->state, &e));
   }
   quic_send(session, NULL, 0, 1);
 }
@@ -81,28 +99,36 @@ static int is_chat(const wt_event *e) {
 /* ---- The server ---- */
 
 static void begin(void) {
-  static const wt_endpoint endpoint = {WT_SIDE_SERVER, 1, 1, 1, 16384, 16384, 1200, {0}};
-  static const uint8_t control[] = {0, 4, 9, 8, 1, 0x33, 1, 0xab, 0x60, 0x37, 0x42, 1};
-  wt_connection_new(WT_ABI, &endpoint, &connection);
-  quic_send(3, control, sizeof control, 0); /* SETTINGS: 0x08, 0x33 and 0x2b603742 are 1 */
+  static const wt_endpoint endpoint = {WT_SIDE_SERVER, 1, 1, 1, MAX_SECTION, MAX_FIELDS, HELD, {0}};
+  static const uint8_t control[] = {0, 4, 14, 6, 0x80, 0, MAX_FIELDS >> 8, MAX_FIELDS & 255,
+                                    8, 1, 0x33, 1, 0xab, 0x60, 0x37, 0x42, 1};
+  if (!ok(wt_connection_new(WT_ABI, &endpoint, &connection))) return;
+  quic_send(3, control, sizeof control, 0); /* SETTINGS: 0x06 is MAX_FIELDS; 0x08, 0x33 and
+                                               0x2b603742 are 1 */
 }
-static wt_event join(stream *s, uint64_t session) {
-  const stream *its = find(session); uint32_t known; wt_event e;
-  wt_session_known(&connection, session, its ? &its->state : NULL, its != NULL, &known);
-  wt_stream_join(&connection, &s->state, known, &e);
-  return e;
+static int join(stream *s, uint64_t session, wt_event *e) {
+  const stream *its = find(session); uint32_t known;
+  return ok(wt_session_known(&connection, session, its ? &its->state : NULL, its != NULL, &known))
+         && ok(wt_stream_join(&connection, &s->state, known, e));
 }
 static void answer(stream *s, uint32_t status) {
   uint8_t bytes[16]; size_t size;
-  wt_response_write(status, NULL, 0, NULL, 0, bytes, sizeof bytes, &size);
+  if (!ok(wt_response_write(status, NULL, 0, NULL, 0, bytes, sizeof bytes, &size))) return;
   quic_send(s->id, bytes, size, status != 200);
-  wt_stream_answer(&s->state, status);
+  ok(wt_stream_answer(&s->state, status));
+}
+static void refuse_fields(stream *s) {
+  wt_event e;
+  answer(s, 431);
+  quic_stop(s->id, WT_H3_NO_ERROR);
+  ok(wt_stream_abandon(&connection, &s->state, &e));
 }
 static void act(stream *s, wt_event e, const uint8_t *bytes) {
   switch (e.kind) {
   case WT_EVENT_SESSION_REQUESTED: answer(s, is_chat(&e) ? 200 : 404); break;
   case WT_EVENT_HEADERS: if (e.detail == WT_HEADERS_REQUEST) answer(s, 404); break;
-  case WT_EVENT_JOINS: act(s, join(s, e.number), bytes); break;
+  case WT_EVENT_TOO_LARGE: refuse_fields(s); break;
+  case WT_EVENT_JOINS: if (join(s, e.number, &e)) act(s, e, bytes); break;
   case WT_EVENT_STREAM_DATA: quic_send(s->id, bytes + e.offset, e.length, 0); break;
   case WT_EVENT_END: quic_send(s->id, NULL, 0, 1); break;
   case WT_EVENT_SESSION_CLOSED: case WT_EVENT_SESSION_LOST: end_streams(s->id); break;
@@ -113,8 +139,8 @@ static void act(stream *s, wt_event e, const uint8_t *bytes) {
 static size_t read_events(stream *s, const uint8_t *bytes, size_t length, uint8_t fin) {
   size_t start = 0; wt_event e;
   do {
-    if (wt_receive(&connection, &s->state, s->held, HELD, NULL, 0, bytes + start, length - start,
-                   fin, &e, fields, FIELDS, out, OUT) != WT_OK) break;
+    if (!ok(wt_receive(&connection, &s->state, s->held, HELD, NULL, 0, bytes + start,
+                       length - start, fin, &e, fields, FIELDS, out, OUT))) break;
     act(s, e, bytes + start);
     start += e.consumed;
   } while (e.kind != WT_EVENT_MORE && e.kind != WT_EVENT_WAITS);
@@ -132,21 +158,21 @@ static void read_stream(stream *s) {
 
 static uint32_t waits_for(const stream *s, uint64_t *session) {
   uint32_t waits = WT_WAITS_NOTHING;
-  if (wt_stream_waits(&s->state, &waits, session) != WT_OK) return WT_WAITS_NOTHING;
-  return waits;
+  return ok(wt_stream_waits(&s->state, &waits, session)) ? waits : WT_WAITS_NOTHING;
 }
 
 /* Reads again the streams that wait, until no wait ends by that: one may end that of another. */
 static void wake(void) {
   size_t i;
   uint64_t session;
+  wt_event e;
   int changed = 1;
-  while (changed)
+  while (changed && !closed)
     for (changed = 0, i = 0; i < count; i++) {
       stream *s = streams[i];
       uint32_t waits = waits_for(s, &session);
       if (waits == WT_WAITS_NOTHING) continue;
-      if (waits == WT_WAITS_SESSION) act(s, join(s, session), NULL);
+      if (waits == WT_WAITS_SESSION && join(s, session, &e)) act(s, e, NULL);
       read_stream(s);
       changed |= waits_for(s, &session) != waits;
     }
@@ -159,19 +185,32 @@ static stream *stream_of(uint64_t id) {
   s = (stream *)calloc(1, sizeof *s);
   if (s == NULL || count == 256) exit(1);
   s->id = id;
-  if (wt_stream_accept(&connection, id, &s->state) != WT_OK) exit(1);
+  if (!ok(wt_stream_accept(&connection, id, &s->state))) exit(1);
   return streams[count++] = s;
 }
 
+/* Adds the bytes that came on a stream to those that wait. If there is no room for them, the stream
+   or the connection is over, and what waits is of no use. */
+static void add(stream *s, const uint8_t *bytes, size_t length) {
+  wt_event e;
+  if (length > sizeof s->bytes - s->length) {
+    s->length = 0;
+    if (ok(wt_stream_overflow(&connection, &s->state, &e))) act(s, e, NULL);
+  } else if (length > 0) {
+    memcpy(s->bytes + s->length, bytes, length);
+    s->length += length;
+  }
+}
+
 int main(void) {
+  static uint8_t piece[WINDOW];
   uint8_t head[4];
   begin();
-  while (fread(head, 1, 4, stdin) == 4) {
+  while (!closed && fread(head, 1, 4, stdin) == 4) {
     stream *s = stream_of(head[0]);
     size_t size = (size_t)head[2] << 8 | head[3];
-    if (size > sizeof s->bytes - s->length) return 1;
-    if (fread(s->bytes + s->length, 1, size, stdin) != size) return 1;
-    s->length += size;
+    if (fread(piece, 1, size, stdin) != size) return 1;
+    add(s, piece, size);
     s->fin = head[1];
     read_stream(s);
     wake();
