@@ -1,6 +1,7 @@
 //! The settings of the peer as values, and connections of clients that remember them (RFC 9114,
 //! section 7.2.4.2).
-ghost use Rattle.std.specs.Prelude.{◌≡◌, ◌≢◌, ◌⊎◌, ◌==◌, ◌<◌, ◌^◌, not, MatchBool};
+ghost use Rattle.std.specs.Prelude.{◌≡◌, ◌≢◌, ◌⊎◌, ◌==◌, ◌<◌, ◌^◌, ◌-◌, ℕ, not, Some, MatchBool};
+ghost use Rattle.wtp_connection.specs.declared.settings.PeerSettings.{PeerSettings};
 ghost use Rattle.wtp_webtransport.specs.declared.connection.Connection.{Connection};
 ghost use Rattle.wtp_webtransport.specs.Streams.{without_early_data};
 ghost use Rattle.wt_c.specs.Connections.{endpoint_of, IsEndpoint, connection_with, with_connection, HasConnection, IsNoConnection};
@@ -218,3 +219,12 @@ pub extern "C" fn wt_early_data_refused(connection: &mut WtConnection) -> i32
     connection.set(&common);
     OK
 }
+
+/// The settings that `wt_connection_settings` returns are those that `wt_connection_resuming` takes, as
+/// they were. No setting has the value 2^64 - 1, which stands for no limit: each is below 2^62 (RFC 9000,
+/// section 16).
+#[tactic(auto, using(crate::proofs::PeerLemmas::settings_back))]
+pub fn settings_are_remembered()
+    ensures { (v : PeerSettings) (came : ℕ) → v.max_field_section_size ≢ Some (2 ^ 64 - 1)
+        → peer_at (peer_with v came) ≡ v }
+{}
