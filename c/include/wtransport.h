@@ -28,10 +28,12 @@ enum {
   WT_ERROR = -1,   /* the input has a fault; *error_code is its error code */
   WT_BUFFER_TOO_SMALL = -2,    /* an output is too short; its size is reported */
   WT_INVALID = -3, /* an argument is out of its range; nothing changed */
-  WT_MEMORY = -4,  /* memory allocation failed; nothing changed but the arrays of wt_fields_read, and the
-                      call can be made again */
+  WT_MEMORY = -4,  /* memory allocation failed; nothing changed, and the call can be made again */
   WT_UNSUPPORTED = -5 /* what is asked for is not in this version; nothing changed */
 };
+
+/* Where nothing changed, there are two exceptions: the arrays of wt_fields_read, and the hold and `room`
+   of wt_receive_pushed, which hold the same bytes as before. */
 
 /* Calls that write do so at the start of `out`, which has room for `room` bytes, and change nothing
    after that. `WT_OK`: *used bytes were written. `WT_BUFFER_TOO_SMALL`: `out` did not change, and *used is the

@@ -64,7 +64,9 @@ typedef struct wt_endpoint {
 int wt_connection_new(uint32_t abi, const wt_endpoint *endpoint, wt_connection *connection);
 
 /* Whether the settings of both ends allow sessions: 1 or 0, which it is before the SETTINGS of the
-   peer came; or WT_INVALID. A client asks before it sends a request for one. */
+   peer came; or WT_INVALID. They do if both ends enable HTTP datagrams (0x33) and WebTransport (the
+   peer by one of 0x2b603742, 0xc671706a and 0x14e9cd29), and the server extended CONNECT (0x08). So
+   with 1 datagrams may be sent too. A client asks before it sends a request for a session. */
 int wt_connection_allows_sessions(const wt_connection *connection);
 
 /* At a client: whether the request on the stream with this ID is not processed by the server, as
@@ -97,8 +99,10 @@ int wt_connection_settings(const wt_connection *connection, wt_peer_settings *se
    *remembered is what wt_connection_settings said in that session: these are the server's settings
    until its SETTINGS come, which must keep them (RFC 9114, section 7.2.4.2): otherwise the event
    is WT_EVENT_CONNECTION_ERROR. Sessions are possible once SETTINGS came: a request for one is not
-   sent as early data. At a server this is wt_connection_new. WT_INVALID: as wt_connection_new, or a
-   number of *remembered is out of its range. */
+   sent as early data. If remembered->came is 0, as where TLS gave the ticket before SETTINGS came,
+   nothing is remembered: this is then wt_connection_new, as it is at a server. WT_INVALID: as
+   wt_connection_new, or a number of *remembered is out of its range: the value of a setting is below
+   2^62, if it is not the UINT64_MAX of no limit. */
 int wt_connection_resuming(uint32_t abi, const wt_endpoint *endpoint,
                            const wt_peer_settings *remembered, wt_connection *connection);
 
@@ -135,7 +139,8 @@ enum {
   WT_EVENT_SESSION_REQUESTED = 9, /* at a server, fields: a request for a session */
   WT_EVENT_SESSION_READY = 10,    /* at a client, fields: the response that accepts it, with the
                                      status `number` */
-  WT_EVENT_REJECTED = 11,       /* at a client, fields: one that does not; a response follows */
+  WT_EVENT_REJECTED = 11,       /* at a client, fields: the head of one that does not, with the status
+                                   `number`; its content and its end follow */
   WT_EVENT_SESSION_CLOSED = 12, /* number is the application's code; its reason is in out */
   WT_EVENT_SESSION_LOST = 13,   /* the session ended otherwise */
   WT_EVENT_DATAGRAM = 14, /* of a capsule: it is in out. Of wt_datagram_receive, with detail 1: it
@@ -156,7 +161,9 @@ enum {
 
 /* A session is over after WT_EVENT_SESSION_CLOSED and WT_EVENT_SESSION_LOST, on its own stream:
    reset and stop all streams that belong to it, with WT_WEBTRANSPORT_SESSION_GONE. After
-   WT_EVENT_CONNECTION_ERROR every call returns WT_EVENT_MORE, and consumes all bytes. */
+   WT_EVENT_CONNECTION_ERROR the event is always WT_EVENT_MORE, and all bytes are consumed; but
+   wt_receive_pushed says WT_EVENT_SKIPPED first if the bytes held and the chunk are more than `room`
+   has room for, and wt_datagram_receive says WT_EVENT_SKIPPED. */
 
 enum {
   WT_PURPOSE_CONTROL = 0,
@@ -227,8 +234,11 @@ typedef struct wt_event {
    most 15 of its type and length, or the bytes of its value that came, which are those of a close, at
    most 1028, or of a datagram, at most max_datagram. So room for 1028 bytes, or for max_datagram if
    that is more, suffices (as tests see; a call with too little says how much it needs, and changes
-   nothing). Other streams hold none, and may have null. `table` is for QPACK's dynamic table, which this version does not
-   have: null, with the length 0.
+   nothing). Other streams hold none, and may have null. `table` is for QPACK's dynamic table, which
+   this version does not have: null, with the length 0.
+   A stream that does not wait leaves at most max_section + 16 bytes, or 4112 if that is more: QUIC's
+   window of a stream has to be at least that, or the stream stands still. max_fields / 32 elements of
+   `fields` suffice, and as many bytes of `out` as the largest of max_fields, max_datagram and 1024.
    WT_OK: *event is the event. Its fields are the first event->fields of `fields`, with their texts
    in `out`; event->used bytes of `out` are these texts, or what the comments above say.
    WT_BUFFER_TOO_SMALL: an array is too short; *event is the event that comes with enough room, and
@@ -263,7 +273,7 @@ typedef struct wt_hold {
   size_t start, end;   /* they are room[start] to room[end - 1] */
   size_t taken;        /* after a call: how many bytes of the chunk it took */
   uint8_t fin;         /* 1 if the stream ends after the bytes that came, otherwise 0 */
-  uint8_t in_array;    /* after a call: 1 if the bytes of the event are in `room`, 0 if in the chunk */
+  uint8_t in_array;    /* after WT_OK: 1 if the bytes of the event are in `room`, 0 if in the chunk */
   uint8_t reserved[6]; /* 0 */
 } wt_hold;
 
@@ -281,9 +291,13 @@ typedef struct wt_hold {
    An array of 16 bytes more than max_section, and of at least 4112, has room for each stream that does
    not wait; a stream that waits for its session or for an answer needs as many bytes as the caller
    keeps of one.
-   The other answers are those of wt_receive, and the same bytes are held, if at another place. Also
-   WT_INVALID: *hold is not the hold of an array as long as `room`. The call uses all of `room`: what is
-   there beside the bytes held, and those of the event, is not specified. */
+   The other answers are those of wt_receive. The same bytes are then held, if at another place, and
+   none of the chunk was taken: hold->taken is 0, and the chunk is to be passed again, with its fin.
+   Also WT_INVALID: *hold is not the hold of an array as long as `room`. The call uses all of `room`:
+   what is there beside the bytes held, and those of the event, is not specified.
+   After wt_stream_reset, wt_stream_abandon and wt_stream_overflow the bytes that are held, and those
+   of the chunk that were not taken, are in no event->consumed: credit them for the connection's flow
+   control yourself, and begin the hold as {0} again. */
 int wt_receive_pushed(wt_connection *connection, wt_stream *stream, uint8_t *held, size_t held_room,
                       uint8_t *table, size_t table_length, wt_hold *hold, uint8_t *room,
                       size_t room_length, const uint8_t *chunk, size_t length, uint8_t fin,
@@ -325,7 +339,7 @@ int wt_stream_join(wt_connection *connection, wt_stream *stream, uint32_t known,
    WT_INVALID: *stream is not valid. */
 int wt_stream_waits(const wt_stream *stream, uint32_t *waits, uint64_t *session);
 
-/* Says which session a stream belongs to, or waits for.
+/* Says which session a stream belongs to, or waits for. A session's own stream belongs to none.
    WT_OK: *belongs is 1, and *session is the session; or both are 0. WT_INVALID: *stream is not
    valid. */
 int wt_stream_belongs(const wt_stream *stream, uint32_t *belongs, uint64_t *session);
@@ -346,7 +360,8 @@ int wt_stream_stop(wt_connection *connection, wt_stream *stream, wt_event *event
 /* A stream is read no further, for a reason of the application; so a session is closed, after its
    capsule and the end were written.
    WT_OK: *event is WT_EVENT_SESSION_LOST if an open session ends by that, and otherwise
-   WT_EVENT_MORE. The control stream and those of QPACK stay as they are. */
+   WT_EVENT_MORE. Later bytes of the stream are consumed, and give WT_EVENT_MORE. The control stream
+   and those of QPACK stay as they are. */
 int wt_stream_abandon(wt_connection *connection, wt_stream *stream, wt_event *event);
 
 /* More bytes of a stream wait than the caller keeps: it is over.

@@ -89,6 +89,13 @@ static void resumes(void) {
     s.came = 1;
     CHECK(!memcmp(&s, &kept, sizeof s) && wt_connection_allows_sessions(&d) == 0);
     CHECK(code_of(&d, rows[i].second, second) == rows[i].code);
+    /* no SETTINGS had come: nothing is remembered, and a server's usual SETTINGS are no error */
+    s.came = 0;
+    CHECK(wt_connection_resuming(WT_ABI, &client, &s, &d) == WT_OK);
+    CHECK(wt_connection_new(WT_ABI, &client, &c) == WT_OK && !memcmp(&c, &d, sizeof c));
+    s = settings_of(&d);
+    CHECK(!memcmp(&s, &defaults, sizeof s));
+    CHECK(code_of(&d, rows[i].second, second) == 0);
     /* the server did not accept early data */
     CHECK(wt_connection_resuming(WT_ABI, &client, &kept, &d) == WT_OK);
     CHECK(wt_early_data_refused(&d) == WT_OK);
@@ -99,6 +106,39 @@ static void resumes(void) {
     CHECK(wt_early_data_refused(&d) == WT_OK);
     kept = settings_of(&d);
     CHECK(s.came == 1 && !memcmp(&s, &kept, sizeof s));
+  }
+}
+
+/* The value of a setting is below 2^62 (RFC 9114, section 7.2.4; RFC 9000, section 16). */
+static void numbers(void) {
+  static const struct {
+    uint64_t number;
+    int value, limit;
+  } rows[] = {
+      {0, WT_OK, WT_OK},
+      {(UINT64_C(1) << 62) - 1, WT_OK, WT_OK},
+      {UINT64_C(1) << 62, WT_INVALID, WT_INVALID},
+      {UINT64_C(1) << 63, WT_INVALID, WT_INVALID},
+      {UINT64_MAX - 1, WT_INVALID, WT_INVALID},
+      {UINT64_MAX, WT_INVALID, WT_OK},
+  };
+  size_t i;
+  int which, came;
+  for (i = 0; i < sizeof rows / sizeof rows[0]; i++) {
+    for (which = 0; which < 5; which++) {
+      for (came = 0; came < 2; came++) {
+        wt_peer_settings s = defaults;
+        wt_connection c;
+        s.came = (uint8_t)came;
+        if (which == 0) s.qpack_max_table_capacity = rows[i].number;
+        if (which == 1) s.max_field_section_size = rows[i].number;
+        if (which == 2) s.qpack_blocked_streams = rows[i].number;
+        if (which == 3) s.webtransport_max_sessions = rows[i].number;
+        if (which == 4) s.wt_max_sessions = rows[i].number;
+        CHECK(wt_connection_resuming(WT_ABI, &client, &s, &c) ==
+              (which == 1 ? rows[i].limit : rows[i].value));
+      }
+    }
   }
 }
 
@@ -197,6 +237,7 @@ static void budgets(void) {
 void test_connection_peer(void) {
   values();
   resumes();
+  numbers();
   refused();
   goaway();
   goaway_is_read();

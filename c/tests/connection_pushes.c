@@ -288,14 +288,17 @@ static void refused(void) {
   memset(&other, 0xff, sizeof other);
   CHECK(wt_stream_accept(&c, 0, &p->r.stream) == WT_OK);
   memset(&e, 0xff, sizeof e);
-  for (i = 0; i < 5; i++) {
+  for (i = 0; i < 7; i++) {
     memset(&bad, 0, sizeof bad);
     if (i == 0) bad.start = 1;
     if (i == 1) bad.end = 17;
     if (i == 2) bad.fin = 2;
     if (i == 3) bad.reserved[0] = 1;
     if (i == 4) bad.reserved[5] = 1;
+    if (i == 5) bad.in_array = 2;
+    if (i == 6) bad.in_array = 255;
     good = bad;
+    bad.taken = 3;
     CHECK(wt_receive_pushed(&c, &p->r.stream, NULL, 0, NULL, 0, &bad, p->room, 16, post, 3, 0, &e,
                             NULL, 0, NULL, 0) == WT_INVALID);
     CHECK(!memcmp(&good, &bad, sizeof bad) && e.kind == UINT32_MAX);
@@ -310,13 +313,20 @@ static void refused(void) {
                           NULL, 0, NULL, 0) == WT_OK);
   CHECK(e.kind == WT_EVENT_MORE && p->hold.taken == 3 && p->hold.end == 3);
   memset(&e, 0xff, sizeof e);
+  /* none of the chunk is taken then, and its end is not kept */
+  p->hold.taken = 7;
   CHECK(wt_receive_pushed(&other, &p->r.stream, NULL, 0, NULL, 0, &p->hold, p->room, 16, post + 3, 7,
-                          0, &e, NULL, 0, NULL, 0) == WT_INVALID);
-  CHECK(wt_receive_pushed(&c, &p->r.stream, NULL, 0, &table, 1, &p->hold, p->room, 16, post + 3, 7, 0,
+                          1, &e, NULL, 0, NULL, 0) == WT_INVALID);
+  CHECK(p->hold.taken == 0 && !p->hold.fin);
+  p->hold.taken = 7;
+  CHECK(wt_receive_pushed(&c, &p->r.stream, NULL, 0, &table, 1, &p->hold, p->room, 16, post + 3, 7, 1,
                           &e, NULL, 0, NULL, 0) == WT_UNSUPPORTED);
+  CHECK(p->hold.taken == 0 && !p->hold.fin);
   CHECK(e.kind == UINT32_MAX && p->hold.end - p->hold.start == 3);
-  CHECK(wt_receive_pushed(&c, &p->r.stream, NULL, 0, NULL, 0, &p->hold, p->room, 16, post + 3, 7, 0,
+  p->hold.taken = 7;
+  CHECK(wt_receive_pushed(&c, &p->r.stream, NULL, 0, NULL, 0, &p->hold, p->room, 16, post + 3, 7, 1,
                           &e, p->r.fields, 3, p->r.out, 99) == WT_BUFFER_TOO_SMALL);
+  CHECK(p->hold.taken == 0 && !p->hold.fin);
   CHECK(e.kind == WT_EVENT_HEADERS && e.fields == 4 && p->hold.end - p->hold.start == 3 &&
         !memcmp(p->room + p->hold.start, post, 3));
   CHECK(wt_receive_pushed(&c, &p->r.stream, NULL, 0, NULL, 0, &p->hold, p->room, 16, post + 3, 7, 0,

@@ -45,7 +45,7 @@ pub holds_all : (old : WtHold) (room chunk : List ℕ) (held n kind c : ℕ) →
     → n ≡ length chunk → c ≤ held + n → kind ≤ 1
     → Holds (take held room) chunk (length room) kind c (record old { start = c; end = held + n; taken = n; in_array = 1 }) room
 holds_all old room chunk held n kind c is within e whole below k = record {
-  hold = record { order = below; within = within; fin = is.fin; reserved = is.reserved };
+  hold = record { order = below; within = within; fin = is.fin; in_array = omega arith; reserved = is.reserved };
   taken = omega (arith, whole);
   rest = ap (λ (l : List ℕ). take ((held + n) - c) (drop c room) ++ l) (drop_all n chunk (omega (arith, whole))) ∙ append-nil _ ∙ rest_whole room chunk held n c e whole;
   alone = λ above. absurd (omega (arith, above, k));
@@ -57,7 +57,7 @@ pub holds_below : (old : WtHold) (room chunk : List ℕ) (held n kind c : ℕ) �
     → (kind ≤ 1 → (n < length chunk) × (c ≡ 0))
     → Holds (take held room) chunk (length room) kind c (record old { start = c; end = held; taken = 0; in_array = 1 }) room
 holds_below old room chunk held n kind c is within below size more = record {
-  hold = record { order = below; within = within; fin = is.fin; reserved = is.reserved };
+  hold = record { order = below; within = within; fin = is.fin; in_array = omega arith; reserved = is.reserved };
   taken = omega arith;
   rest = rest_below room chunk held c within below;
   alone = λ _. between_is room c held;
@@ -68,7 +68,7 @@ pub holds_above : (old : WtHold) (room chunk : List ℕ) (held n kind c : ℕ) �
     → (kind ≤ 1 → (n < length chunk) × (c ≡ 0))
     → Holds (take held room) chunk (length room) kind c (record old { start = 0; end = 0; taken = c - held; in_array = 1 }) room
 holds_above old room chunk held n kind c is within above below size more = record {
-  hold = record { order = omega arith; within = omega arith; fin = is.fin; reserved = is.reserved };
+  hold = record { order = omega arith; within = omega arith; fin = is.fin; in_array = omega arith; reserved = is.reserved };
   taken = omega (arith, above, below, size);
   rest = rest_above room chunk held c within (omega (arith, above));
   alone = λ _. sym (drop_all c (take held room) (omega (arith, above, length-take-le held room within)));

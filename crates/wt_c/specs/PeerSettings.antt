@@ -1,7 +1,10 @@
 -- The settings of the peer in a struct of C (RFC 9114, section 7.2.4.1): 1 and 0 for what is
 -- supported and is not, and the largest number of 64 bits for no limit.
-use Rattle.std.specs.Prelude.{◌≡◌, ℕ, ◌≤◌, ◌==◌, ◌^◌, ◌-◌, not, if◌then◌else◌, Option, Some, None, replicate}
+use Rattle.std.specs.Prelude.{◌≡◌, ℕ, ◌≤◌, ◌<◌, ◌==◌, ◌^◌, ◌-◌, ◌⊎◌, not, if◌then◌else◌, Bool, Option, Some, None, replicate}
 use Rattle.wtp_frames.specs.Words.{flag_number}
+use Rattle.wtp_frames.specs.declared.endpoint.Endpoint.{Endpoint}
+use Rattle.wtp_webtransport.specs.declared.connection.Connection.{Connection}
+use Rattle.wtp_webtransport.specs.Streams.{connection_of, resuming_connection}
 use Rattle.wtp_connection.specs.declared.settings.PeerSettings.{PeerSettings}
 use Rattle.wt_c.specs.declared.connections.peer.WtPeerSettings.{WtPeerSettings}
 
@@ -41,8 +44,27 @@ peer_at w = record {
   wt_max_sessions = w.wt_max_sessions;
 }
 
+-- The connection that remembers the struct. If no SETTINGS came in the session before, nothing is
+-- remembered: each setting has its default, which SETTINGS need not keep (RFC 9114, section 7.2.4.2).
+abbrev pub begun_with : Endpoint → Bool → WtPeerSettings → Connection
+begun_with e extended w =
+    if w.came == 0 then connection_of e extended else resuming_connection e extended (peer_at w)
+
+-- a number of the struct is the value of a setting (RFC 9114, section 7.2.4), and may be no limit
+-- where there is one
+abbrev pub IsLimit : ℕ → Type 0
+IsLimit n = (n < 2 ^ 62) ⊎ (n ≡ 2 ^ 64 - 1)
+
+pub record AreValues (w : WtPeerSettings) : Type 0 where
+  pub table : w.qpack_max_table_capacity < 2 ^ 62
+  pub section : IsLimit w.max_field_section_size
+  pub blocked : w.qpack_blocked_streams < 2 ^ 62
+  pub webtransport_sessions : w.webtransport_max_sessions < 2 ^ 62
+  pub sessions : w.wt_max_sessions < 2 ^ 62
+
 -- a struct of this version
 pub record IsPeer (w : WtPeerSettings) : Type 0 where
+  pub values : AreValues w
   pub connect : w.enable_connect_protocol ≤ 1
   pub datagram : w.h3_datagram ≤ 1
   pub webtransport : w.enable_webtransport ≤ 1

@@ -13,6 +13,7 @@ pub record IsHold (h : WtHold) (room : ℕ) : Type 0 where
   pub order : h.start ≤ h.end
   pub within : h.end ≤ room
   pub fin : h.fin ≤ 1
+  pub in_array : h.in_array ≤ 1
   pub reserved : h.reserved ≡ replicate 6 0
 
 -- The bytes that a call reads, with an array of this size: the chunk if none are held, and otherwise

@@ -28,7 +28,11 @@ impl WtHold {
     pub(crate) fn is_valid(&self, room: usize) -> bool
         ensures { MatchBool result (IsHold self.now room) (¬ (IsHold self.now room)) }
     {
-        self.start <= self.end && self.end <= room && self.fin <= 1 && self.reserved == [0; 6]
+        self.start <= self.end
+            && self.end <= room
+            && self.fin <= 1
+            && self.in_array <= 1
+            && self.reserved == [0; 6]
     }
 
     // Says that so many bytes at the start of the array are held.

@@ -1,15 +1,18 @@
 //! The settings of the peer as values, and connections of clients that remember them (RFC 9114,
 //! section 7.2.4.2).
-ghost use Rattle.std.specs.Prelude.{◌≡◌, ◌≢◌, ◌⊎◌, ◌==◌, not, MatchBool};
+ghost use Rattle.std.specs.Prelude.{◌≡◌, ◌≢◌, ◌⊎◌, ◌==◌, ◌<◌, ◌^◌, ◌-◌, ℕ, not, Some, MatchBool};
+ghost use Rattle.wtp_connection.specs.declared.settings.PeerSettings.{PeerSettings};
 ghost use Rattle.wtp_webtransport.specs.declared.connection.Connection.{Connection};
-ghost use Rattle.wtp_webtransport.specs.Streams.{resuming_connection, without_early_data};
+ghost use Rattle.wtp_webtransport.specs.Streams.{without_early_data};
 ghost use Rattle.wt_c.specs.Connections.{endpoint_of, IsEndpoint, connection_with, with_connection, HasConnection, IsNoConnection};
 ghost use Rattle.wtp_frames.specs.Words.{flag_number};
-ghost use Rattle.wt_c.specs.PeerSettings.{limit_at as limit_at_is, peer_with, peer_at, IsPeer};
+ghost use Rattle.wt_c.specs.PeerSettings.{limit_at as limit_at_is, peer_with, peer_at, begun_with, IsLimit, AreValues, IsPeer};
 
 use crate::connections::{ABI, WtConnection, WtEndpoint};
 use crate::status::{INVALID, OK};
 use wtp_connection::settings::PeerSettings;
+use wtp_core::varint::VarInt;
+use wtp_frames::endpoint::Endpoint;
 use wtp_webtransport::connection::Connection;
 
 /// The settings of the peer: the value of each, or its default.
@@ -76,17 +79,43 @@ impl WtPeerSettings {
         }
     }
 
+    // Returns whether its numbers are values of settings, or no limit.
+    fn has_values(&self) -> bool
+        ensures { MatchBool result (AreValues self.now) (¬ (AreValues self.now)) }
+    {
+        is_value(self.qpack_max_table_capacity)
+            && is_limit(self.max_field_section_size)
+            && is_value(self.qpack_blocked_streams)
+            && is_value(self.webtransport_max_sessions)
+            && is_value(self.wt_max_sessions)
+    }
+
     // Returns whether this is a struct of this version.
     fn is_valid(&self) -> bool
         ensures { MatchBool result (IsPeer self.now) (¬ (IsPeer self.now)) }
     {
-        self.enable_connect_protocol <= 1
+        self.has_values()
+            && self.enable_connect_protocol <= 1
             && self.h3_datagram <= 1
             && self.enable_webtransport <= 1
             && self.came <= 1
             && self.reserved_half == 0
             && self.reserved == [0; 2]
     }
+}
+
+// Returns whether a setting may have this value.
+fn is_value(number: u64) -> bool
+    ensures { MatchBool result (number < 2 ^ 62) (¬ (number < 2 ^ 62)) }
+{
+    VarInt::try_from_u64(number).is_ok()
+}
+
+// Returns whether a number is a limit, or that there is none.
+fn is_limit(number: u64) -> bool
+    ensures { MatchBool result (IsLimit number) (¬ (IsLimit number)) }
+{
+    number == u64::MAX || is_value(number)
 }
 
 // Returns the limit of a number, of which the largest is none.
@@ -126,10 +155,22 @@ pub extern "C" fn wt_connection_settings(
     }
 }
 
+// Begins a connection, with what is remembered if SETTINGS came.
+fn begin(endpoint: Endpoint, extended: bool, remembered: &WtPeerSettings) -> Connection
+    ensures { result ≡ begun_with endpoint extended remembered.now }
+{
+    if remembered.came == 0 {
+        return Connection::new(endpoint, extended);
+    }
+    let settings = remembered.settings();
+    Connection::resuming(endpoint, extended, &settings)
+}
+
 /// Creates the state of the connection of a client that resumes a session of TLS and sends 0-RTT
 /// data. `remembered` are the settings of the server in that session, as `wt_connection_settings`
 /// returned them: they are its settings until its SETTINGS come, which must keep them (RFC 9114,
-/// section 7.2.4.2). At a server this is `wt_connection_new`.
+/// section 7.2.4.2). If `remembered.came` is 0 nothing is remembered, whatever its other numbers are:
+/// this is `wt_connection_new`, as it is at a server.
 ///
 /// Returns `OK`, or `INVALID` if `abi` is not 1, or if a number of `endpoint` or of `remembered` is
 /// out of its range or is to be 0 and is not; nothing changes then.
@@ -142,8 +183,8 @@ pub extern "C" fn wt_connection_resuming(
 ) -> i32
     ensures answers { (result ≡ OK) ⊎ (result ≡ INVALID) }
     ensures connection { result ≡ OK → connection.new
-        ≡ connection_with (resuming_connection (endpoint_of endpoint.now)
-        (not (endpoint.now.extended == 0)) (peer_at remembered.now))
+        ≡ connection_with (begun_with (endpoint_of endpoint.now)
+        (not (endpoint.now.extended == 0)) remembered.now)
         endpoint.now.max_fields endpoint.now.max_datagram }
     ensures valid { result ≡ OK → (abi ≡ ABI) × IsEndpoint endpoint.now × IsPeer remembered.now }
     ensures invalid { result ≡ INVALID
@@ -153,8 +194,7 @@ pub extern "C" fn wt_connection_resuming(
     if abi != ABI || !endpoint.is_valid() || !remembered.is_valid() {
         return INVALID;
     }
-    let settings = remembered.settings();
-    let begun = Connection::resuming(endpoint.endpoint(), endpoint.extended != 0, &settings);
+    let begun = begin(endpoint.endpoint(), endpoint.extended != 0, remembered);
     *connection = WtConnection::of(&begun, endpoint.max_fields, endpoint.max_datagram);
     OK
 }
@@ -179,3 +219,12 @@ pub extern "C" fn wt_early_data_refused(connection: &mut WtConnection) -> i32
     connection.set(&common);
     OK
 }
+
+/// The settings that `wt_connection_settings` returns are those that `wt_connection_resuming` takes, as
+/// they were. No setting has the value 2^64 - 1, which stands for no limit: each is below 2^62 (RFC 9000,
+/// section 16).
+#[tactic(auto, using(crate::proofs::PeerLemmas::settings_back))]
+pub fn settings_are_remembered()
+    ensures { (v : PeerSettings) (came : ℕ) → v.max_field_section_size ≢ Some (2 ^ 64 - 1)
+        → peer_at (peer_with v came) ≡ v }
+{}

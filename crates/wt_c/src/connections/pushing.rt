@@ -27,7 +27,8 @@ use std::alloc::Global;
 ///   more than `room` has room for. After other events no byte of the chunk is held. The event is
 ///   `Skipped` where the bytes read have nothing more and some of the chunk were not read.
 /// - `BUFFER_TOO_SMALL`, `INVALID`, `UNSUPPORTED`, `MEMORY`: as `wt_receive`. Also `INVALID` if
-///   `hold` is not the hold of an array as long as `room`. The same bytes are held.
+///   `hold` is not the hold of an array as long as `room`. The same bytes are held, none of the chunk
+///   was taken (`hold.taken` is 0), and whether the stream ends with it is not kept.
 #[unsafe(no_mangle)]
 pub extern "C" fn wt_receive_pushed(
     alloc: Global,
@@ -67,6 +68,8 @@ pub extern "C" fn wt_receive_pushed(
     ensures invalid { result ≡ INVALID → (¬ (IsHold hold.old (length room.old)))
         ⊎ (IsNoConnection connection.old ⊎ IsNoStream stream.old held.old) }
     ensures unsupported { result ≡ UNSUPPORTED → table.old ≢ [] }
+    ensures supported { result ≢ UNSUPPORTED → IsHold hold.old (length room.old)
+        → table.old ≡ [] }
     ensures memory { result ≡ MEMORY → (held_by stream.old held.old ≢ []) ⊎ ((o : Outcome)
         × Gives connection.old stream.old held.old (read_by hold.old room.old chunk.now)
         (is_ended_is hold.old fin && reads_all hold.old room.old chunk.now) o × (o.1 ≡ NoMemory)) }
@@ -74,10 +77,12 @@ pub extern "C" fn wt_receive_pushed(
         × (held.new ≡ held.old) × (fields.new ≡ fields.old) × (out.new ≡ out.old) }
     ensures hold_same { result ≢ OK → (held_of hold.new room.new ≡ held_of hold.old room.old)
         × (hold.new.fin ≡ hold.old.fin) }
+    ensures not_taken { result ≢ OK → hold.new.taken ≡ 0 }
     ensures hold_valid { IsHold hold.old (length room.old) → IsHold hold.new (length room.old) }
     ensures event_same { result ≢ OK → result ≢ BUFFER_TOO_SMALL → event.new ≡ event.old }
     ensures table_same { table.new ≡ table.old }
 {
+    hold.taken = 0;
     if !hold.is_valid(room.len()) {
         return INVALID;
     }
