@@ -176,7 +176,7 @@ static int receive_capsule(void) {
   return answer;
 }
 
-/* A request whose first bytes are held: after WT_MEMORY they still are. */
+/* A request whose first bytes are held: after WT_MEMORY they still are, and no others were taken. */
 static int receive_pushed(void) {
   static const wt_endpoint server = {WT_SIDE_SERVER, 0, 0, 1, 4096, 4096, 100, {0, 0, 0, 0, 0}};
   static wt_hold none;
@@ -199,14 +199,15 @@ static int receive_pushed(void) {
       return WT_INVALID;
   left = k;
   answer = wt_receive_pushed(&c, &stream, NULL, 0, NULL, 0, &hold, room, sizeof room, frame + at,
-                             size - at, 0, &event, fields, 8, out, sizeof out);
+                             size - at, 1, &event, fields, 8, out, sizeof out);
   left = -1;
   if (answer != WT_MEMORY) return answer;
+  if (hold.taken != 0 || hold.fin != 0) return WT_INVALID;
   if (hold.end - hold.start != at || memcmp(room + hold.start, frame, at) != 0) return WT_INVALID;
   if (wt_receive_pushed(&c, &stream, NULL, 0, NULL, 0, &hold, room, sizeof room, frame + at,
-                        size - at, 0, &event, fields, 8, out, sizeof out) != WT_OK)
+                        size - at, 1, &event, fields, 8, out, sizeof out) != WT_OK)
     return WT_INVALID;
-  return event.kind == WT_EVENT_HEADERS && event.fields == 5 ? WT_MEMORY : WT_INVALID;
+  return event.kind == WT_EVENT_HEADERS && hold.fin && event.fields == 5 ? WT_MEMORY : WT_INVALID;
 }
 
 static void refuse(const char *name, int (*call)(void)) {
