@@ -50,8 +50,8 @@ abbrev pub begun_with : Endpoint → Bool → WtPeerSettings → Connection
 begun_with e extended w =
     if w.came == 0 then connection_of e extended else resuming_connection e extended (peer_at w)
 
--- a number of the struct is the value of a setting (RFC 9114, section 7.2.4), and may be no limit
--- where there is one
+-- The value of a setting is below 2^62 (RFC 9114, section 7.2.4; RFC 9000, section 16). That of a limit
+-- may also be the number that stands for none.
 abbrev pub IsLimit : ℕ → Type 0
 IsLimit n = (n < 2 ^ 62) ⊎ (n ≡ 2 ^ 64 - 1)
 
