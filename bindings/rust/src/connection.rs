@@ -1,4 +1,8 @@
 //! What the streams of a connection have in common, and what is next on each of them.
+mod pushed;
+mod resumption;
+
+pub use self::pushed::{Pushed, PushedStream};
 use crate::error::Code;
 use crate::event::{event_of, unknown, Event, Purpose, Received};
 use crate::settings::{SettingId, Settings};
@@ -14,6 +18,15 @@ pub enum Side {
     Client,
     /// The server.
     Server,
+}
+
+impl Side {
+    pub(crate) fn number(self) -> u8 {
+        match self {
+            Side::Client => sys::WT_SIDE_CLIENT,
+            Side::Server => sys::WT_SIDE_SERVER,
+        }
+    }
 }
 
 /// What is read at most. There are no defaults.
@@ -83,6 +96,20 @@ impl Endpoint {
                 .set(SettingId::WEBTRANSPORT_MAX_SESSIONS, sessions);
         }
         settings
+    }
+
+    /// Returns the struct of the library.
+    fn words(&self) -> sys::Endpoint {
+        sys::Endpoint {
+            side: self.side.number(),
+            webtransport: self.webtransport.into(),
+            datagrams: self.datagrams.into(),
+            extended: self.extended.into(),
+            max_section: self.limits.max_section,
+            max_fields: self.limits.max_fields,
+            max_datagram: self.limits.max_datagram,
+            reserved: [0; 5],
+        }
     }
 }
 
@@ -167,14 +194,16 @@ impl Known {
     }
 }
 
-/// An endpoint was refused: a limit is out of its range, or the library has another version of its
-/// states (`WT_ABI`).
+/// An endpoint was refused: a limit or a remembered setting is out of its range, or the library has another
+/// version of its states (`WT_ABI`).
 #[derive(Clone, Copy, Debug, PartialEq, Eq)]
 pub struct InvalidEndpoint;
 
 impl fmt::Display for InvalidEndpoint {
     fn fmt(&self, f: &mut fmt::Formatter<'_>) -> fmt::Result {
-        f.write_str("a limit is out of its range, or libwtransport is of another version")
+        f.write_str(
+            "a limit or a setting is out of its range, or libwtransport is of another version",
+        )
     }
 }
 
@@ -203,20 +232,10 @@ impl Connection {
     ///
     /// [`InvalidEndpoint`].
     pub fn new(endpoint: Endpoint) -> Result<Self, InvalidEndpoint> {
-        let side = match endpoint.side {
-            Side::Client => sys::WT_SIDE_CLIENT,
-            Side::Server => sys::WT_SIDE_SERVER,
-        };
-        let state = sys::connection_new(&sys::Endpoint {
-            side,
-            webtransport: endpoint.webtransport.into(),
-            datagrams: endpoint.datagrams.into(),
-            extended: endpoint.extended.into(),
-            max_section: endpoint.limits.max_section,
-            max_fields: endpoint.limits.max_fields,
-            max_datagram: endpoint.limits.max_datagram,
-            reserved: [0; 5],
-        });
+        Connection::of(sys::connection_new(&endpoint.words()))
+    }
+
+    fn of(state: Option<sys::Connection>) -> Result<Self, InvalidEndpoint> {
         Ok(Connection { state: state.ok_or(InvalidEndpoint)?, fields: Vec::new(), out: Vec::new() })
     }
 

@@ -123,7 +123,8 @@ pub enum Event<'a> {
     /// [`Waits::Settings`].
     Settings(&'a [u8]),
     /// GOAWAY: at a client the ID of the first request that is not processed, at a server that of a push
-    /// (RFC 9114, section 5.2). A client sends no new request.
+    /// (RFC 9114, section 5.2). A client sends no new request. What is sent is
+    /// [`Goaway`](crate::goaway::Goaway).
     GoAway(u64),
     /// Another frame of the control stream: its type and its payload.
     Frame(u64, &'a [u8]),
@@ -205,21 +206,11 @@ pub(crate) fn event_of<'a>(
     out: &[u8],
 ) -> Event<'a> {
     let status = event.number as u32;
-    let code = Code::new(event.number);
     let bytes = || &bytes[event.offset..event.offset + event.length];
     let out = &out[..event.used];
     let list = || FieldList::of(&fields[..event.fields], out);
     match event.kind {
-        sys::WT_EVENT_MORE => Event::More,
-        sys::WT_EVENT_WAITS => match Waits::of(event.detail, event.number) {
-            Some(waits) => Event::Waits(waits),
-            None => unknown("wait", event.detail),
-        },
-        sys::WT_EVENT_OPENED => Event::Opened(Purpose::of(event.detail)),
-        sys::WT_EVENT_JOINS => Event::Joins(event.number),
-        sys::WT_EVENT_JOINED => Event::Joined(event.number),
         sys::WT_EVENT_SETTINGS => Event::Settings(bytes()),
-        sys::WT_EVENT_GOAWAY => Event::GoAway(event.number),
         sys::WT_EVENT_FRAME => Event::Frame(event.detail.into(), bytes()),
         sys::WT_EVENT_HEADERS => Event::Headers(headers_kind(event.detail, status), list()),
         sys::WT_EVENT_SESSION_REQUESTED => Event::SessionRequested(list()),
@@ -229,17 +220,35 @@ pub(crate) fn event_of<'a>(
             code: event.number as u32,
             reason: String::from_utf8_lossy(out).into_owned(),
         }),
-        sys::WT_EVENT_SESSION_LOST => Event::SessionLost,
         sys::WT_EVENT_DATAGRAM => Event::Datagram(out.to_vec()),
-        sys::WT_EVENT_DRAINING => Event::Draining,
-        sys::WT_EVENT_SKIPPED => Event::Skipped,
         sys::WT_EVENT_DATA => Event::Data(bytes()),
         sys::WT_EVENT_STREAM_DATA => Event::StreamData(bytes()),
-        sys::WT_EVENT_TOO_LARGE => Event::TooLarge((event.detail == 1).then_some(event.number)),
+        _ => event_of_numbers(event),
+    }
+}
+
+/// Returns an event that has numbers alone.
+fn event_of_numbers(event: &sys::Event) -> Event<'static> {
+    let code = Code::new(event.number);
+    let number = (event.detail == 1).then_some(event.number);
+    match event.kind {
+        sys::WT_EVENT_MORE => Event::More,
+        sys::WT_EVENT_WAITS => match Waits::of(event.detail, event.number) {
+            Some(waits) => Event::Waits(waits),
+            None => unknown("wait", event.detail),
+        },
+        sys::WT_EVENT_OPENED => Event::Opened(Purpose::of(event.detail)),
+        sys::WT_EVENT_JOINS => Event::Joins(event.number),
+        sys::WT_EVENT_JOINED => Event::Joined(event.number),
+        sys::WT_EVENT_GOAWAY => Event::GoAway(event.number),
+        sys::WT_EVENT_SESSION_LOST => Event::SessionLost,
+        sys::WT_EVENT_DRAINING => Event::Draining,
+        sys::WT_EVENT_SKIPPED => Event::Skipped,
+        sys::WT_EVENT_TOO_LARGE => Event::TooLarge(number),
         sys::WT_EVENT_MALFORMED => Event::Malformed(Malformed::of(event.detail)),
         sys::WT_EVENT_STREAM_ERROR => Event::StreamError(code),
         sys::WT_EVENT_CONNECTION_ERROR => Event::ConnectionError(code),
-        sys::WT_EVENT_RESET => Event::Reset((event.detail == 1).then_some(code)),
+        sys::WT_EVENT_RESET => Event::Reset(number.map(Code::new)),
         sys::WT_EVENT_END => Event::End,
         kind => unknown("event", kind),
     }

@@ -13,7 +13,10 @@
 //! |---|---|
 //! | a whole connection | [`Connection`], [`Stream`], [`Event`] |
 //! | what is read at most | [`Limits`], in an [`Endpoint`] |
-//! | what is sent | [`Endpoint::settings`], [`session`], [`frame`], [`stream_header`], [`datagram`], [`capsule`] |
+//! | a QUIC library that gives each byte once | [`PushedStream`], [`Connection::receive_pushed`] |
+//! | the settings of the peer, 0-RTT | [`settings::PeerSettings`], [`Connection::resuming`] |
+//! | what is sent | [`Endpoint::settings`], [`session`], [`frame`], [`stream_header`], [`datagram`], [`capsule`], [`goaway`] |
+//! | clients that reset their requests | [`budget::RequestBudget`] |
 //! | fields of messages | [`fields::FieldList`] |
 //! | error codes, names, those of applications | [`error::Code`], [`error::application_codes`] |
 //! | one stream, below a connection of your own | [`frame::FrameCursor`], [`capsule::CapsuleCursor`], [`settings::Settings`], [`varint`] |
@@ -119,7 +122,7 @@
 //!
 //! # Memory and safety
 //!
-//! All unsafe code is in the file `src/sys.rs`. A [`Connection`] has no table and no queue. It keeps memory
+//! All unsafe code is in `src/sys.rs` and `src/sys/connections.rs`. A [`Connection`] has no table and no queue. It keeps memory
 //! for one field section, a datagram and a reason, within its [`Limits`], and a [`Stream`] that of a capsule
 //! that is cut: at most 1,028 bytes, or [`Limits::max_datagram`] if that is more. How many bytes of a stream
 //! wait is the caller's own limit ([`Connection::overflow`]).
@@ -131,6 +134,7 @@
 
 extern crate alloc;
 
+pub mod budget;
 pub mod capsule;
 pub mod connection;
 pub mod datagram;
@@ -138,6 +142,7 @@ pub mod error;
 pub mod event;
 pub mod fields;
 pub mod frame;
+pub mod goaway;
 pub mod malformed;
 pub mod session;
 pub mod settings;
@@ -147,7 +152,9 @@ pub mod stream_header;
 mod sys;
 pub mod varint;
 
-pub use connection::{Asked, Connection, DatagramFor, Endpoint, Known, Limits, Side};
+pub use connection::{
+    Asked, Connection, DatagramFor, Endpoint, Known, Limits, Pushed, PushedStream, Side,
+};
 pub use event::{Close, Event, HeadersKind, Purpose, Received, Waits};
 pub use stream::Stream;
 

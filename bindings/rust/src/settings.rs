@@ -150,3 +150,78 @@ impl Settings {
         })
     }
 }
+
+/// The settings of the peer: the value of each setting that has a name, which is its default until SETTINGS
+/// come.
+///
+/// It can be stored with a ticket of TLS, for [`Connection::resuming`](crate::Connection::resuming).
+#[derive(Clone, Copy, Debug, Default, PartialEq, Eq)]
+pub struct PeerSettings {
+    /// SETTINGS_QPACK_MAX_TABLE_CAPACITY (0x01): the largest capacity of the peer's dynamic table, in bytes
+    /// (RFC 9204, section 5). By default 0.
+    pub qpack_max_table_capacity: u64,
+    /// SETTINGS_MAX_FIELD_SECTION_SIZE (0x06): the largest field section that the peer accepts, in bytes
+    /// (RFC 9114, section 7.2.4.1). By default there is no limit.
+    pub max_field_section_size: Option<u64>,
+    /// SETTINGS_QPACK_BLOCKED_STREAMS (0x07): how many streams may be blocked at the peer (RFC 9204,
+    /// section 5). By default 0.
+    pub qpack_blocked_streams: u64,
+    /// SETTINGS_ENABLE_CONNECT_PROTOCOL (0x08): extended CONNECT is supported (RFC 9220, section 3). By
+    /// default it is not.
+    pub enable_connect_protocol: bool,
+    /// SETTINGS_H3_DATAGRAM (0x33): datagrams are supported (RFC 9297, section 2.1.1). By default they are
+    /// not.
+    pub h3_datagram: bool,
+    /// SETTINGS_ENABLE_WEBTRANSPORT (0x2b603742): WebTransport is supported
+    /// (draft-ietf-webtrans-http3-02, section 3.1). By default it is not.
+    pub enable_webtransport: bool,
+    /// SETTINGS_WEBTRANSPORT_MAX_SESSIONS (0xc671706a): how many sessions may be open at once
+    /// (draft-ietf-webtrans-http3-07). By default 0.
+    pub webtransport_max_sessions: u64,
+    /// SETTINGS_WT_MAX_SESSIONS (0x14e9cd29): the same in later drafts. By default 0.
+    pub wt_max_sessions: u64,
+    /// Whether SETTINGS of the peer came.
+    pub came: bool,
+}
+
+impl PeerSettings {
+    pub(crate) fn of(settings: &sys::PeerSettings) -> Self {
+        let limit = settings.max_field_section_size;
+        PeerSettings {
+            qpack_max_table_capacity: settings.qpack_max_table_capacity,
+            max_field_section_size: (limit != u64::MAX).then_some(limit),
+            qpack_blocked_streams: settings.qpack_blocked_streams,
+            enable_connect_protocol: settings.enable_connect_protocol == 1,
+            h3_datagram: settings.h3_datagram == 1,
+            enable_webtransport: settings.enable_webtransport == 1,
+            webtransport_max_sessions: settings.webtransport_max_sessions,
+            wt_max_sessions: settings.wt_max_sessions,
+            came: settings.came == 1,
+        }
+    }
+
+    /// Returns the struct of the library, or `None` if a number is none of QUIC's: it is 2^62 or more.
+    pub(crate) fn words(&self) -> Option<sys::PeerSettings> {
+        let numbers = [
+            self.qpack_max_table_capacity,
+            self.max_field_section_size.unwrap_or(0),
+            self.qpack_blocked_streams,
+            self.webtransport_max_sessions,
+            self.wt_max_sessions,
+        ];
+        let settings = sys::PeerSettings {
+            qpack_max_table_capacity: self.qpack_max_table_capacity,
+            max_field_section_size: self.max_field_section_size.unwrap_or(u64::MAX),
+            qpack_blocked_streams: self.qpack_blocked_streams,
+            webtransport_max_sessions: self.webtransport_max_sessions,
+            wt_max_sessions: self.wt_max_sessions,
+            enable_connect_protocol: self.enable_connect_protocol.into(),
+            h3_datagram: self.h3_datagram.into(),
+            enable_webtransport: self.enable_webtransport.into(),
+            came: self.came.into(),
+            reserved_half: 0,
+            reserved: [0; 2],
+        };
+        numbers.iter().all(|number| *number < 1 << 62).then_some(settings)
+    }
+}

@@ -243,7 +243,7 @@ fn section(frame: &[u8]) -> &[u8] {
 }
 
 #[test]
-fn requests_and_responses() {
+fn requests() {
     let mut request = SessionRequest::new("https://EXAMPLE.com:443/chat?room=1#there");
     request.insert(b"cookie", b"a=1");
     request.insert(b"cookie", b"b=2");
@@ -273,7 +273,10 @@ fn requests_and_responses() {
     assert_eq!(get.to_string(), "MethodNotConnect");
     let code = RequestTarget::read(b"\x00\x00\xd1").unwrap_err().code();
     assert_eq!(code, Some(Code::H3_MESSAGE_ERROR));
+}
 
+#[test]
+fn responses() {
     let mut response = SessionResponse::ok();
     response.add(b"server", b"test");
     let frame = written(|out| response.write(out)).unwrap();

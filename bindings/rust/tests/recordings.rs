@@ -285,13 +285,15 @@ fn begin(player: &mut Player, row: &Row) -> u64 {
     id
 }
 
-/// Returns the events of a stream alone at the end that received it, in these pieces.
-fn play(row: &Row, pieces: &[&[u8]]) -> String {
+/// Returns the events of a stream alone at the end that received it, in these pieces. `pushes`: each piece
+/// comes once.
+fn play(row: &Row, pieces: &[&[u8]], pushes: bool) -> String {
     let endpoint = match row.direction.as_str() {
         "c2s" => Endpoint::server(LIMITS),
         _ => Endpoint::client(LIMITS),
     };
     let mut player = Player::new(endpoint, 200);
+    player.pushes = pushes;
     let control = [&b"\x00\x04\x07\xab\x60\x37\x42\x01\x33\x01"[..]];
     if !row.kind.contains("control") {
         let id = if row.direction == "c2s" { 2 } else { 3 };
@@ -307,10 +309,12 @@ fn play(row: &Row, pieces: &[&[u8]]) -> String {
 fn cuts_make_no_difference() {
     let mut random = Random(11);
     for row in rows().iter().filter(|row| row.stream.is_some()) {
-        let whole = play(row, &[&row.bytes]);
-        for _ in 0..times(20) {
+        let whole = play(row, &[&row.bytes], false);
+        assert_eq!(play(row, &[&row.bytes], true), whole, "{}", row.name);
+        for turn in 0..times(20) {
             let pieces = random.pieces(&row.bytes);
-            assert_eq!(play(row, &pieces), whole, "{} in {:?}", row.name, sizes(&pieces));
+            let played = play(row, &pieces, turn % 2 == 0);
+            assert_eq!(played, whole, "{} in {:?}", row.name, sizes(&pieces));
         }
     }
 }
@@ -328,9 +332,12 @@ fn cuts_of_wrong_bytes_make_no_difference() {
             let at = random.below(bytes.len().min(200));
             bytes[at] = random.below(256) as u8;
         }
-        let whole = play(row, &[&bytes]);
+        let whole = play(row, &[&bytes], false);
         let pieces = random.pieces(&bytes);
-        assert_eq!(play(row, &pieces), whole, "{}: {bytes:x?} in {:?}", row.name, sizes(&pieces));
+        for pushes in [false, true] {
+            let played = play(row, &pieces, pushes);
+            assert_eq!(played, whole, "{}: {bytes:x?} in {:?}", row.name, sizes(&pieces));
+        }
         faults
             .insert(whole.rsplit("; ").nth(1).unwrap_or("").split('{').next().unwrap().to_string());
     }
@@ -355,6 +362,7 @@ const REQUEST_SIZE: usize = 134;
 /// Plays the session with its streams cut and mixed at random, and returns the events of each.
 fn play_session(random: &mut Random) -> Vec<String> {
     let mut player = Player::new(Endpoint::server(LIMITS), 200);
+    player.pushes = random.below(2) == 1;
     let files: Vec<_> = CHROMIUM.iter().map(|row| recorded(row.1)).collect();
     let mut pieces: Vec<_> = files.iter().map(|bytes| random.pieces(bytes)).collect();
     // its request, and what closes it

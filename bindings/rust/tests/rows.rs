@@ -121,14 +121,15 @@ const ROWS: &[(What, &[u8], &str)] = &[
     ),
 ];
 
-/// Returns the events of a row whose bytes come in these pieces.
-fn play(what: What, pieces: &[&[u8]]) -> String {
+/// Returns the events of a row whose bytes come in these pieces. `pushes`: each piece comes once.
+fn play(what: What, pieces: &[&[u8]], pushes: bool) -> String {
     let (endpoint, status) = match what {
         Response => (Endpoint::client(LIMITS), 200),
         Request => (Endpoint { webtransport: false, ..Endpoint::server(LIMITS) }, 200),
         Session(status) | Early(status) => (Endpoint::server(LIMITS), status),
     };
     let mut player = Player::new(endpoint, status);
+    player.pushes = pushes;
     let control = |player: &mut Player| {
         player.accept(2);
         player.play(2, &[CONTROL], false);
@@ -181,14 +182,16 @@ fn rows_in_pieces_of_every_size_and_at_random() {
         }
         whole.extend_from_slice(bytes);
         let wanted = expected(*what, events);
-        assert_eq!(play(*what, &[&whole[..]]), wanted, "{bytes:x?}");
-        for step in (1..=whole.len()).take(times(whole.len())) {
-            let pieces: Vec<_> = whole.chunks(step).collect();
-            assert_eq!(play(*what, &pieces), wanted, "{bytes:x?} by {step}");
-        }
-        for _ in 0..times(100) {
-            let pieces = random.pieces(&whole);
-            assert_eq!(play(*what, &pieces), wanted, "{bytes:x?} in {pieces:x?}");
+        for pushes in [false, true] {
+            assert_eq!(play(*what, &[&whole[..]], pushes), wanted, "{bytes:x?}");
+            for step in (1..=whole.len()).take(times(whole.len())) {
+                let pieces: Vec<_> = whole.chunks(step).collect();
+                assert_eq!(play(*what, &pieces, pushes), wanted, "{bytes:x?} by {step}");
+            }
+            for _ in 0..times(100) {
+                let pieces = random.pieces(&whole);
+                assert_eq!(play(*what, &pieces, pushes), wanted, "{bytes:x?} in {pieces:x?}");
+            }
         }
     }
 }
@@ -262,7 +265,7 @@ fn each_call_that_ends_a_session_tells_it_once() {
         // a datagram of a capsule that is cut is held: it is lost with the session
         player.play(0, &[b"\x00\x09\x00\x05abc"], false);
         let Player { connection, streams, .. } = &mut player;
-        let stream = &mut streams.get_mut(&0).unwrap().stream;
+        let stream = &mut streams.get_mut(&0).unwrap().pushed.stream;
         assert_eq!(connection.known(0, Some(stream)), Known::Open);
         assert_eq!(end(connection, stream), Event::SessionLost);
         assert_eq!(connection.known(0, Some(stream)), Known::Over);

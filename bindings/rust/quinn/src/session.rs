@@ -208,17 +208,32 @@ async fn until_over<T>(
 async fn run(
     mut reader: Reader,
     mut send: SendStream,
-    mut closing: mpsc::UnboundedReceiver<(u32, String)>,
+    closing: mpsc::UnboundedReceiver<(u32, String)>,
     end: watch::Sender<Option<Closed>>,
 ) {
     let (shared, id) = (reader.shared.clone(), reader.id);
-    let closed = loop {
+    let closed = until_closed(&mut reader, &mut send, closing).await;
+    shared.with(|state| state.sessions.remove(&id));
+    shared.changed.notify_waiters();
+    let here = closed == Closed::Here;
+    let _ = end.send(Some(closed));
+    let _ = tokio::time::timeout(ENDING, finish(reader, send, here)).await;
+}
+
+/// Returns how the session of this stream ends, when it does.
+async fn until_closed(
+    reader: &mut Reader,
+    send: &mut SendStream,
+    mut closing: mpsc::UnboundedReceiver<(u32, String)>,
+) -> Closed {
+    let (shared, id) = (reader.shared.clone(), reader.id);
+    loop {
         tokio::select! {
             item = reader.next() => match item {
                 Item::SessionClosed(close) => {
-                    break Closed::Peer(close.code(), close.reason().into());
+                    return Closed::Peer(close.code(), close.reason().into());
                 }
-                Item::SessionLost | Item::End | Item::Reset(_) => break Closed::Lost,
+                Item::SessionLost | Item::End | Item::Reset(_) => return Closed::Lost,
                 Item::Failed(with) => drop(send.reset(code(with))),
                 Item::Datagram(payload) => shared.deliver(id, |queues| queues.datagram(payload)),
                 _ => {}
@@ -230,23 +245,18 @@ async fn run(
                 if let Ok(with) = stopped {
                     let _ = send.reset(with);
                 }
-                break Closed::Lost;
+                return Closed::Lost;
             }
             Some((code, reason)) = closing.recv() => {
-                if write_close(&mut send, code, &reason).await.is_ok() {
+                if write_close(send, code, &reason).await.is_ok() {
                     // until the peer has it: the connection may be closed right after
                     let _ = tokio::time::timeout(ENDING, send.finish()).await;
                     shared.with(|state| state.abandon(id));
-                    break Closed::Here;
+                    return Closed::Here;
                 }
             }
         }
-    };
-    shared.with(|state| state.sessions.remove(&id));
-    shared.changed.notify_waiters();
-    let here = closed == Closed::Here;
-    let _ = end.send(Some(closed));
-    let _ = tokio::time::timeout(ENDING, finish(reader, send, here)).await;
+    }
 }
 
 /// Ends the stream of a session that is over. `here`: it was closed here, and the own half is ended.

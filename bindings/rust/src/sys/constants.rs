@@ -6,7 +6,7 @@ macro_rules! constants {
         pub const $name: $kind = $value;)*
         /// All constants, by their names.
         #[cfg(test)]
-        pub const ALL: &[(&str, i64)] = &[$((stringify!($name), $value)),*];
+        pub const ALL: &[(&str, i64)] = &[$((stringify!($name), $name as i64)),*];
     };
 }
 
@@ -163,4 +163,5 @@ constants! {
     WT_DATAGRAM_EARLY: i32 = 1;
     WT_DATAGRAM_DROP: i32 = 2;
     WT_DATAGRAM_END_STREAM: i32 = 3;
+    WT_NO_GOAWAY: u64 = u64::MAX;
 }

@@ -94,6 +94,41 @@ pub struct Event {
     pub reserved: [u64; 4],
 }
 
+#[repr(C)]
+#[derive(Clone, Copy, Default)]
+pub struct PeerSettings {
+    pub qpack_max_table_capacity: u64,
+    pub max_field_section_size: u64,
+    pub qpack_blocked_streams: u64,
+    pub webtransport_max_sessions: u64,
+    pub wt_max_sessions: u64,
+    pub enable_connect_protocol: u8,
+    pub h3_datagram: u8,
+    pub enable_webtransport: u8,
+    pub came: u8,
+    pub reserved_half: u32,
+    pub reserved: [u64; 2],
+}
+
+#[repr(C)]
+#[derive(Clone, Copy, Debug, Default, PartialEq, Eq)]
+pub struct Hold {
+    pub start: usize,
+    pub end: usize,
+    pub taken: usize,
+    pub fin: u8,
+    pub in_array: u8,
+    pub reserved: [u8; 6],
+}
+
+#[repr(C)]
+#[derive(Clone, Copy, Debug, Default, PartialEq, Eq)]
+pub struct RequestBudget {
+    pub excess: u64,
+    pub answers: u64,
+    pub resets: u64,
+}
+
 #[rustfmt::skip] // a line for each call, which a test reads
 extern "C" {
     pub fn wt_version() -> u32;
@@ -131,12 +166,16 @@ extern "C" {
     pub fn wt_application_code_to_http3(code: u32) -> u64;
     pub fn wt_application_code_from_http3(number: u64, code: *mut u32) -> i32;
     pub fn wt_connection_new(abi: u32, endpoint: *const Endpoint, connection: *mut Connection) -> i32;
+    pub fn wt_connection_settings(connection: *const Connection, settings: *mut PeerSettings) -> i32;
+    pub fn wt_connection_resuming(abi: u32, endpoint: *const Endpoint, remembered: *const PeerSettings, connection: *mut Connection) -> i32;
+    pub fn wt_early_data_refused(connection: *mut Connection) -> i32;
     pub fn wt_connection_allows_sessions(connection: *const Connection) -> i32;
     pub fn wt_connection_unprocessed(connection: *const Connection, id: u64) -> i32;
     pub fn wt_stream_accept(connection: *mut Connection, id: u64, stream: *mut Stream) -> i32;
     pub fn wt_stream_of_request(connection: *const Connection, asked: u32, stream: *mut Stream) -> i32;
     pub fn wt_stream_of_session(session: u64, stream: *mut Stream) -> i32;
     pub fn wt_receive(connection: *mut Connection, stream: *mut Stream, held: *mut u8, held_room: usize, table: *mut u8, table_length: usize, bytes: *const u8, length: usize, fin: u8, event: *mut Event, fields: *mut Field, fields_room: usize, out: *mut u8, out_room: usize) -> i32;
+    pub fn wt_receive_pushed(connection: *mut Connection, stream: *mut Stream, held: *mut u8, held_room: usize, table: *mut u8, table_length: usize, hold: *mut Hold, room: *mut u8, room_length: usize, chunk: *const u8, length: usize, fin: u8, event: *mut Event, fields: *mut Field, fields_room: usize, out: *mut u8, out_room: usize) -> i32;
     pub fn wt_stream_answer(stream: *mut Stream, status: u32) -> i32;
     pub fn wt_session_known(connection: *const Connection, session: u64, its: *const Stream, count: usize, known: *mut u32) -> i32;
     pub fn wt_stream_join(connection: *mut Connection, stream: *mut Stream, known: u32, event: *mut Event) -> i32;
@@ -149,4 +188,7 @@ extern "C" {
     pub fn wt_stopped(connection: *mut Connection, purpose: u32, error_code: *mut u64) -> i32;
     pub fn wt_datagram_receive(connection: *mut Connection, bytes: *const u8, length: usize, event: *mut Event) -> i32;
     pub fn wt_datagram_use(known: u32) -> i32;
+    pub fn wt_goaway_write(side: u8, id: u64, last: *mut u64, out: *mut u8, room: usize, used: *mut usize) -> i32;
+    pub fn wt_request_answered(budget: *mut RequestBudget) -> i32;
+    pub fn wt_request_reset(budget: *mut RequestBudget, error_code: *mut u64) -> i32;
 }

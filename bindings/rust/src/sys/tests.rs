@@ -116,6 +116,16 @@ fn structs_are_those_of_the_header() {
         layout!(Event "wt_event" { kind "uint32_t", detail "uint32_t", number "uint64_t",
             consumed "size_t", offset "size_t", length "size_t", fields "size_t", used "size_t",
             held "size_t", reserved "uint64_t[4]" }),
+        layout!(PeerSettings "wt_peer_settings" { qpack_max_table_capacity "uint64_t",
+            max_field_section_size "uint64_t", qpack_blocked_streams "uint64_t",
+            webtransport_max_sessions "uint64_t", wt_max_sessions "uint64_t",
+            enable_connect_protocol "uint8_t", h3_datagram "uint8_t",
+            enable_webtransport "uint8_t", came "uint8_t", reserved_half "uint32_t",
+            reserved "uint64_t[2]" }),
+        layout!(Hold "wt_hold" { start "size_t", end "size_t", taken "size_t", fin "uint8_t",
+            in_array "uint8_t", reserved "uint8_t[6]" }),
+        layout!(RequestBudget "wt_request_budget" { excess "uint64_t", answers "uint64_t",
+            resets "uint64_t" }),
     ];
     // `type` is no name of Rust
     let mut listed: Vec<String> = lines("struct ")

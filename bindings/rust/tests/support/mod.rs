@@ -5,7 +5,7 @@ pub mod json;
 
 use std::collections::BTreeMap;
 use std::fmt::Write;
-use vesgrauf::{Connection, Endpoint, Event, Limits, Stream, Waits};
+use vesgrauf::{Connection, Endpoint, Event, Limits, PushedStream, Stream, Waits};
 
 pub const LIMITS: Limits = Limits { max_section: 65_536, max_fields: 16_384, max_datagram: 1_200 };
 
@@ -41,13 +41,19 @@ impl Random {
     }
 }
 
-/// A stream of the peer: what was not consumed, whether it ended, and its events as text.
+/// The events of a stream as text, and a piece of its content.
+#[derive(Default)]
+pub struct Events {
+    data: Vec<u8>,
+    text: String,
+}
+
+/// A stream of the peer: what was not consumed, whether it ended, and its events.
 pub struct Read {
-    pub stream: Stream,
-    pub bytes: Vec<u8>,
-    pub fin: bool,
-    pub data: Vec<u8>,
-    pub text: String,
+    pub pushed: PushedStream,
+    bytes: Vec<u8>,
+    fin: bool,
+    events: Events,
 }
 
 /// A connection whose streams come in pieces. Requests for sessions are answered with `status`.
@@ -55,6 +61,8 @@ pub struct Player {
     pub connection: Connection,
     pub streams: BTreeMap<u64, Read>,
     pub status: u32,
+    /// Whether each piece is pushed once; otherwise what was not consumed is passed again.
+    pub pushes: bool,
     /// Whether something changed for which a stream may wait.
     changed: bool,
 }
@@ -62,12 +70,13 @@ pub struct Player {
 impl Player {
     pub fn new(endpoint: Endpoint, status: u32) -> Self {
         let connection = Connection::new(endpoint).unwrap();
-        Player { connection, streams: BTreeMap::new(), status, changed: false }
+        Player { connection, streams: BTreeMap::new(), status, pushes: false, changed: false }
     }
 
     pub fn add(&mut self, id: u64, stream: Stream) {
-        let (bytes, data, text) = (Vec::new(), Vec::new(), String::new());
-        self.streams.insert(id, Read { stream, bytes, fin: false, data, text });
+        let pushed = PushedStream::new(stream, 16 + LIMITS.max_section as usize);
+        let read = Read { pushed, bytes: Vec::new(), fin: false, events: Events::default() };
+        self.streams.insert(id, read);
     }
 
     pub fn accept(&mut self, id: u64) {
@@ -78,11 +87,11 @@ impl Player {
     /// Passes the next bytes of a stream.
     pub fn receive(&mut self, id: u64, piece: &[u8], fin: bool) {
         let read = self.streams.get_mut(&id).unwrap();
-        read.bytes.extend_from_slice(piece);
         read.fin |= fin;
-        self.read(id);
+        self.read(id, piece);
         while std::mem::take(&mut self.changed) {
-            let waiting = self.streams.iter().filter(|(_, read)| read.stream.waits().is_some());
+            let waiting =
+                self.streams.iter().filter(|(_, read)| read.pushed.stream.waits().is_some());
             let waiting: Vec<u64> = waiting.map(|(id, _)| *id).collect();
             for id in waiting {
                 self.wake(id);
@@ -102,49 +111,63 @@ impl Player {
 
     /// Returns the events of a stream as text, in which pieces of content that follow each other are one.
     pub fn text(&mut self, id: u64) -> String {
-        let read = self.streams.get_mut(&id).unwrap();
-        flush(read);
-        read.text.clone()
+        let events = &mut self.streams.get_mut(&id).unwrap().events;
+        flush(events);
+        events.text.clone()
     }
 
     fn wake(&mut self, id: u64) {
-        let waits = self.streams[&id].stream.waits();
+        let waits = self.streams[&id].pushed.stream.waits();
         match waits {
             Some(Waits::Session(session)) => self.join(id, session),
             Some(Waits::Answer) => {
-                self.streams.get_mut(&id).unwrap().stream.answer(self.status);
+                self.streams.get_mut(&id).unwrap().pushed.stream.answer(self.status);
                 self.changed = true;
             }
             _ => {}
         }
-        self.read(id);
+        self.read(id, b"");
     }
 
     fn join(&mut self, id: u64, session: u64) {
-        let its = self.streams.get(&session).map(|its| &its.stream);
+        let its = self.streams.get(&session).map(|its| &its.pushed.stream);
         let known = self.connection.known(session, its);
         let read = self.streams.get_mut(&id).unwrap();
-        match self.connection.join(&mut read.stream, known) {
+        match self.connection.join(&mut read.pushed.stream, known) {
             Event::More | Event::Waits(_) => {}
-            event => tell(read, &event),
+            event => tell(&mut read.events, &event),
         }
     }
 
-    fn read(&mut self, id: u64) {
+    /// Reads what is next, with a piece that was not passed before.
+    fn read(&mut self, id: u64, mut piece: &[u8]) {
         for _ in 0..10_000 {
             let read = self.streams.get_mut(&id).unwrap();
-            let bytes = std::mem::take(&mut read.bytes);
-            let received = self.connection.receive(&mut read.stream, &bytes, read.fin);
-            assert!(received.consumed <= bytes.len());
-            read.bytes = bytes[received.consumed..].to_vec();
-            match received.event {
-                Event::More => return,
-                Event::Waits(Waits::Answer) => return self.wake(id),
-                Event::Waits(_) => return,
+            let bytes;
+            let event = if self.pushes {
+                let pushed = self.connection.receive_pushed(&mut read.pushed, piece, read.fin);
+                piece = &piece[pushed.taken..];
+                pushed.event
+            } else {
+                read.bytes.extend_from_slice(std::mem::take(&mut piece));
+                bytes = std::mem::take(&mut read.bytes);
+                let stream = &mut read.pushed.stream;
+                let received = self.connection.receive(stream, &bytes, read.fin);
+                assert!(received.consumed <= bytes.len());
+                read.bytes = bytes[received.consumed..].to_vec();
+                received.event
+            };
+            match event {
+                Event::More => return assert!(piece.is_empty()),
+                Event::Waits(Waits::Answer) => {
+                    assert!(piece.is_empty());
+                    return self.wake(id);
+                }
+                Event::Waits(_) => return assert!(piece.is_empty()),
                 Event::Joins(session) => self.join(id, session),
                 event => {
                     self.changed |= !matches!(event, Event::Data(_) | Event::StreamData(_));
-                    tell(read, &event);
+                    tell(&mut read.events, &event);
                 }
             }
         }
@@ -153,20 +176,20 @@ impl Player {
 }
 
 /// Appends an event to the text of its stream.
-pub fn tell(read: &mut Read, event: &Event<'_>) {
+fn tell(events: &mut Events, event: &Event<'_>) {
     match event {
-        Event::Data(bytes) | Event::StreamData(bytes) => read.data.extend_from_slice(bytes),
+        Event::Data(bytes) | Event::StreamData(bytes) => events.data.extend_from_slice(bytes),
         Event::Opened(_) | Event::Skipped => {}
         event => {
-            flush(read);
-            write!(read.text, "{event:?}; ").unwrap();
+            flush(events);
+            write!(events.text, "{event:?}; ").unwrap();
         }
     }
 }
 
-fn flush(read: &mut Read) {
-    if !read.data.is_empty() {
-        write!(read.text, "data {}; ", read.data.len()).unwrap();
-        read.data.clear();
+fn flush(events: &mut Events) {
+    if !events.data.is_empty() {
+        write!(events.text, "data {}; ", events.data.len()).unwrap();
+        events.data.clear();
     }
 }
