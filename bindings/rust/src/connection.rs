@@ -258,7 +258,8 @@ impl Connection {
     }
 
     /// Returns whether the settings of both ends allow sessions, which they do not before the SETTINGS of
-    /// the peer came. A client asks before it sends a request for one.
+    /// the peer came: both enable HTTP datagrams and WebTransport, and the server extended CONNECT. A client
+    /// asks before it sends a request for one.
     pub fn allows_sessions(&self) -> bool {
         sys::connection_allows_sessions(&self.state)
     }
@@ -371,8 +372,8 @@ impl Connection {
     /// Says that a stream is read no further, for a reason of the application. So a session is closed,
     /// after its capsule and the end were written.
     ///
-    /// Returns [`Event::SessionLost`] if an open session ends by that, and otherwise [`Event::More`]. The
-    /// control stream and those of QPACK stay as they are.
+    /// Returns [`Event::SessionLost`] if an open session ends by that, and otherwise [`Event::More`]. Later
+    /// bytes of the stream are consumed. The control stream and those of QPACK stay as they are.
     pub fn abandon(&mut self, stream: &mut Stream) -> Event<'static> {
         event(sys::stream_abandon(&mut self.state, &mut stream.state))
     }

@@ -42,10 +42,18 @@
 //! 7. After the end of a stream its [`Stream`] may be dropped, that of a session too: a server's
 //!    [`Connection`] knows which requests have begun. A client keeps those of its sessions. One that is dropped
 //!    before its end is [abandoned](Connection::abandon) first.
+//! 8. It counts requests that are answered, and those that are reset before, in a
+//!    [`RequestBudget`](budget::RequestBudget).
+//! 9. To end the connection it writes [`Goaway`](goaway::Goaway) frames on its control stream, answers the
+//!    requests that it processes, and closes the connection with
+//!    [`H3_NO_ERROR`](error::Code::H3_NO_ERROR).
 //!
 //! Only the bytes that were consumed are to be credited to the peer, so that QUIC's flow control bounds what
 //! waits: with a library such as quinn, which credits what is read, a stream is read no further while bytes of
 //! it wait.
+//!
+//! [`Connection::receive`] wants the bytes that were not consumed again, with more after them. If QUIC gives each
+//! byte once, [`Connection::receive_pushed`] reads the chunks, and a [`PushedStream`] holds what is left.
 //!
 //! Here a client of this crate asks such a server for a session, without a network in between:
 //!
@@ -125,7 +133,7 @@
 //! All unsafe code is in `src/sys.rs` and `src/sys/connections.rs`. A [`Connection`] has no table and no queue. It keeps memory
 //! for one field section, a datagram and a reason, within its [`Limits`], and a [`Stream`] that of a capsule
 //! that is cut: at most 1,028 bytes, or [`Limits::max_datagram`] if that is more. How many bytes of a stream
-//! wait is the caller's own limit ([`Connection::overflow`]).
+//! wait is the caller's own limit ([`Connection::overflow`], [`PushedStream::new`]).
 //!
 //! What is proved is proved of the library, in its repository. Of this crate nothing is proved.
 #![cfg_attr(not(feature = "std"), no_std)]

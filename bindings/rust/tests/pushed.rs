@@ -53,10 +53,14 @@ fn no_more_is_held_than_may_be() {
     assert_eq!((wait(&mut connection, &mut pushed, b"defg", true), pushed.held()), (0, 3));
     let event = connection.overflow(&mut pushed.stream);
     assert_eq!(event, Event::StreamError(Code::WEBTRANSPORT_BUFFERED_STREAM_REJECTED));
-    // what comes after it is consumed: first as much of it as there is room for
+    let mut same = pushed.clone();
+    assert_eq!((pushed.discard(), pushed.held()), (3, 0));
     let next = connection.receive_pushed(&mut pushed, b"defg", true);
+    assert_eq!((next.event, next.taken, next.consumed), (Event::More, 4, 4));
+    // what is held is consumed too if it is not dropped: first as much as there is room for
+    let next = connection.receive_pushed(&mut same, b"defg", true);
     assert_eq!((next.event, next.taken, next.consumed), (Event::Skipped, 1, 4));
-    let next = connection.receive_pushed(&mut pushed, b"efg", true);
+    let next = connection.receive_pushed(&mut same, b"efg", true);
     assert_eq!((next.event, next.taken, next.consumed), (Event::More, 3, 3));
 }
 

@@ -31,6 +31,16 @@ impl PushedStream {
         self.hold.end - self.hold.start
     }
 
+    /// Drops the bytes that are held, and returns how many they are. Call it after the stream was
+    /// [reset](Connection::reset), [abandoned](Connection::abandon) or [overflowed](Connection::overflow): no
+    /// event consumes them, so that they are to be credited to the peer now.
+    pub fn discard(&mut self) -> usize {
+        let held = self.held();
+        self.hold = sys::Hold::default();
+        self.room = Vec::new();
+        held
+    }
+
     /// Makes more room for what is held and `more` bytes. Returns whether there is some now.
     fn grow(&mut self, more: usize) -> bool {
         let (old, needed) = (self.room.len(), self.held().saturating_add(more));
@@ -56,11 +66,17 @@ pub struct Pushed<'a> {
 
 impl Connection {
     /// Returns what is next on a stream of a QUIC library that gives each byte once, in chunks: in the bytes
-    /// that are held, and those of the chunk. `fin`: the stream ends right after `chunk`.
+    /// that are held, and those of the chunk. `fin`: the stream ends right after `chunk`, which need not be
+    /// said again with the bytes that were not taken.
     ///
     /// Call it until [`Event::More`] or [`Event::Waits`], each time with the bytes of the chunk that were not
     /// taken. If some are left then, the stream would hold more than it may: say that it
-    /// [overflows](Self::overflow). When a wait is over, call it with an empty chunk.
+    /// [overflows](Self::overflow). When a wait is over, call it with an empty chunk. With
+    /// [`NoMemory`](Event::NoMemory) nothing is taken: repeat the call, with the same `fin`.
+    ///
+    /// When the stream is [reset](Self::reset), [abandoned](Self::abandon) or overflows, no event consumes
+    /// what is held and what is left of the chunk: credit the peer with these bytes
+    /// ([`PushedStream::discard`]).
     ///
     /// ```
     /// use vesgrauf::{Connection, Endpoint, Event, Limits, PushedStream};
