@@ -71,6 +71,8 @@ fn settings_of_the_peer() {
         came: true,
     };
     assert_eq!(client.settings(), all);
+    let resumed = Connection::resuming(Endpoint::client(LIMITS), &all).unwrap();
+    assert_eq!(resumed.settings(), PeerSettings { came: false, ..all });
 }
 
 /// The SETTINGS of a session, those of the one that resumes it, and the code of the error.
