@@ -29,7 +29,7 @@ LINES = [
     (b":authority", b"127.0.0.1"),
     (b":path", b"/"),
 ]
-TUNNEL = [(b":method", b"CONNECT"), (b":authority", b"127.0.0.1")]
+TUNNEL = [(b":method", b"CONNECT"), (b":authority", b"127.0.0.1:443")]
 TRAILERS = frame(0x01, section((b"x-trailer", b"x")))
 
 
