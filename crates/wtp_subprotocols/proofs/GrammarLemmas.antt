@@ -319,3 +319,84 @@ list_begun text all (Begun b) =
 
 pub list_found : (text : List ℕ) (all : List (List ℕ)) → strings_of text ≡ Some all → IsList text all
 list_found text all h = list_begun text all (start_found true text all h)
+
+-- ---- one string
+
+record IsLast (values : List (List ℕ)) (text : List ℕ) (all : List (List ℕ)) : Type 0 where
+  spaces : list_all is_space text ≡ true
+  is : values ≡ all
+
+space_last : (v : Bool) (values : List (List ℕ)) (byte : ℕ) (rest : List ℕ) (all : List (List ℕ)) → is_space byte ≡ v
+    → (strings_after false After values [] rest ≡ Some all → IsLast values rest all)
+    → strings_after false After values [] (byte ∷ rest) ≡ Some all → IsLast values (byte ∷ rest) all
+space_last true values byte rest all space ih h = let l = ih (rw space at h) in record { spaces = and_from _ _ space l.spaces; is = l.is }
+space_last false values byte rest all space ih h = absurd (none-some all (rw space at h))
+
+last_found : (values : List (List ℕ)) (text : List ℕ) (all : List (List ℕ)) → strings_after false After values [] text ≡ Some all → IsLast values text all
+last_found values [] all h = record { spaces = refl; is = some_same values all h }
+last_found values (byte ∷ rest) all h = space_last (is_space byte) values byte rest all refl (last_found values rest all) h
+
+some_value : (value other : List ℕ) → Some value ≡ Some other → value ≡ other
+some_value value other e = cc e
+
+item_begun : (text : List ℕ) (all : List (List ℕ)) (value : List ℕ) → IsStarted false text all → last_string all ≡ Some value → IsItem text value
+item_begun text all value (Alone is spaces none) h = absurd (false≢true is)
+item_begun text all value (Begun b) h =
+    let i = inner_found (length b.rest) false [] [] b.rest all (omega arith) b.goes in
+    let l = last_found (map byte_of i.chars ∷ []) i.rest all i.goes in
+    record {
+      member = record { before = b.before; chars = i.chars; after = i.rest };
+      valid = record { before = b.valid; chars = i.valid; after = l.spaces };
+      bytes = member_bytes b.before i.chars i.rest [] i.rest text (append-nil i.rest) (ap (λ (t : List ℕ). b.before ++ 34 ∷ t) i.bytes ∙ b.bytes);
+      is = some_value (map byte_of i.chars) value (ap last_string l.is ∙ h);
+    }
+
+item_by : (found : Option (List (List ℕ))) (text value : List ℕ) → strings_after false Start [] [] text ≡ found → one_string found ≡ Some value → IsItem text value
+item_by None text value e h = absurd (none-some value h)
+item_by (Some all) text value e h = item_begun text all value (start_found false text all e) h
+
+pub item_found : (text value : List ℕ) → string_of text ≡ Some value → IsItem text value
+item_found text value h = item_by (strings_after false Start [] [] text) text value refl h
+
+-- ---- what is written
+
+char_by : (v : Bool) (byte : ℕ) → is_escaped byte ≡ v → is_string_byte byte ≡ true → is_char (char_of byte) ≡ true
+char_by true byte e h = rw e e
+char_by false byte e h = rw e (and_from _ _ h (ap not e))
+
+byte_by : (v : Bool) (byte : ℕ) → is_escaped byte ≡ v → byte_of (char_of byte) ≡ byte
+byte_by true byte e = rw e refl
+byte_by false byte e = rw e refl
+
+chars_valid : (value : List ℕ) → is_string value ≡ true → list_all is_char (map char_of value) ≡ true
+chars_valid [] h = refl
+chars_valid (byte ∷ value) h =
+    let both = and_parts (is_string_byte byte) _ h in
+    and_from _ _ (char_by (is_escaped byte) byte refl both.0) (chars_valid value both.1)
+
+chars_value : (value : List ℕ) → map byte_of (map char_of value) ≡ value
+chars_value [] = refl
+chars_value (byte ∷ value) = rw (byte_by (is_escaped byte) byte refl, chars_value value) refl
+
+pub string_kept : (value : List ℕ) → is_string value ≡ true → string_of (written_string value) ≡ Some value
+string_kept value h = item_read (written_string value) value
+    (record { member = string_after [] value; valid = record { before = refl; chars = chars_valid value h; after = refl }; bytes = refl; is = chars_value value })
+
+others_valid : (values : List (List ℕ)) → list_all is_string values ≡ true → ValidOthers (map (string_after (32 ∷ [])) values)
+others_valid [] h = tt
+others_valid (value ∷ values) h =
+    let both = and_parts (is_string value) _ h in
+    (record { before = refl; chars = chars_valid value both.0; after = refl }, others_valid values both.1)
+
+others_value : (values : List (List ℕ)) → map value_of (map (string_after (32 ∷ [])) values) ≡ values
+others_value [] = refl
+others_value (value ∷ values) = rw (chars_value value, others_value values) refl
+
+pub list_kept : (values : List (List ℕ)) → list_all is_string values ≡ true → strings_of (written_list values) ≡ Some values
+list_kept [] h = refl
+list_kept (value ∷ values) h =
+    let both = and_parts (is_string value) _ h in
+    list_read (written_list (value ∷ values)) (value ∷ values)
+    (Members (string_after [] value) (map (string_after (32 ∷ [])) values)
+    (record { before = refl; chars = chars_valid value both.0; after = refl }) (others_valid values both.1) refl
+    (rw (chars_value value, others_value values) refl))
