@@ -1,0 +1,2 @@
+pub mod StringLemmas
+pub mod GrammarLemmas

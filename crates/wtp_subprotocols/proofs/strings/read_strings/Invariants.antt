@@ -1,0 +1,9 @@
+use Rattle.std.proofs.Common.{◌≡◌, drop, map, []}
+use Rattle.wtp_subprotocols.specs.declared.strings.State.TheVariants.{Start}
+use Rattle.wtp_subprotocols.specs.Strings.{strings_after}
+use Rattle.wtp_subprotocols.proofs.strings.read_strings.Given as goal
+
+abbrev pub invariant-loop-byte : goal.invariant-loop-byte
+invariant-loop-byte l =
+    strings_after l.list l.state (map (λ v. v.items) l.values.items) l.current.items (drop l.byte-index l.text)
+    ≡ strings_after l.list Start [] [] l.text
