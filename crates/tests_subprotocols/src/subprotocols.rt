@@ -41,7 +41,7 @@ fn are_same(found: &[Vec<u8>], wanted: &[&[u8]]) -> bool {
 }
 
 /// Lines of `wt-available-protocols`, and the strings of the list.
-static LISTS: [(&[&[u8]], Option<&[&[u8]]>); 22] = [
+static LISTS: [(&[&[u8]], Option<&[&[u8]]>); 26] = [
     (&[], None),
     (&[b""], Some(&[])),
     (
@@ -58,6 +58,13 @@ static LISTS: [(&[&[u8]], Option<&[&[u8]]>); 22] = [
         Some(&[b"foo \"bar\" \\ baz"]),
     ),
     (&[b"\"a,b\", \"\""], Some(&[b"a,b", b""])),
+    (
+        &[b"\"abc\";a=1;b=2; c, \"ghi\";jk=4;l=\"9,\\\"\";q=:aGk=:,\"m\"; *n=?0;o=*t/u;p=-1.5"],
+        Some(&[b"abc", b"ghi", b"m"]),
+    ),
+    (&[b"\"a\" ;b"], None),
+    (&[b"\"a\";"], None),
+    (&[b"\"a\";b=, \"c\""], None),
     (&[b"\"a\", b"], None),
     (&[b"\"a\", 1"], None),
     (&[b"(\"a\" \"b\")"], None),
@@ -96,7 +103,7 @@ fn offers_are_read_past_refused_memory(rt: HostRuntime) {
 }
 
 /// Lines of `wt-protocol`, and the string.
-static ITEMS: [(&[&[u8]], Option<&[u8]>); 18] = [
+static ITEMS: [(&[&[u8]], Option<&[u8]>); 21] = [
     (&[], None),
     (&[b"\"hello world\""], Some(b"hello world")),
     (&[b"\"\""], Some(b"")),
@@ -105,6 +112,9 @@ static ITEMS: [(&[&[u8]], Option<&[u8]>); 18] = [
         &[b"\"foo \\\"bar\\\" \\\\ baz\""],
         Some(b"foo \"bar\" \\ baz"),
     ),
+    (&[b"\"a\"; foo=bar ; q"], None),
+    (&[b"\"a\"; foo=bar;baz=\"x\""], Some(b"a")),
+    (&[b"\"a\";B=1"], None),
     (&[b""], None),
     (&[b"'foo'"], None),
     (&[b"foo"], None),

@@ -1,102 +1,16 @@
--- Texts of the grammar are read, and texts that are read are of the grammar.
-use Rattle.std.proofs.Common.{◌≡◌, ◌==◌, ℕ, zero, suc, ◌≤◌, ◌<◌, nat_lt, Bool, true, false, not, ◌&&◌, ◌||◌, List, [], ◌∷◌, ◌++◌, length, map, Option, Some, None, refl, sym, ap, subst, ◌∙◌, arith, eqb-true}
-use Rattle.std.proofs.lemmas.Bool.{and_from, and_parts, or_cases, false≢true}
-use Rattle.std.proofs.lemmas.List.{append-nil, append_assoc}
+-- Texts that are read are of the grammar, and so is what is written.
+use Rattle.std.proofs.Common.{◌≡◌, ◌==◌, ℕ, zero, suc, ◌≤◌, ◌<◌, Bool, true, false, not, List, [], ◌∷◌, ◌++◌, length, map, Option, Some, None, refl, sym, ap, subst, ◌∙◌, arith, eqb-true}
+use Rattle.std.proofs.lemmas.Bool.{and_from, and_parts, false≢true}
+use Rattle.std.proofs.lemmas.List.{append-nil}
 use Rattle.std.proofs.lemmas.Option.{none-some}
 use Rattle.std.specs.List.{list_all}
 use Rattle.wtp_fields.specs.FieldWriting.{is_blank}
-use Rattle.wtp_subprotocols.specs.declared.strings.State.{State}
-use Rattle.wtp_subprotocols.specs.declared.strings.State.TheVariants.{Start, Before, Inside, Escape, After}
-use Rattle.wtp_subprotocols.specs.Strings.{Char, Plain, Escaped, Member, is_space, is_escaped, is_string_byte, is_char, byte_of, value_of, chars_then, member_then, others_bytes, ValidMember, ValidOthers, IsList, Empty, Members, IsItem, is_after, strings_after, strings_of, string_of, one_string, last_string, char_of, string_after, written_string, written_list, is_string}
+use Rattle.wtp_subprotocols.specs.declared.strings.State.TheVariants.{Start, Before, Inside, Escape, Closed, After}
+use Rattle.wtp_subprotocols.specs.Strings.{Char, Plain, Escaped, Parameter, Member, parameters_then, is_space, is_escaped, is_string_byte, is_char, byte_of, value_of, chars_then, others_bytes, ValidOthers, IsList, Empty, Members, IsItem, strings_after, strings_of, string_of, one_string, last_string, char_of, string_after, written_string, written_list, is_string}
+use Rattle.wtp_subprotocols.proofs.ReadLemmas.{other, shifted, values_shifted, list_read, item_read}
+use Rattle.wtp_subprotocols.proofs.ParameterLemmas.{parameters_found}
 
--- ---- bytes
-
-other_by : (v : Bool) (test : ℕ → Bool) (n b : ℕ) → (b == n) ≡ v → test n ≡ false → test b ≡ true → v ≡ false
-other_by false test n b e none some = refl
-other_by true test n b e none some = sym some ∙ ap test (eqb-true b n e) ∙ none
-
--- a byte that passes a test is none that does not
-other : (test : ℕ → Bool) (n b : ℕ) → test n ≡ false → test b ≡ true → (b == n) ≡ false
-other test n b none some = other_by (b == n) test n b refl none some
-
--- ---- texts of the grammar are read
-
-before_read : (list : Bool) (values : List (List ℕ)) (current blanks rest : List ℕ) → list_all is_blank blanks ≡ true
-    → strings_after list Before values current (blanks ++ rest) ≡ strings_after list Before values current rest
-before_read list values current [] rest h = refl
-before_read list values current (b ∷ blanks) rest h =
-    let both = and_parts (is_blank b) _ h in
-    rw (other is_blank 34 b refl both.0, both.0) (before_read list values current blanks rest both.1)
-
-start_read : (list : Bool) (values : List (List ℕ)) (current blanks rest : List ℕ) → list_all is_space blanks ≡ true
-    → strings_after list Start values current (blanks ++ rest) ≡ strings_after list Start values current rest
-start_read list values current [] rest h = refl
-start_read list values current (b ∷ blanks) rest h =
-    let both = and_parts (is_space b) _ h in
-    rw (other is_space 34 b refl both.0, both.0) (start_read list values current blanks rest both.1)
-
-after_read : (list : Bool) (values : List (List ℕ)) (current blanks rest : List ℕ) → list_all (is_after list) blanks ≡ true
-    → strings_after list After values current (blanks ++ rest) ≡ strings_after list After values current rest
-after_read list values current [] rest h = refl
-after_read list values current (b ∷ blanks) rest h =
-    let both = and_parts (is_after list b) _ h in
-    rw both.0 (after_read list values current blanks rest both.1)
-
-shifted : (current : List ℕ) (byte : ℕ) (more : List ℕ) → (current ++ byte ∷ []) ++ more ≡ current ++ byte ∷ more
-shifted current byte more = append_assoc current (byte ∷ []) more
-
-not_true : (b : Bool) → not b ≡ true → b ≡ false
-not_true true h = sym h
-not_true false h = refl
-
-plain_parts : (b : ℕ) → is_char (Plain b) ≡ true → ((b == 34) ≡ false) × ((b == 92) ≡ false) × (is_string_byte b ≡ true)
-plain_parts b h =
-    let both = and_parts (is_string_byte b) _ h in
-    (other (λ x. not (is_escaped x)) 34 b refl both.1, other (λ x. not (is_escaped x)) 92 b refl both.1, both.0)
-
-chars_read : (list : Bool) (values : List (List ℕ)) (current : List ℕ) (chars : List Char) (rest : List ℕ) → list_all is_char chars ≡ true
-    → strings_after list Inside values current (chars_then chars (34 ∷ rest)) ≡ strings_after list After (values ++ (current ++ map byte_of chars) ∷ []) [] rest
-chars_read list values current [] rest h = rw (append-nil current) refl
-chars_read list values current (Plain b ∷ chars) rest h =
-    let both = and_parts (is_char (Plain b)) _ h in
-    let p = plain_parts b both.0 in
-    rw (p.0, p.1, p.2, sym (shifted current b (map byte_of chars))) (chars_read list values (current ++ b ∷ []) chars rest both.1)
-chars_read list values current (Escaped b ∷ chars) rest h =
-    let both = and_parts (is_escaped b) _ h in
-    rw (both.0, sym (shifted current b (map byte_of chars))) (chars_read list values (current ++ b ∷ []) chars rest both.1)
-
-values_shifted : (values : List (List ℕ)) (value : List ℕ) (more : List (List ℕ)) → (values ++ value ∷ []) ++ more ≡ values ++ value ∷ more
-values_shifted values value more = append_assoc values (value ∷ []) more
-
-others_read : (values : List (List ℕ)) (others : List Member) → ValidOthers others
-    → strings_after true After values [] (others_bytes others) ≡ Some (values ++ map value_of others)
-others_read values [] v = ap Some (sym (append-nil values))
-others_read values (m ∷ others) v =
-    before_read true values [] m.before _ v.0.before
-    ∙ chars_read true values [] m.chars (m.after ++ others_bytes others) v.0.chars
-    ∙ after_read true (values ++ value_of m ∷ []) [] m.after (others_bytes others) v.0.after
-    ∙ others_read (values ++ value_of m ∷ []) others v.1
-    ∙ ap Some (values_shifted values (value_of m) (map value_of others))
-
-first_read : (list : Bool) (m : Member) (rest : List ℕ) → ValidMember is_space (is_after list) m
-    → strings_after list Start [] [] (member_then m rest) ≡ strings_after list After (value_of m ∷ []) [] rest
-first_read list m rest v =
-    start_read list [] [] m.before _ v.before
-    ∙ chars_read list [] [] m.chars (m.after ++ rest) v.chars
-    ∙ after_read list (value_of m ∷ []) [] m.after rest v.after
-
-spaces_read : (text : List ℕ) → list_all is_space text ≡ true → strings_of text ≡ Some []
-spaces_read text h = rw (sym (append-nil text)) (start_read true [] [] text [] h)
-
-pub list_read : (text : List ℕ) (values : List (List ℕ)) → IsList text values → strings_of text ≡ Some values
-list_read text values (Empty spaces none) = spaces_read text spaces ∙ ap Some (sym none)
-list_read text values (Members first others v vs bytes is) =
-    ap strings_of (sym bytes) ∙ first_read true first (others_bytes others) v ∙ others_read (value_of first ∷ []) others vs ∙ ap Some is
-
-pub item_read : (text value : List ℕ) → IsItem text value → string_of text ≡ Some value
-item_read text value i = ap string_of (sym i.bytes) ∙ ap one_string (first_read false i.member [] i.valid) ∙ ap Some i.is
-
--- ---- texts that are read are of the grammar
+-- ---- the strings
 
 -- a string's characters, its quote and what follows
 record IsInner (list : Bool) (values : List (List ℕ)) (current text : List ℕ) (all : List (List ℕ)) : Type 0 where
@@ -104,7 +18,7 @@ record IsInner (list : Bool) (values : List (List ℕ)) (current text : List ℕ
   rest : List ℕ
   valid : list_all is_char chars ≡ true
   bytes : chars_then chars (34 ∷ rest) ≡ text
-  goes : strings_after list After (values ++ (current ++ map byte_of chars) ∷ []) [] rest ≡ Some all
+  goes : strings_after list Closed (values ++ (current ++ map byte_of chars) ∷ []) [] rest ≡ Some all
   shorter : length rest < length text
 
 with_char : (list : Bool) (values : List (List ℕ)) (current : List ℕ) (char : Char) (text whole : List ℕ) (all : List (List ℕ))
@@ -238,23 +152,25 @@ abbrev OthersUpTo : ℕ → Type 0
 OthersUpTo n = (values : List (List ℕ)) (text : List ℕ) (all : List (List ℕ)) → length text ≤ n
     → strings_after true After values [] text ≡ Some all → IsOthers values text all
 
-member_bytes : (before : List ℕ) (chars : List Char) (after more rest text : List ℕ) → after ++ more ≡ rest → before ++ 34 ∷ chars_then chars (34 ∷ rest) ≡ text
-    → before ++ 34 ∷ chars_then chars (34 ∷ (after ++ more)) ≡ text
-member_bytes before chars after more rest text e h = rw e h
+member_bytes : (before : List ℕ) (chars : List Char) (ps : List Parameter) (after more end rest text : List ℕ) → after ++ more ≡ end
+    → parameters_then ps end ≡ rest → before ++ 34 ∷ chars_then chars (34 ∷ rest) ≡ text
+    → before ++ 34 ∷ chars_then chars (34 ∷ parameters_then ps (after ++ more)) ≡ text
+member_bytes before chars ps after more end rest text e k h = rw (e, k) h
 
 after_comma : (n : ℕ) (values : List (List ℕ)) (rest : List ℕ) (all : List (List ℕ)) → OthersUpTo n → length rest ≤ n
     → strings_after true Before values [] rest ≡ Some all → IsOthers values (44 ∷ rest) all
 after_comma n values rest all ih few h =
     let b = before_found values rest all h in
     let i = inner_found (length b.rest) true values [] b.rest all (omega arith) b.goes in
-    let o = ih (values ++ map byte_of i.chars ∷ []) i.rest all (let x = b.shorter in let y = i.shorter in omega (arith, x, y, few)) i.goes in
-    let m : Member = record { before = b.before; chars = i.chars; after = o.after } in
+    let p = parameters_found (length i.rest) true (values ++ map byte_of i.chars ∷ []) i.rest all (omega arith) i.goes in
+    let o = ih (values ++ map byte_of i.chars ∷ []) p.rest all (let x = b.shorter in let y = i.shorter in let z = p.shorter in omega (arith, x, y, z, few)) p.goes in
+    let m : Member = record { before = b.before; chars = i.chars; parameters = p.parameters; after = o.after } in
     record {
       after = [];
       others = m ∷ o.others;
       blank = refl;
-      valid = (record { before = b.valid; chars = i.valid; after = o.blank }, o.valid);
-      bytes = ap (λ (t : List ℕ). 44 ∷ t) (member_bytes b.before i.chars o.after (others_bytes o.others) i.rest rest o.bytes
+      valid = (record { before = b.valid; chars = i.valid; parameters = p.valid; after = o.blank }, o.valid);
+      bytes = ap (λ (t : List ℕ). 44 ∷ t) (member_bytes b.before i.chars p.parameters o.after (others_bytes o.others) p.rest i.rest rest o.bytes p.bytes
           (ap (λ (t : List ℕ). b.before ++ 34 ∷ t) i.bytes ∙ b.bytes));
       is = sym (values_shifted values (map byte_of i.chars) (map value_of o.others)) ∙ o.is;
     }
@@ -311,10 +227,11 @@ list_begun : (text : List ℕ) (all : List (List ℕ)) → IsStarted true text a
 list_begun text all (Alone is spaces none) = Empty spaces (sym none)
 list_begun text all (Begun b) =
     let i = inner_found (length b.rest) true [] [] b.rest all (omega arith) b.goes in
-    let o = others_found (length i.rest) (map byte_of i.chars ∷ []) i.rest all (omega arith) i.goes in
-    Members (record { before = b.before; chars = i.chars; after = o.after }) o.others
-    (record { before = b.valid; chars = i.valid; after = o.blank }) o.valid
-    (member_bytes b.before i.chars o.after (others_bytes o.others) i.rest text o.bytes (ap (λ (t : List ℕ). b.before ++ 34 ∷ t) i.bytes ∙ b.bytes))
+    let p = parameters_found (length i.rest) true (map byte_of i.chars ∷ []) i.rest all (omega arith) i.goes in
+    let o = others_found (length p.rest) (map byte_of i.chars ∷ []) p.rest all (omega arith) p.goes in
+    Members (record { before = b.before; chars = i.chars; parameters = p.parameters; after = o.after }) o.others
+    (record { before = b.valid; chars = i.valid; parameters = p.valid; after = o.blank }) o.valid
+    (member_bytes b.before i.chars p.parameters o.after (others_bytes o.others) p.rest i.rest text o.bytes p.bytes (ap (λ (t : List ℕ). b.before ++ 34 ∷ t) i.bytes ∙ b.bytes))
     o.is
 
 pub list_found : (text : List ℕ) (all : List (List ℕ)) → strings_of text ≡ Some all → IsList text all
@@ -343,11 +260,12 @@ item_begun : (text : List ℕ) (all : List (List ℕ)) (value : List ℕ) → Is
 item_begun text all value (Alone is spaces none) h = absurd (false≢true is)
 item_begun text all value (Begun b) h =
     let i = inner_found (length b.rest) false [] [] b.rest all (omega arith) b.goes in
-    let l = last_found (map byte_of i.chars ∷ []) i.rest all i.goes in
+    let p = parameters_found (length i.rest) false (map byte_of i.chars ∷ []) i.rest all (omega arith) i.goes in
+    let l = last_found (map byte_of i.chars ∷ []) p.rest all p.goes in
     record {
-      member = record { before = b.before; chars = i.chars; after = i.rest };
-      valid = record { before = b.valid; chars = i.valid; after = l.spaces };
-      bytes = member_bytes b.before i.chars i.rest [] i.rest text (append-nil i.rest) (ap (λ (t : List ℕ). b.before ++ 34 ∷ t) i.bytes ∙ b.bytes);
+      member = record { before = b.before; chars = i.chars; parameters = p.parameters; after = p.rest };
+      valid = record { before = b.valid; chars = i.valid; parameters = p.valid; after = l.spaces };
+      bytes = member_bytes b.before i.chars p.parameters p.rest [] p.rest i.rest text (append-nil p.rest) p.bytes (ap (λ (t : List ℕ). b.before ++ 34 ∷ t) i.bytes ∙ b.bytes);
       is = some_value (map byte_of i.chars) value (ap last_string l.is ∙ h);
     }
 
@@ -380,13 +298,13 @@ chars_value (byte ∷ value) = rw (byte_by (is_escaped byte) byte refl, chars_va
 
 pub string_kept : (value : List ℕ) → is_string value ≡ true → string_of (written_string value) ≡ Some value
 string_kept value h = item_read (written_string value) value
-    (record { member = string_after [] value; valid = record { before = refl; chars = chars_valid value h; after = refl }; bytes = refl; is = chars_value value })
+    (record { member = string_after [] value; valid = record { before = refl; chars = chars_valid value h; parameters = tt; after = refl }; bytes = refl; is = chars_value value })
 
 others_valid : (values : List (List ℕ)) → list_all is_string values ≡ true → ValidOthers (map (string_after (32 ∷ [])) values)
 others_valid [] h = tt
 others_valid (value ∷ values) h =
     let both = and_parts (is_string value) _ h in
-    (record { before = refl; chars = chars_valid value both.0; after = refl }, others_valid values both.1)
+    (record { before = refl; chars = chars_valid value both.0; parameters = tt; after = refl }, others_valid values both.1)
 
 others_value : (values : List (List ℕ)) → map value_of (map (string_after (32 ∷ [])) values) ≡ values
 others_value [] = refl
@@ -398,5 +316,5 @@ list_kept (value ∷ values) h =
     let both = and_parts (is_string value) _ h in
     list_read (written_list (value ∷ values)) (value ∷ values)
     (Members (string_after [] value) (map (string_after (32 ∷ [])) values)
-    (record { before = refl; chars = chars_valid value both.0; after = refl }) (others_valid values both.1) refl
+    (record { before = refl; chars = chars_valid value both.0; parameters = tt; after = refl }) (others_valid values both.1) refl
     (rw (chars_value value, others_value values) refl))

@@ -1,2 +1,4 @@
-pub mod StringLemmas
 pub mod GrammarLemmas
+pub mod ParameterLemmas
+pub mod ReadLemmas
+pub mod StringLemmas

@@ -1,6 +1,6 @@
 -- Strings of structured fields.
-use Rattle.std.proofs.Common.{◌≡◌, ℕ, zero, suc, ◌+◌, ◌<◌, length, drop, get_or, Bor, arith, List, [], ◌∷◌, ◌++◌, map, Option, Some, None, codes, refl, ap, sym, ◌∙◌}
-use Rattle.std.proofs.lemmas.List.{map_push, append-nil, append_assoc}
+use Rattle.std.proofs.Common.{◌≡◌, ℕ, zero, suc, ◌+◌, ◌<◌, length, drop, get_or, Bor, arith, List, [], ◌∷◌, ◌++◌, map, Some, codes, refl, ap, ◌∙◌}
+use Rattle.std.proofs.lemmas.List.{map_push, append_assoc}
 use Rattle.wtp_subprotocols.specs.Strings.{Char, Plain, Escaped, Member, chars_then, member_then, others_bytes, char_of, string_after, written_string, last_string}
 
 pub pushed : {X Y : Type 0} (f : X → Y) → (xs : List X) (y : X) → map f (xs ++ y ∷ []) ≡ map f xs ++ f y ∷ []

@@ -1,10 +1,11 @@
 -- Lists of strings, and one string, as structured fields (RFC 8941, sections 3.1, 3.3.3 and 4.2).
--- A parameter (section 3.1.2) is not allowed here: see docs/DIFFERENCES.md.
-use Rattle.std.specs.Prelude.{◌≡◌, ◌==◌, ℕ, nat_lt, Bool, true, false, not, ◌&&◌, ◌||◌, if◌then◌else◌, List, [], ◌∷◌, ◌++◌, map, Option, Some, None}
-use Rattle.std.specs.List.{list_all}
+-- Parameters (section 3.1.2) have no meaning here. Of a parameter's value that is no string, only its
+-- bytes are checked: see docs/DIFFERENCES.md.
+use Rattle.std.specs.Prelude.{◌≡◌, ◌==◌, ℕ, nat_lt, Bool, true, false, not, ◌&&◌, ◌||◌, if◌then◌else◌, List, [], ◌∷◌, ◌++◌, map, Option, Some, None, codes}
+use Rattle.std.specs.List.{list_all, list_any}
 use Rattle.wtp_fields.specs.FieldWriting.{is_blank}
 use Rattle.wtp_subprotocols.specs.declared.strings.State.{State}
-use Rattle.wtp_subprotocols.specs.declared.strings.State.TheVariants.{Start, Before, Inside, Escape, After}
+use Rattle.wtp_subprotocols.specs.declared.strings.State.TheVariants.{Start, Before, Inside, Escape, Closed, Key, InKey, Value, InValue, Quoted, QuotedEscape, After}
 
 -- ---- bytes
 
@@ -20,6 +21,25 @@ is_escaped byte = byte == 34 || byte == 92
 abbrev pub is_string_byte : ℕ → Bool
 is_string_byte byte = nat_lt 31 byte && nat_lt byte 127
 
+-- the byte is a lower-case letter
+abbrev pub is_lower : ℕ → Bool
+is_lower byte = nat_lt 96 byte && nat_lt byte 123
+
+-- the byte may begin the key of a parameter (section 3.1.2)
+abbrev pub is_key_start : ℕ → Bool
+is_key_start byte = is_lower byte || byte == 42
+
+-- the byte may be in a key
+abbrev pub is_key_byte : ℕ → Bool
+is_key_byte byte =
+    is_lower byte || (nat_lt 47 byte && nat_lt byte 58) || list_any (λ mark. mark == byte) (codes "_-.*")
+
+-- The byte may be in a value that is no string: it is one of a number, a token, a byte sequence or a
+-- boolean (sections 3.3.1, 3.3.2 and 3.3.4 to 3.3.6), in any order.
+abbrev pub is_value_byte : ℕ → Bool
+is_value_byte byte =
+    is_key_byte byte || (byte == 61 || ((nat_lt 64 byte && nat_lt byte 91) || list_any (λ mark. mark == byte) (codes "!#$%&'+^`|~:/?")))
+
 -- ---- the grammar
 
 -- a character of a string (chr in section 3.3.3)
@@ -27,10 +47,23 @@ pub data Char : Type 0 where
   Plain : ℕ → Char
   Escaped : ℕ → Char
 
--- a string, with the optional whitespace (OWS) around it
+-- the value of a parameter: a string, or another bare item
+pub data Bare : Type 0 where
+  Text : List Char → Bare
+  Other : ℕ → List ℕ → Bare
+
+-- a parameter, with the spaces before its key
+pub record Parameter : Type 0 where
+  pub spaces : List ℕ
+  pub first : ℕ
+  pub key : List ℕ
+  pub bare : Option Bare
+
+-- a string and its parameters, with the optional whitespace (OWS) around them
 pub record Member : Type 0 where
   pub before : List ℕ
   pub chars : List Char
+  pub parameters : List Parameter
   pub after : List ℕ
 
 -- the character, then more
@@ -42,9 +75,19 @@ abbrev pub chars_then : List Char → List ℕ → List ℕ
 chars_then [] rest = rest
 chars_then (char ∷ chars) rest = char_then char (chars_then chars rest)
 
+abbrev pub bare_then : Option Bare → List ℕ → List ℕ
+bare_then None rest = rest
+bare_then (Some (Text chars)) rest = 61 ∷ 34 ∷ chars_then chars (34 ∷ rest)
+bare_then (Some (Other first others)) rest = 61 ∷ first ∷ (others ++ rest)
+
+-- the parameters, each after a semicolon, then more
+abbrev pub parameters_then : List Parameter → List ℕ → List ℕ
+parameters_then [] rest = rest
+parameters_then (p ∷ ps) rest = 59 ∷ (p.spaces ++ p.first ∷ (p.key ++ bare_then p.bare (parameters_then ps rest)))
+
 -- the member, then more: a string is between quotes
 abbrev pub member_then : Member → List ℕ → List ℕ
-member_then m rest = m.before ++ 34 ∷ chars_then m.chars (34 ∷ (m.after ++ rest))
+member_then m rest = m.before ++ 34 ∷ chars_then m.chars (34 ∷ parameters_then m.parameters (m.after ++ rest))
 
 -- members after the first, each after a comma
 abbrev pub others_bytes : List Member → List ℕ
@@ -64,10 +107,26 @@ abbrev pub is_char : Char → Bool
 is_char (Plain byte) = is_string_byte byte && not (is_escaped byte)
 is_char (Escaped byte) = is_escaped byte
 
+abbrev pub ValidBare : Option Bare → Type 0
+ValidBare None = Unit {0}
+ValidBare (Some (Text chars)) = list_all is_char chars ≡ true
+ValidBare (Some (Other first others)) = (is_value_byte first ≡ true) × (list_all is_value_byte others ≡ true)
+
+pub record ValidParameter (p : Parameter) : Type 0 where
+  pub spaces : list_all is_space p.spaces ≡ true
+  pub first : is_key_start p.first ≡ true
+  pub key : list_all is_key_byte p.key ≡ true
+  pub bare : ValidBare p.bare
+
+abbrev pub ValidParameters : List Parameter → Type 0
+ValidParameters [] = Unit {0}
+ValidParameters (p ∷ ps) = ValidParameter p × ValidParameters ps
+
 -- the member is one, with these bytes before and after it
 pub record ValidMember (is_before is_after : ℕ → Bool) (m : Member) : Type 0 where
   pub before : list_all is_before m.before ≡ true
   pub chars : list_all is_char m.chars ≡ true
+  pub parameters : ValidParameters m.parameters
   pub after : list_all is_after m.after ≡ true
 
 abbrev pub ValidOthers : List Member → Type 0
@@ -96,6 +155,16 @@ abbrev pub is_after : Bool → ℕ → Bool
 is_after true byte = is_blank byte
 is_after false byte = is_space byte
 
+-- what may follow the byte, after a string and its parameters
+abbrev pub state_after : Bool → ℕ → Option State
+state_after list byte =
+    if is_after list byte then Some After else
+    if list && byte == 44 then Some Before else None
+
+-- what may follow it, after a string or a parameter
+abbrev pub state_closed : Bool → ℕ → Option State
+state_closed list byte = if byte == 59 then Some Key else state_after list byte
+
 -- what may follow the byte, of a list or of one string
 abbrev pub next_state : Bool → State → ℕ → Option State
 next_state list Start byte =
@@ -105,17 +174,35 @@ next_state list Before byte =
     if byte == 34 then Some Inside else
     if is_blank byte then Some Before else None
 next_state list Inside byte =
-    if byte == 34 then Some After else
+    if byte == 34 then Some Closed else
     if byte == 92 then Some Escape else
     if is_string_byte byte then Some Inside else None
 next_state list Escape byte = if is_escaped byte then Some Inside else None
-next_state list After byte =
-    if is_after list byte then Some After else
-    if list && byte == 44 then Some Before else None
+next_state list Closed byte = state_closed list byte
+next_state list Key byte =
+    if is_key_start byte then Some InKey else
+    if byte == 32 then Some Key else None
+next_state list InKey byte =
+    if is_key_byte byte then Some InKey else
+    if byte == 61 then Some Value else state_closed list byte
+next_state list Value byte =
+    if byte == 34 then Some Quoted else
+    if is_value_byte byte then Some InValue else None
+next_state list InValue byte =
+    if is_value_byte byte then Some InValue else state_closed list byte
+next_state list Quoted byte =
+    if byte == 34 then Some Closed else
+    if byte == 92 then Some QuotedEscape else
+    if is_string_byte byte then Some Quoted else None
+next_state list QuotedEscape byte = if is_escaped byte then Some Quoted else None
+next_state list After byte = state_after list byte
 
 -- the text may end here
 abbrev pub may_end : Bool → State → Bool
 may_end list Start = list
+may_end list Closed = true
+may_end list InKey = true
+may_end list InValue = true
 may_end list After = true
 may_end list _ = false
 
@@ -170,7 +257,7 @@ char_of byte = if is_escaped byte then Escaped byte else Plain byte
 
 -- the string of this value, after these bytes
 abbrev pub string_after : List ℕ → List ℕ → Member
-string_after before value = record { before = before; chars = map char_of value; after = [] }
+string_after before value = record { before = before; chars = map char_of value; parameters = []; after = [] }
 
 abbrev pub written_string : List ℕ → List ℕ
 written_string value = member_then (string_after [] value) []

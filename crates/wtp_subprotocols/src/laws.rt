@@ -22,7 +22,10 @@ pub fn strings_are_those_of_the_grammar()
     ensures escape { string_of (codes "\"\\a\"") ≡ None }
     ensures control { string_of (codes "\"\t\"") ≡ None }
     ensures two_items { string_of (codes "\"a\", \"b\"") ≡ None }
-    ensures parameter { strings_of (codes "\"a\";q=1") ≡ None }
+    ensures parameter { strings_of (codes "\"a\";q=0.5;  *b;c=\"\\\",\" , \"b\"") ≡ Some (codes "a" ∷ codes "b" ∷ []) }
+    ensures late_parameter { strings_of (codes "\"a\" ;q=1") ≡ None }
+    ensures no_key { strings_of (codes "\"a\";Q=1") ≡ None }
+    ensures no_value { string_of (codes "\"a\";q=") ≡ None }
 {}
 
 /// A list and a string that are written are read back with the same values.

@@ -1,6 +1,10 @@
 //! Lists of strings, and one string, as structured fields (RFC 8941, sections 3.1, 3.3.3 and 4.2).
 ghost use Rattle.std.specs.Prelude.{◌≡◌, ℕ, [], ◌++◌, map, IfOk, OnOk, option_map, true, false};
 ghost use Rattle.wtp_subprotocols.specs.Strings.{is_escaped as is_escaped_byte, is_string_byte as is_byte_of_string};
+ghost use Rattle.std.specs.Prelude.{◌==◌, Some, None, codes, if◌then◌else◌};
+ghost use Rattle.std.specs.List.{list_any};
+ghost use Rattle.wtp_subprotocols.specs.Strings.{is_lower as is_lower_byte, is_key_byte as is_byte_of_key};
+ghost use Rattle.wtp_subprotocols.specs.Strings.{is_value_byte as is_byte_of_value, state_after, state_closed};
 ghost use Rattle.wtp_subprotocols.specs.Strings.{next_state, may_end as may_end_in, values_after, current_after};
 ghost use Rattle.wtp_subprotocols.specs.Strings.{strings_after, string_of, written_string};
 ghost use Rattle.wtp_subprotocols.specs.Strings.{is_string as is_string_text};
@@ -19,7 +23,21 @@ pub(crate) enum State {
     Inside,
     /// It is after a backslash.
     Escape,
-    /// It is after a string.
+    /// It is right after a string, or after the string of a parameter.
+    Closed,
+    /// It is before the key of a parameter.
+    Key,
+    /// It is in a key.
+    InKey,
+    /// It is before the value of a parameter.
+    Value,
+    /// It is in a value that is no string.
+    InValue,
+    /// It is in a string of a parameter.
+    Quoted,
+    /// It is after a backslash in a string of a parameter.
+    QuotedEscape,
+    /// It is after a string, its parameters and a space or a tab.
     After,
 }
 
@@ -40,10 +58,23 @@ impl State {
                 _ => None,
             },
             State::Inside => next_inside(byte),
-            State::Escape if is_escaped(byte) => Some(State::Inside),
-            State::Escape => None,
+            State::Escape => State::Inside.if_true(is_escaped(byte)),
+            State::Closed => next_closed(byte, list),
+            State::Key => next_key(byte),
+            State::InKey => next_in_key(byte, list),
+            State::Value => next_value(byte),
+            State::InValue => next_in_value(byte, list),
+            State::Quoted => next_quoted(byte),
+            State::QuotedEscape => State::Quoted.if_true(is_escaped(byte)),
             State::After => next_after(byte, list),
         }
+    }
+
+    /// Returns the state if the condition holds.
+    fn if_true(self, condition: bool) -> Option<State>
+        ensures { result ≡ (if condition then Some self else None) }
+    {
+        if condition { Some(self) } else { None }
     }
 
     /// Returns whether a list, or one string, may end here.
@@ -52,8 +83,9 @@ impl State {
     {
         match self {
             State::Start => list,
-            State::After => true,
+            State::Closed | State::InKey | State::InValue | State::After => true,
             State::Before | State::Inside | State::Escape => false,
+            State::Key | State::Value | State::Quoted | State::QuotedEscape => false,
         }
     }
 }
@@ -63,7 +95,7 @@ fn next_inside(byte: u8) -> Option<State>
     ensures { result ≡ next_state true State.Inside byte }
 {
     if byte == b'"' {
-        Some(State::After)
+        Some(State::Closed)
     } else if byte == b'\\' {
         Some(State::Escape)
     } else if is_string_byte(byte) {
@@ -73,9 +105,114 @@ fn next_inside(byte: u8) -> Option<State>
     }
 }
 
+/// Returns the state after a byte that follows a string or a parameter.
+fn next_closed(byte: u8, list: bool) -> Option<State>
+    ensures { result ≡ state_closed list byte }
+{
+    if byte == b';' {
+        Some(State::Key)
+    } else {
+        next_after(byte, list)
+    }
+}
+
+/// Returns the state after a byte before the key of a parameter.
+fn next_key(byte: u8) -> Option<State>
+    ensures { result ≡ next_state true State.Key byte }
+{
+    if is_lower(byte) || byte == b'*' {
+        Some(State::InKey)
+    } else {
+        State::Key.if_true(byte == b' ')
+    }
+}
+
+/// Returns the state after a byte of a key, or one that follows it.
+fn next_in_key(byte: u8, list: bool) -> Option<State>
+    ensures { result ≡ next_state list State.InKey byte }
+{
+    if is_key_byte(byte) {
+        Some(State::InKey)
+    } else if byte == b'=' {
+        Some(State::Value)
+    } else {
+        next_closed(byte, list)
+    }
+}
+
+/// Returns the state after the first byte of a parameter's value.
+fn next_value(byte: u8) -> Option<State>
+    ensures { result ≡ next_state true State.Value byte }
+{
+    if byte == b'"' {
+        Some(State::Quoted)
+    } else {
+        State::InValue.if_true(is_value_byte(byte))
+    }
+}
+
+/// Returns the state after a byte of a value that is no string, or one that follows it.
+fn next_in_value(byte: u8, list: bool) -> Option<State>
+    ensures { result ≡ next_state list State.InValue byte }
+{
+    if is_value_byte(byte) {
+        Some(State::InValue)
+    } else {
+        next_closed(byte, list)
+    }
+}
+
+/// Returns the state after a byte of a string of a parameter.
+fn next_quoted(byte: u8) -> Option<State>
+    ensures { result ≡ next_state true State.Quoted byte }
+{
+    if byte == b'"' {
+        Some(State::Closed)
+    } else if byte == b'\\' {
+        Some(State::QuotedEscape)
+    } else {
+        State::Quoted.if_true(is_string_byte(byte))
+    }
+}
+
+/// Returns whether a byte is a lower-case letter.
+fn is_lower(byte: u8) -> bool
+    ensures { result ≡ is_lower_byte byte }
+{
+    byte.is_ascii_lowercase()
+}
+
+/// Returns whether a byte may be in a key.
+fn is_key_byte(byte: u8) -> bool
+    ensures { result ≡ is_byte_of_key byte }
+{
+    is_lower(byte) || byte.is_ascii_digit() || is_key_mark(byte)
+}
+
+/// Returns whether a byte is one of these other than letters and digits.
+fn is_key_mark(byte: u8) -> bool
+    ensures { result ≡ list_any (λ mark. mark == byte) (codes "_-.*") }
+{
+    b"_-.*".contains(&byte)
+}
+
+/// Returns whether a byte may be in a value that is no string.
+fn is_value_byte(byte: u8) -> bool
+    ensures { result ≡ is_byte_of_value byte }
+{
+    is_key_byte(byte) || byte == b'=' || byte.is_ascii_uppercase() || is_value_mark(byte)
+}
+
+/// Returns whether a byte is one of these that are in no key.
+fn is_value_mark(byte: u8) -> bool
+    ensures { result ≡ list_any (λ mark. mark == byte) (codes "!#$%&'+^`|~:/?") }
+{
+    b"!#$%&'+^`|~:/?".contains(&byte)
+}
+
 /// Returns the state after a byte that follows a string.
 fn next_after(byte: u8, list: bool) -> Option<State>
-    ensures { result ≡ next_state list State.After byte }
+    ensures { result ≡ state_after list byte }
 {
     if byte == b' ' || (list && byte == b'\t') {
         Some(State::After)
@@ -122,7 +259,7 @@ fn keep(
                 current.push(byte)?;
             }
         }
-        State::Start | State::Before | State::After => {}
+        _ => {}
     }
     Ok(())
 }

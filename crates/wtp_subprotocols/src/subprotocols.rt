@@ -62,7 +62,8 @@ impl From<AllocError> for WriteError {
 
 /// Returns the subprotocols that a request offers in `wt-available-protocols`, in order: a list of
 /// strings (RFC 8941, section 3.1), whose lines are joined. Returns `None` if the request has no such
-/// field, or if the list is invalid, for example because a member is no string or has a parameter.
+/// field, or if the list is invalid, for example because a member is no string. Parameters of a string
+/// are ignored.
 ///
 /// # Errors
 ///
@@ -88,8 +89,8 @@ pub fn available_protocols(
 }
 
 /// Returns the subprotocol that a response chooses in `wt-protocol`: one string (RFC 8941, section
-/// 3.3.3). Returns `None` if the response has no such field or several, or if it is not one string
-/// without parameters.
+/// 3.3.3), whose parameters are ignored. Returns `None` if the response has no such field or several, or
+/// if it is invalid.
 ///
 /// # Errors
 ///

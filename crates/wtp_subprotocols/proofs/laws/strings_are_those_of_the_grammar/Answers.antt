@@ -1,4 +1,5 @@
-use Rattle.wtp_subprotocols.proofs.GrammarLemmas.{list_read, list_found, item_read, item_found}
+use Rattle.wtp_subprotocols.proofs.ReadLemmas.{list_read, item_read}
+use Rattle.wtp_subprotocols.proofs.GrammarLemmas.{list_found, item_found}
 use Rattle.wtp_subprotocols.proofs.laws.strings_are_those_of_the_grammar.Goals as goal
 
 pub returns-clause-list : goal.returns-clause-list
