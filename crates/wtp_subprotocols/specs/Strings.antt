@@ -38,7 +38,8 @@ is_key_byte byte =
 -- boolean (sections 3.3.1, 3.3.2 and 3.3.4 to 3.3.6), in any order.
 abbrev pub is_value_byte : ℕ → Bool
 is_value_byte byte =
-    is_key_byte byte || (byte == 61 || ((nat_lt 64 byte && nat_lt byte 91) || list_any (λ mark. mark == byte) (codes "!#$%&'+^`|~:/?")))
+    is_key_byte byte || (byte == 61
+    || ((nat_lt 64 byte && nat_lt byte 91) || list_any (λ mark. mark == byte) (codes "!#$%&'+^`|~:/?")))
 
 -- ---- the grammar
 

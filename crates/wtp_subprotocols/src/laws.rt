@@ -8,7 +8,8 @@ ghost use Rattle.wtp_subprotocols.specs.Strings.{is_string, written_list, writte
 /// sections 3.1, 3.3.3 and 4.2), with these values. The rows are worked examples.
 pub fn strings_are_those_of_the_grammar()
     ensures list { (text : List ℕ) (values : List (List ℕ)) → IsList text values → strings_of text ≡ Some values }
-    ensures no_other_list { (text : List ℕ) (values : List (List ℕ)) → strings_of text ≡ Some values → IsList text values }
+    ensures no_other_list { (text : List ℕ) (values : List (List ℕ)) → strings_of text ≡ Some values
+        → IsList text values }
     ensures item { (text value : List ℕ) → IsItem text value → string_of text ≡ Some value }
     ensures no_other_item { (text value : List ℕ) → string_of text ≡ Some value → IsItem text value }
     ensures two { strings_of (codes "\"moqt\" ,\t\"a \\\"b\\\\\"") ≡ Some (codes "moqt" ∷ codes "a \"b\\" ∷ []) }

@@ -2,7 +2,8 @@
 //! server chooses one of them in `wt-protocol` (later drafts of WebTransport over HTTP/3).
 //!
 //! A server that needs none of them leaves `wt-protocol` out.
-ghost use Rattle.std.specs.Prelude.{◌≡◌, ◌≢◌, [], ◌∷◌, ◌++◌, OnOk, map, codes, true, false, IfOk, OnErr, MatchResult, option_map};
+ghost use Rattle.std.specs.Prelude.{◌≡◌, ◌≢◌, [], ◌∷◌, ◌++◌, map, codes, true, false};
+ghost use Rattle.std.specs.Prelude.{OnOk, IfOk, OnErr, MatchResult, option_map};
 ghost use Rattle.std.specs.List.{list_all};
 ghost use Rattle.std.specs.Option.{option_copied};
 ghost use Rattle.wtp_fields.specs.FieldList.{values_of};
