@@ -5,7 +5,8 @@ ghost use Rattle.wtp_subprotocols.specs.Strings.{IsList, IsItem, strings_of, str
 ghost use Rattle.wtp_subprotocols.specs.Strings.{is_string, written_list, written_string};
 
 /// The texts of lists of strings, and of one string, that are read are those of the grammar (RFC 8941,
-/// sections 3.1, 3.3.3 and 4.2), with these values. The rows are worked examples.
+/// sections 3.1, 3.1.2, 3.3.3 and 4.2), with these values; of the value of a parameter that is no string
+/// only the bytes are checked. The rows are worked examples.
 pub fn strings_are_those_of_the_grammar()
     ensures list { (text : List ℕ) (values : List (List ℕ)) → IsList text values → strings_of text ≡ Some values }
     ensures no_other_list { (text : List ℕ) (values : List (List ℕ)) → strings_of text ≡ Some values

@@ -64,7 +64,7 @@ impl From<AllocError> for WriteError {
 /// Returns the subprotocols that a request offers in `wt-available-protocols`, in order: a list of
 /// strings (RFC 8941, section 3.1), whose lines are joined. Returns `None` if the request has no such
 /// field, or if the list is invalid, for example because a member is no string. Parameters of a string
-/// are ignored.
+/// are ignored; of a value in them that is no string only the bytes are checked.
 ///
 /// # Errors
 ///
@@ -90,8 +90,8 @@ pub fn available_protocols(
 }
 
 /// Returns the subprotocol that a response chooses in `wt-protocol`: one string (RFC 8941, section
-/// 3.3.3), whose parameters are ignored. Returns `None` if the response has no such field or several, or
-/// if it is invalid.
+/// 3.3.3), whose parameters are ignored, as in [`available_protocols`]. Returns `None` if the response has
+/// no such field or several, or if it is invalid.
 ///
 /// # Errors
 ///
@@ -133,7 +133,7 @@ pub fn check_protocol(chosen: Option<&[u8]>, offered: &[&[u8]]) -> Result<(), No
 }
 
 /// Writes the value of `wt-available-protocols` that offers these subprotocols. That of none is empty:
-/// leave the field out then (RFC 8941, section 4.1.1).
+/// leave the field out then (RFC 8941, section 4.1).
 ///
 /// # Errors
 ///
