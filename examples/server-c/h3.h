@@ -21,9 +21,9 @@ struct h3_stream {
   uint64_t content; /* the program's: how much of its content came */
   /* the rest is for h3.c */
   h3_stream *next;
-  uint8_t *bytes, *held; /* what was not consumed; of a capsule that is cut */
-  size_t length;
-  bool fin, is_session, writes, waits, ended;
+  wt_hold hold;
+  uint8_t *room, *held; /* what was not consumed; of a capsule that is cut */
+  bool is_session, writes, waits, ended;
 };
 
 struct h3_connection {
