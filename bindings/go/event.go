@@ -114,7 +114,9 @@ type (
 	// stream, and every session is lost.
 	EventConnectionError struct{ Code Code }
 
-	// EventReset says that the peer reset the stream before its last event.
+	// EventReset says that the peer reset the stream before its last event. For a stream of a session ResetOwn
+	// is false: what becomes of the own half is the application's to decide, and [Code.Application] says which
+	// of its codes QUIC's is.
 	EventReset struct {
 		// ResetOwn says that the own half, if there is one, is to be reset with Code.
 		ResetOwn bool
