@@ -8,6 +8,7 @@ use std::process::Abort;
 use wt_inspection::{Recorded, inspect};
 use wt_inspection_views::html::write_html;
 use wt_inspection_views::json_lines::write_json;
+use wt_inspection_views::plain::LINE_MARK;
 use wt_inspection_views::text::write_text;
 
 /// A recording that is shown.
@@ -72,6 +73,7 @@ fn text_in(bytes: &[u8]) -> &str {
 struct Row {
     case: &'static str,
     given: Given<'static>,
+    /// The text without the mark of each line.
     text: &'static str,
     /// The JSON, a line for each item.
     lines: &'static str,
@@ -114,7 +116,7 @@ static ROWS: [Row; 9] = [
             \"present\":2,\"hex\":\"6162\"}
 {\"at\":0,\"item\":\"end\",\"state\":\"cut\",\"of\":\"frame\",\"missing\":3}
 ",
-        part: "<pre>0     cut                frame, at least 3 bytes missing\n</pre></div>",
+        part: "<pre><span>0     cut                frame, at least 3 bytes missing\n</span></pre></div>",
     },
     Row {
         case: "a unidirectional stream and its payload",
@@ -151,7 +153,7 @@ static ROWS: [Row; 9] = [
             \"hex\":\"6563686f3a\"}
 {\"at\":6,\"item\":\"end\",\"state\":\"whole\"}
 ",
-        part: "datagram           session 0, quarter stream ID 0, 5 bytes\n<b></b></pre>",
+        part: "datagram           session 0, quarter stream ID 0, 5 bytes\n</span><b></b></pre>",
     },
     Row {
         case: "a session is closed",
@@ -193,7 +195,7 @@ static ROWS: [Row; 9] = [
 {\"at\":0,\"item\":\"end\",\"state\":\"fault\",\"code\":265,\"name\":\"SettingsError\",\"why\":\"a \
     setting must not be sent, or is repeated (RFC 9114, section 7.2.4)\"}
 ",
-        part: "<pre class=\"fault\">0     fault              SettingsError (0x109): ",
+        part: "<pre class=\"fault\"><span>0     fault              SettingsError (0x109): ",
     },
     Row {
         case: "a control stream",
@@ -214,7 +216,7 @@ static ROWS: [Row; 9] = [
 {\"at\":3,\"length\":3,\"item\":\"frame\",\"type\":\"GOAWAY\",\"number\":7,\"payload\":1}
 {\"at\":6,\"item\":\"end\",\"state\":\"whole\"}
 ",
-        part: "<pre tabindex=\"0\" data-item=\"2\">3     GOAWAY             1 byte\n<b></b></pre>",
+        part: "<pre tabindex=\"0\" data-item=\"2\"><span>3     GOAWAY             1 byte\n</span><b></b></pre>",
     },
     Row {
         case: "a section that needs the dynamic table",
@@ -273,10 +275,20 @@ fn has_part(page: &[u8], part: &[u8]) -> bool {
     page.windows(part.len().max(1)).any(|window| window == part)
 }
 
+/// Asserts that a text has these lines, each after the mark.
+fn check_marked<R: Abort>(rt: &R, text: &str, wanted: &str, case: &str) {
+    let mut lines = text.lines();
+    for words in wanted.lines() {
+        let line = lines.next().and_then(|line| line.strip_prefix("\u{258c} "));
+        assert_same(rt, line, Some(words), case);
+    }
+    assert_same(rt, lines.next(), None, case);
+}
+
 /// Asserts the display of a row.
 fn check_row<R: Abort>(rt: &R, alloc: Global, row: &Row) {
     let shown = show_again(alloc, row.given).expect(rt, "memory");
-    assert_same(rt, shown.text.as_str(), row.text, row.case);
+    check_marked(rt, shown.text.as_str(), row.text, row.case);
     assert_same(rt, text_in(shown.lines.as_slice()), row.lines, row.case);
     assert_same(
         rt,
@@ -304,7 +316,7 @@ struct ValueRow {
     value: &'static str,
 }
 
-static VALUES: [ValueRow; 10] = [
+static VALUES: [ValueRow; 15] = [
     ValueRow {
         section: b"\x00\x00\x21x\x03a\nb",
         text: "a\\x0ab",
@@ -354,6 +366,41 @@ static VALUES: [ValueRow; 10] = [
         value: "\0",
     },
     ValueRow {
+        // RIGHT-TO-LEFT OVERRIDE, U+202E
+        section: b"\x00\x00\x21x\x05a\xe2\x80\xaeb",
+        text: "a\\xe2\\x80\\xaeb",
+        key: "hex",
+        value: "61e280ae62",
+    },
+    ValueRow {
+        // ZERO WIDTH SPACE, U+200B
+        section: b"\x00\x00\x21x\x05a\xe2\x80\x8bb",
+        text: "a\\xe2\\x80\\x8bb",
+        key: "hex",
+        value: "61e2808b62",
+    },
+    ValueRow {
+        // TAG LATIN CAPITAL LETTER A, U+E0041
+        section: b"\x00\x00\x21x\x04\xf3\xa0\x81\x81",
+        text: "\\xf3\\xa0\\x81\\x81",
+        key: "hex",
+        value: "f3a08181",
+    },
+    ValueRow {
+        // the mark of lines, U+258C
+        section: b"\x00\x00\x21x\x05\xe2\x96\x8c 0",
+        text: "\\xe2\\x96\\x8c 0",
+        key: "fields",
+        value: "\u{258c} 0",
+    },
+    ValueRow {
+        // Hebrew, which is seen as it is after its name
+        section: b"\x00\x00\x21x\x04\xd7\xa9\xd7\x9c",
+        text: "\u{5e9}\u{5dc}",
+        key: "fields",
+        value: "\u{5e9}\u{5dc}",
+    },
+    ValueRow {
         section: b"\x00\x00\x21x\x03\"}]",
         text: "\"}]",
         key: "fields",
@@ -397,7 +444,8 @@ fn check_value<R: Abort>(rt: &R, alloc: Global, row: &ValueRow) {
     let line = shown.text.as_str().lines().nth(1).unwrap_or("");
     assert_same(
         rt,
-        line.strip_prefix("        x = "),
+        line.strip_prefix(LINE_MARK)
+            .and_then(|words| words.strip_prefix("        x = ")),
         Some(row.text),
         row.text,
     );
@@ -409,6 +457,22 @@ fn check_value<R: Abort>(rt: &R, alloc: Global, row: &ValueRow) {
 fn values_are_shown_as_text(rt: HostRuntime) {
     for row in &VALUES {
         check_value(&rt, rt.alloc(), row);
+    }
+}
+
+#[test]
+fn names_are_shown_in_ascii(rt: HostRuntime) {
+    // Names with a blank, and with a letter that is written from right to left (RFC 9204, section
+    // 4.5.6).
+    let sections: [(&[u8], &str); 2] = [
+        (b"\x00\x00\x25a = b\x01c", "a\\x20=\\x20b = c"),
+        (b"\x00\x00\x22\xd7\xa9\x02\xd7\x9c", "\\xd7\\xa9 = \u{5dc}"),
+    ];
+    for (section, words) in sections {
+        let shown = show_once(rt.alloc(), section_of(section)).expect(&rt, "memory");
+        let line = shown.text.as_str().lines().nth(1).unwrap_or("");
+        let came = line.strip_prefix(LINE_MARK).map(|line| line.trim_start());
+        assert_same(&rt, came, Some(words), words);
     }
 }
 
@@ -434,12 +498,15 @@ fn a_long_name_is_shown(rt: HostRuntime) {
     assert_same(
         &rt,
         line.len(),
-        LONG + 11,
-        "indented by 8, and followed by an equals sign",
+        LONG + 15,
+        "after a mark of 4 bytes, indented by 8, and followed by an equals sign",
     );
     assert_same(
         &rt,
-        line.trim_end_matches(" = ").trim_start().len(),
+        line.trim_end_matches(" = ")
+            .trim_start_matches(LINE_MARK)
+            .trim_start()
+            .len(),
         LONG,
         "the name",
     );

@@ -3,7 +3,7 @@ use Rattle.std.specs.Prelude.{◌≡◌, ℕ, Bool, List, length}
 use Rattle.wt_inspection.specs.Recording.{IsRecording}
 use Rattle.wt_inspection.specs.Results.{Inspection}
 use Rattle.wt_inspection.specs.Tiles.{Tiles}
-use Rattle.wt_inspection_views.specs.Escaped.{EndsLines, IsClean, line_count}
+use Rattle.wt_inspection_views.specs.Escaped.{AreLines, line_count}
 use Rattle.wt_inspection_views.specs.Html.{IsPage}
 use Rattle.wt_inspection_views.specs.JsonLines.{AreJsonLines, object_lines}
 use Rattle.wt_inspection_views.specs.TextLines.{inspection_lines}
@@ -15,7 +15,7 @@ use Rattle.wt_inspect.specs.declared.arguments.Output.TheVariants as output-is
 -- the output of an inspection of these bytes, in a format
 abbrev pub IsView : Output → Bool → List ℕ → Inspection → List ℕ → Type 0
 IsView output-is.Text payload bytes inspection text =
-    IsClean text × EndsLines text × (line_count text ≡ inspection_lines payload bytes inspection)
+    AreLines text × (line_count text ≡ inspection_lines payload bytes inspection)
 IsView output-is.Json payload bytes inspection text =
     AreJsonLines (object_lines inspection) text
 IsView output-is.Html payload bytes inspection text = IsPage text

@@ -25,6 +25,8 @@ markup_bytes markup-is.Head = HEAD.now
 markup_bytes markup-is.RowsOf = codes "<span tabindex=\"0\" data-item=\""
 markup_bytes markup-is.ItemOf = codes "<pre tabindex=\"0\" data-item=\""
 markup_bytes markup-is.TagEnd = codes "\">"
+markup_bytes markup-is.Line = codes "<span>"
+markup_bytes markup-is.LineEnd = codes "</span>"
 markup_bytes markup-is.RowsEnd = codes "</span>"
 markup_bytes markup-is.Items = codes "</pre><div class=\"items\">"
 markup_bytes markup-is.Warnings = codes "<b>"

@@ -16,7 +16,8 @@ use Rattle.wt_inspection_model.specs.declared.item.capsule.CloseReason.{CloseRea
 use Rattle.wt_inspection_model.specs.declared.item.fields.FieldSection.{FieldSection}
 use Rattle.wt_inspection_model.specs.declared.item.fields.Line.{Line}
 use Rattle.wt_inspection_model.specs.declared.item.fields.SectionFault.{SectionFault}
-use Rattle.wt_inspection_views.specs.Escaped.{IsShown}
+use Rattle.std.specs.List.{flat_map}
+use Rattle.wt_inspection_views.specs.Escaped.{IsShown, name_byte}
 use Rattle.wt_inspection_model.specs.declared.item.names.FrameName.{FrameName}
 use Rattle.wt_inspection_model.specs.declared.item.names.FrameName.TheVariants as name-is
 
@@ -95,12 +96,11 @@ inspection_lines payload bytes inspection =
     sum_by (item_lines payload bytes) inspection.items.items
     + length inspection.warnings.items + 1
 
--- the line of a field has the displayed forms of its name and its value
+-- the line of a field has its name in ASCII and without blanks, and the displayed form of its value
 abbrev pub IsFieldLine : Line → List ℕ → Type 0
 IsFieldLine field words =
-    (name : List ℕ) × (value : List ℕ)
-    × IsShown field.name.items name × IsShown field.value.items value
-    × (words ≡ codes "        " ++ name ++ codes " = " ++ value)
+    (value : List ℕ) × IsShown field.value.items value
+    × (words ≡ codes "        " ++ flat_map name_byte field.name.items ++ codes " = " ++ value)
 
 -- the line of the reason of a close has the displayed form of its text
 abbrev pub IsReasonLine : CloseReason → List ℕ → Type 0

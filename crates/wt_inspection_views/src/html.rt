@@ -59,9 +59,9 @@ fn add_item<'a>(
     let (here, later) = split_warnings(item, warnings);
     page.markup(Markup::ItemOf);
     page.index(index);
-    page.text(item_lines(page.alloc, item));
+    page.lines(item_lines(page.alloc, item));
     page.markup(Markup::Warnings);
-    page.text(warning_lines(page.alloc, here));
+    page.lines(warning_lines(page.alloc, here));
     page.markup(Markup::ItemEnd);
     later
 }
@@ -69,7 +69,7 @@ fn add_item<'a>(
 /// Adds the line of how bytes of this length end.
 fn add_end(page: &mut Page, end: End, length: usize) {
     page.markup(begin_end(end));
-    page.text(end_line(page.alloc, end, length));
+    page.lines(end_line(page.alloc, end, length));
 }
 
 /// Returns what begins the line of an end.

@@ -4,6 +4,7 @@ ghost use Rattle.wt_inspection_views.specs.Html.{BeginsPage, IsPage, html_byte, 
 ghost use Rattle.wt_inspection_views.specs.Html.{markup_bytes};
 
 use crate::latch::Latch;
+use crate::plain::LINE_MARK;
 use std::alloc::{AllocError, Global};
 use std::marker::Model;
 
@@ -16,11 +17,12 @@ pub(super) const HEAD: &str =
     ,monospace}body{margin:1rem}main{display:grid;grid-template-columns:max-content minmax(0,1fr);\
     gap:2rem}pre{margin:0;font:inherit}.bytes{max-height:94vh;overflow:auto;position:sticky;top:1r\
     em}.items pre{white-space:pre-wrap;overflow-wrap:anywhere;border-left:3px solid transparent;pa\
-    dding-left:.5rem}.on{background:light-dark(#ffe08a,#5c4a00)}.bytes>span{display:block}.items b\
-    {color:light-dark(#8a4b00,#ffb454)}.items .fault{color:light-dark(#b00020,#ff7b88);border-colo\
-    r:currentColor;font-weight:bold}@media print{.bytes{max-height:none;overflow:visible;position:\
-    static}}@media(max-width:60rem){main{grid-template-columns:minmax(0,1fr)}.bytes{position:stati\
-    c}}</style></head><body><main><pre class=\"bytes\">";
+    dding-left:.5rem}.items span{display:block;padding-left:16ch;text-indent:-16ch}.on{background:\
+    light-dark(#ffe08a,#5c4a00)}.bytes>span{display:block}.items b{color:light-dark(#8a4b00,#ffb45\
+    4)}.items .fault{color:light-dark(#b00020,#ff7b88);border-color:currentColor;font-weight:bold}\
+    @media print{.bytes{max-height:none;overflow:visible;position:static}}@media(max-width:60rem){\
+    main{grid-template-columns:minmax(0,1fr)}.bytes{position:static}}</style></head><body><main><p\
+    re class=\"bytes\">";
 
 /// The page after the line of its end, which `tools/html-page` makes. The script marks what has the
 /// same number as what is pointed at.
@@ -45,6 +47,10 @@ pub(super) enum Markup {
     ItemOf,
     /// Follows an index.
     TagEnd,
+    /// Begins a line of an item.
+    Line,
+    /// Ends a line of an item.
+    LineEnd,
     /// Ends the rows of an item.
     RowsEnd,
     /// Ends the rows of bytes, and begins the items.
@@ -71,6 +77,8 @@ impl Markup {
             Markup::RowsOf => "<span tabindex=\"0\" data-item=\"",
             Markup::ItemOf => "<pre tabindex=\"0\" data-item=\"",
             Markup::TagEnd => "\">",
+            Markup::Line => "<span>",
+            Markup::LineEnd => "</span>",
             Markup::RowsEnd => "</span>",
             Markup::Items => "</pre><div class=\"items\">",
             Markup::Warnings => "<b>",
@@ -147,6 +155,27 @@ impl Page {
     {
         let escaped = escape_html(self.alloc, text.as_bytes())?;
         self.out.extend_from_slice(escaped.as_slice())
+    }
+
+    /// Adds the lines of a text for which memory was allocated. Each is an element of its own,
+    /// without its mark.
+    pub(super) fn lines(&mut self, text: Result<String, AllocError>) {
+        match text {
+            Ok(text) => {
+                for line in text.as_str().lines() {
+                    self.line(line.strip_prefix(LINE_MARK).unwrap_or(line));
+                }
+            }
+            Err(_) => self.is_whole.mark_failed(),
+        }
+    }
+
+    /// Adds a line.
+    fn line(&mut self, line: &str) {
+        let alloc = self.alloc;
+        self.markup(Markup::Line);
+        self.text(format!(in alloc; "{line}\n"));
+        self.markup(Markup::LineEnd);
     }
 
     /// Adds an index in an attribute, and ends its tag.

@@ -8,7 +8,7 @@ ghost use Rattle.wt_inspection_views.specs.TextLines.{hex_lines, stop_lines};
 ghost use Rattle.wt_inspection_views.specs.TextLines.{IsFieldLine, IsReasonLine};
 
 use super::lines::Lines;
-use crate::escaped::{add_escaped, add_hex_byte};
+use crate::escaped::{add_escaped, add_hex_byte, add_name};
 use std::alloc::{AllocError, Global};
 use wt_inspection_model::item::{
     CapsuleItem, CloseReason, FieldSection, Line, SectionFault, SettingIssue, SettingLine, Warning,
@@ -62,12 +62,12 @@ fn add_fault(text: &mut Lines, fault: SectionFault, insert_count: Option<u64>)
     }
 }
 
-/// Returns the line of a field: the displayed forms of its name and of its value.
+/// Returns the line of a field: its name in ASCII, and the displayed form of its value.
 fn words_of_field(alloc: Global, field: &Line) -> Result<String, AllocError>
     ensures { IfOk result (λ words. IsFieldLine field.now (string_bytes words)) }
 {
     let mut words = String::from_str(alloc, "        ")?;
-    add_escaped(&mut words, field.name.as_slice())?;
+    add_name(&mut words, field.name.as_slice())?;
     words.push_str(" = ")?;
     add_escaped(&mut words, field.value.as_slice())?;
     Ok(words)
