@@ -146,7 +146,7 @@
 //!
 //! # Memory and safety
 //!
-//! All unsafe code is in `src/sys.rs` and `src/sys/connections.rs`. A [`Connection`] has no table and no queue. It keeps memory
+//! All unsafe code is in `src/sys.rs`. A [`Connection`] has no table and no queue. It keeps memory
 //! for one field section, a datagram and a reason, within its [`Limits`], and a [`Stream`] that of a capsule
 //! that is cut: at most 1,028 bytes, or [`Limits::max_datagram`] if that is more. How many bytes of a stream
 //! wait is the caller's own limit ([`Connection::overflow`], [`PushedStream::new`]).
