@@ -5,6 +5,8 @@
 #[cfg(test)]
 mod inspections;
 #[cfg(test)]
+mod rules;
+#[cfg(test)]
 mod same;
 #[cfg(test)]
 mod shown;

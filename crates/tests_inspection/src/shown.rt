@@ -186,16 +186,16 @@ static ROWS: [Row; 9] = [
         text: "0     settings           4 bytes
         SETTINGS_H3_DATAGRAM (0x33) = 1
         HTTP/2 setting (0x2) = 0, which must not be sent (RFC 9114, section 7.2.4.1)
-0     fault              SettingsError (0x109): a setting must not be sent, or is repeated \
+0     fault              H3_SETTINGS_ERROR (0x109): a setting must not be sent, or is repeated \
 (RFC 9114, section 7.2.4)
 ",
         lines: "{\"at\":0,\"length\":4,\"item\":\"settings\",\"settings\":[{\"id\":51,\
             \"name\":\"SETTINGS_H3_DATAGRAM\",\"value\":1},{\"id\":2,\"name\":\"HTTP/2 setting\",\
-            \"value\":0,\"fault\":\"reserved\"}]}
-{\"at\":0,\"item\":\"end\",\"state\":\"fault\",\"code\":265,\"name\":\"SettingsError\",\"why\":\"a \
+            \"value\":0,\"fault\":\"http2\"}]}
+{\"at\":0,\"item\":\"end\",\"state\":\"fault\",\"code\":265,\"name\":\"H3_SETTINGS_ERROR\",\"why\":\"a \
     setting must not be sent, or is repeated (RFC 9114, section 7.2.4)\"}
 ",
-        part: "<pre class=\"fault\"><span>0     fault              SettingsError (0x109): ",
+        part: "<pre class=\"fault\"><span>0     fault              H3_SETTINGS_ERROR (0x109): ",
     },
     Row {
         case: "a control stream",
@@ -247,12 +247,12 @@ static ROWS: [Row; 9] = [
         },
         text: "0     fields             9 bytes
         x = <\\x0a\"\\xff
-        warning: field 1: a field value has a NUL, CR or LF (RFC 9114, section 10.3)
+        warning: field 1: H3_MESSAGE_ERROR: a field value has a control character (RFC 9114, section 10.3)
 9     end
 ",
         lines: "{\"at\":0,\"length\":9,\"item\":\"section\",\"fields\":[[\"x\",{\"hex\":\"3c0a22ff\"}]]}
-{\"at\":0,\"item\":\"warning\",\"line\":0,\"why\":\"a field value has a NUL, CR or LF (RFC 9114, section \
-    10.3)\"}
+{\"at\":0,\"item\":\"warning\",\"line\":1,\"code\":270,\"name\":\"H3_MESSAGE_ERROR\",\"why\":\"a field \
+    value has a control character (RFC 9114, section 10.3)\"}
 {\"at\":9,\"item\":\"end\",\"state\":\"whole\"}
 ",
         part: "        x = &lt;\\x0a&quot;\\xff\n",

@@ -28,4 +28,4 @@ pub record Shows (arguments : Arguments) (bytes : List ℕ) (text : List ℕ) (s
   pub read :
       IsRecording arguments.recorded arguments.is_open bytes inspection.items.items inspection.end
   pub view : IsView arguments.output arguments.has_payload bytes inspection text
-  pub ends : status ≡ end_status inspection.end
+  pub ends : status ≡ end_status arguments.is_strict inspection.end inspection.warnings.items

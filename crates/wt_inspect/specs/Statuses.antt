@@ -1,6 +1,7 @@
 -- The exit statuses of the program.
-use Rattle.std.specs.Prelude.{ℕ, if◌then◌else◌}
-use Rattle.wt_inspection.specs.Results.{End, has_fault}
+use Rattle.std.specs.Prelude.{ℕ, ◌&&◌, ◌||◌, Bool, not, List, if◌then◌else◌}
+use Rattle.std.specs.List.{list_any}
+use Rattle.wt_inspection.specs.Results.{End, Warning, has_fault, is_hint}
 use Rattle.wt_inspect.specs.declared.failure.Failure.{Failure}
 use Rattle.wt_inspect.specs.declared.failure.Failure.TheVariants as failure-is
 
@@ -10,6 +11,12 @@ failure_status failure-is.Arguments = 1
 failure_status failure-is.Memory = 4
 failure_status other = 3
 
--- of an inspection that ends in this way
-abbrev pub end_status : End → ℕ
-end_status end = if has_fault end then 2 else 0
+-- a rule is broken, and it is not a hint
+abbrev pub is_breach : Warning → Bool
+is_breach warning = not (is_hint warning.rule)
+
+-- of an inspection that ends in this way with these warnings: 2 for a fault, and for a warning if
+-- the flag is set
+abbrev pub end_status : Bool → End → List Warning → ℕ
+end_status strict end warnings =
+    if has_fault end || (strict && list_any is_breach warnings) then 2 else 0

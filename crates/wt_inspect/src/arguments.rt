@@ -15,6 +15,7 @@ const MORE: &str = "\
 KIND says what the bytes are, from the first one on, in one direction of one stream:
   bi        a bidirectional stream, by the end that opened it: a request, or a WebTransport stream
   response  the other direction of a request: a response
+  session-response  the response to a request for a session, and capsules in its DATA frames
   uni       a unidirectional stream: control, QPACK encoder or decoder, WebTransport, push
   datagram  the payload of one QUIC datagram
   capsules  the content of the DATA frames of a session
@@ -23,8 +24,9 @@ KIND says what the bytes are, from the first one on, in one direction of one str
 The other direction of a WebTransport stream is the application's bytes alone, so it has no KIND.
 
 What is written: a line for each item, with its place in bytes, what it is, and mostly its size;
-below it, indented, the field lines, settings or capsules that it contains. A line 'warning' below
-an item says what a standard forbids, though reading went on. The last line says how the bytes end:
+below it, indented, the field lines, settings, capsules or numbers that it contains. A line
+'warning' below an item says what a standard forbids, though reading went on, and with which error
+code; 'hint' says that the bytes may be of another KIND. The last line says how the bytes end:
 'end', 'cut' within an item, or 'fault' with the error code and why; bytes after the item with the
 fault are 'not read'.
 A 'reserved' setting, frame or stream is one that peers send to be ignored; an 'unknown' one has no
@@ -33,18 +35,28 @@ name here.
 To find a wrong setting in a recorded control stream, such as control.bin:
   wt_inspect uni --open control.bin
 The settings are below the frame SETTINGS, each with its name, identifier and value. One that must
-not be sent, or is there twice, says so in its line. The last line says 'fault', unless an unknown
-one is there twice. Values are not judged.
+not be sent, is there twice, or has a value that is not allowed says so in its line, and in a
+'warning' or in the last line, which then says 'fault'.
+
+To find out why a session closed, in its recorded response, such as response.bin:
+  wt_inspect session-response --open response.bin
 
 The same, with the bytes as text:
   echo 00 04 04 33 01 33 01 | wt_inspect uni --open --hex
 
-Exit status: 0 the bytes were shown, 1 wrong arguments, 2 the bytes have a fault, 3 input or output
-failed, 4 out of memory.";
+Exit status: 0 the bytes were shown, 1 wrong arguments, 2 the bytes have a fault (with --strict, or
+a warning), 3 input or output failed, 4 out of memory.";
 
 /// The names of the kinds of recordings.
-static KINDS: [&str; 7] = [
-    "bi", "response", "uni", "datagram", "capsules", "section", "settings",
+static KINDS: [&str; 8] = [
+    "bi",
+    "response",
+    "session-response",
+    "uni",
+    "datagram",
+    "capsules",
+    "section",
+    "settings",
 ];
 
 /// The format of the output.
@@ -71,6 +83,8 @@ pub struct Arguments<'a> {
     pub is_open: bool,
     /// Whether payload bytes are shown.
     pub has_payload: bool,
+    /// Whether a warning counts as a fault.
+    pub is_strict: bool,
     /// The file to read, or `None` for standard input.
     pub file: Option<&'a str>,
 }
@@ -120,7 +134,8 @@ pub fn command<'a>(alloc: Global) -> Result<Command<'a>, Error> {
             alloc,
             "payload",
             "In text and JSON, show the bytes of payloads too",
-        ))?;
+        ))?
+        .arg(flag(alloc, "strict", "The exit status is 2 for a warning too"))?;
     Ok(command)
 }
 
@@ -134,6 +149,7 @@ pub fn read_arguments<'a>(matches: &ArgMatches<'a>) -> Arguments<'a>
     ensures is_hex { IsFlag (found_of matches.now) (codes "hex") result.is_hex }
     ensures is_open { IsFlag (found_of matches.now) (codes "open") result.is_open }
     ensures has_payload { IsFlag (found_of matches.now) (codes "payload") result.has_payload }
+    ensures is_strict { IsFlag (found_of matches.now) (codes "strict") result.is_strict }
     ensures file { option_map (λ path. path.now) result.file
         ≡ first_value (found_of matches.now) (codes "file") }
 {
@@ -143,6 +159,7 @@ pub fn read_arguments<'a>(matches: &ArgMatches<'a>) -> Arguments<'a>
         is_hex: matches.get_flag("hex"),
         is_open: matches.get_flag("open"),
         has_payload: matches.get_flag("payload"),
+        is_strict: matches.get_flag("strict"),
         file: matches.get_str("file"),
     }
 }
@@ -153,6 +170,7 @@ fn recorded_of(name: Option<&str>) -> Recorded
 {
     match name {
         Some("response") => Recorded::Response,
+        Some("session-response") => Recorded::SessionResponse,
         Some("uni") => Recorded::Uni,
         Some("datagram") => Recorded::Datagram,
         Some("capsules") => Recorded::Capsules,

@@ -3,7 +3,9 @@
 
 ghost use Rattle.std.specs.Prelude.{◌≡◌, ◌≤◌, ◌⊎◌, IfErr, IfOk};
 ghost use Rattle.wt_inspect.specs.Shown.{IsView, Shows};
-ghost use Rattle.wt_inspect.specs.Statuses.{end_status};
+ghost use Rattle.std.specs.List.{list_any};
+ghost use Rattle.wt_inspect.specs.Statuses.{end_status, is_breach};
+ghost use Rattle.wt_inspection.specs.Results.{has_fault};
 
 mod arguments;
 mod failure;
@@ -16,6 +18,7 @@ use std::alloc::{AllocError, Global};
 use std::io::{self, Write};
 use std::process::ExitCode;
 use std::{env, fs};
+use wt_inspection::item::Warning;
 use wt_inspection::{End, Inspection, inspect};
 use wt_inspection_views::html::write_html;
 use wt_inspection_views::json_lines::write_json;
@@ -109,7 +112,8 @@ fn show(alloc: Global, arguments: &Arguments<'_>, bytes: &[u8]) -> Result<(Vec<u
 {
     let inspection = inspect(alloc, arguments.recorded, bytes, arguments.is_open)?;
     let text = write_inspection(alloc, arguments, &inspection, bytes)?;
-    Ok((text, status_of(inspection.end)))
+    let status = status_of(arguments.is_strict, &inspection);
+    Ok((text, status))
 }
 
 /// Formats an inspection of these bytes.
@@ -132,12 +136,38 @@ fn write_inspection(
     }
 }
 
-/// Returns the exit status of an inspection with this end: 0, or 2 for an error.
-fn status_of(end: End) -> u8
-    ensures { result ≡ end_status end }
+/// Returns the exit status of an inspection: 2 for a fault, or for a warning if `is_strict`, and
+/// otherwise 0.
+fn status_of(is_strict: bool, inspection: &Inspection) -> u8
+    ensures { result ≡ end_status «is_strict» inspection.now.end inspection.now.warnings.items }
+{
+    if has_fault(inspection.end) || (is_strict && has_breach(inspection.warnings.as_slice())) {
+        2
+    } else {
+        0
+    }
+}
+
+/// Returns whether the input has a fault.
+fn has_fault(end: End) -> bool
+    ensures { result ≡ has_fault end }
 {
     match end {
-        End::Fault(_) => 2,
-        End::Complete | End::Cut(_) => 0,
+        End::Fault(_) => true,
+        End::Complete | End::Cut(_) => false,
     }
+}
+
+/// Returns whether a rule is broken.
+fn has_breach(warnings: &[Warning]) -> bool
+    ensures { result ≡ list_any is_breach warnings.now }
+{
+    warnings.iter().any(|warning| is_breach(warning))
+}
+
+/// Returns whether a warning is one, and no hint.
+fn is_breach(warning: &Warning) -> bool
+    ensures { result ≡ is_breach warning.now }
+{
+    !warning.rule.is_hint()
 }

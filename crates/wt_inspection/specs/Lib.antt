@@ -5,6 +5,8 @@ pub mod Tiles
 pub mod CapsuleNames
 pub mod DataCapsules
 pub mod SessionSections
+pub mod Stops
+pub mod UniHeads
 pub mod Recording
 pub mod Walks
 pub mod Warnings

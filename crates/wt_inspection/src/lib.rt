@@ -11,6 +11,7 @@ mod fields;
 mod frames;
 pub mod laws;
 mod message;
+mod past;
 mod reading;
 mod recording;
 mod settings;

@@ -1,7 +1,7 @@
 //! The items of a recording.
 ghost use Rattle.std.specs.Prelude.{◌≡◌, ◌+◌, ◌^◌, ◌≤◌, ◌<◌, ◌==◌, IfOk, Ok, codes, length};
 ghost use Rattle.wt_inspection.specs.Recording.{EndsInspection, IsCutAt, IsNext, IsRecording};
-ghost use Rattle.wt_inspection.specs.Recording.{IsSessionHead};
+ghost use Rattle.wt_inspection.specs.Recording.{IsPushHead, IsSessionHead, is_push};
 ghost use Rattle.wt_inspection.specs.Recording.{IsStep, Moves, after_head, has_session};
 ghost use Rattle.wt_inspection.specs.DataCapsules.{Stage};
 ghost use Rattle.wt_inspection.specs.Tiles.{Tiles};
@@ -13,12 +13,14 @@ use crate::fields::{read_section, section_then};
 use crate::frames::next_frame;
 use crate::message::warn_of_section;
 use crate::reading::{
-    Next, Reading, Recorded, Step, Then, cut, end_at, end_of_nothing, fault, start_of,
+    Next, Reading, Recorded, Step, Then, cut, end_after, end_at, end_of_nothing, fault, start_of,
 };
-use crate::settings::{read_settings, settings_then};
+use crate::settings::{read_settings, settings_then, warn_of_settings};
 use crate::tiling::Tiling;
 use std::alloc::{AllocError, Global};
-use wt_inspection_model::item::{Content, DatagramHead, End, Inspection, StreamHead, StreamName};
+use wt_inspection_model::item::{
+    Content, DatagramHead, End, Inspection, Rule, StreamHead, StreamName,
+};
 use wtp_core::bytes::get::varint_len_needed;
 use wtp_core::error::ErrorCode;
 use wtp_core::ids::SessionId;
@@ -35,15 +37,16 @@ use wtp_wire::stream_header::StreamKind;
 /// Each is what the bytes at its place are after the items before it. The bytes after the item with
 /// the first fault, and too few bytes for the head of an item, are one item that is not read. The
 /// end is then that fault, or where the bytes are cut: [`End::Cut`], unless `kind` is
-/// [`Recorded::Bi`] or [`Recorded::Response`] and they are not `open`. A stream may not end within
-/// a frame, so that is the fault [`ErrorCode::Frame`] (RFC 9114, section 7.1). DATA frames that end
-/// within a capsule are cut in that capsule, whether `open` or not.
+/// that of a stream and they are not `open`. A stream may not end within a frame, so that is the fault
+/// [`ErrorCode::Frame`] (RFC 9114, section 7.1), nor its DATA frames within a capsule, which is the
+/// fault [`ErrorCode::Message`] (RFC 9297, section 3.3).
 ///
 /// DATA frames contain capsules if the first header section, or the first that is not of an interim
-/// response, is that of a session: a request with `:protocol` (RFC 8441, section 4; RFC 9220,
-/// section 3), or a response with `capsule-protocol`, `sec-webtransport-http3-draft` or
-/// `wt-protocol`. A CONNECT whose lines end early counts as a request with `:protocol`. Other DATA
-/// frames are not read.
+/// response, is that of a session: a request whose `:protocol` is one of WebTransport, `connect-udp`
+/// or `connect-ip`, or any with a true `capsule-protocol`; or a response with the status 2xx and a
+/// true `capsule-protocol`, `sec-webtransport-http3-draft` or `wt-protocol`. A CONNECT whose lines
+/// end before `:protocol` counts as the request of a session. With [`Recorded::SessionResponse`] each
+/// response that accepts is one. Other DATA frames are not read.
 ///
 /// Returns [`AllocError`] if allocation fails.
 pub fn inspect(
@@ -71,7 +74,11 @@ pub fn inspect(
         tiling.push(length, content)?;
         state = after;
     }
+    let is_read = state.is_ok();
     let end = end_of(&reading, kind, open, state, bytes);
+    if !open && is_read {
+        reading.warn_at_end(bytes.len())?;
+    }
     Ok(Inspection {
         items: tiling.into_items(),
         warnings: reading.warnings,
@@ -90,7 +97,7 @@ fn end_of(reading: &Reading, kind: Recorded, open: bool, state: Then, bytes: &[u
             if bytes.is_empty() {
                 end_of_nothing(kind)
             } else {
-                reading.finish()
+                end_after(kind, open, reading.finish())
             }
         }
     }
@@ -123,7 +130,7 @@ fn next_item(reading: &mut Reading, next: Next, at: usize, rest: &[u8]) -> Resul
         (Moves (Ok next) at rest.now s.content s.after) s.after) }
 {
     match next {
-        Next::Head => Ok(head_step(at, rest)),
+        Next::Head => head_item(reading, at, rest),
         Next::Frames(role, first) => next_frame(reading, role, first, at, rest),
         Next::Payload => Ok(Step::go_on(rest.len(), Content::Payload, Next::Payload)),
         Next::Capsules => next_capsule(reading, at, rest),
@@ -131,6 +138,56 @@ fn next_item(reading: &mut Reading, next: Next, at: usize, rest: &[u8]) -> Resul
         Next::Section => section_step(reading, at, rest),
         Next::Settings => settings_step(reading, at, rest),
     }
+}
+
+/// Returns the head of a unidirectional stream, and notes its type.
+fn head_item(reading: &mut Reading, at: usize, rest: &[u8]) -> Result<Step, AllocError>
+    requires { 0 < length rest.now }
+    ensures within { IfOk result (λ s. s.length ≤ length rest.now) }
+    ensures some { IfOk result (λ s. 0 < s.length) }
+    ensures read { IfOk result (λ s. IsNext Next.Head at rest.now s.length s.content s.after) }
+    ensures phase { IfOk result (λ _. reading.new.phase ≡ reading.old.phase) }
+{
+    note_head(reading, at, rest)?;
+    Ok(head_step(at, rest))
+}
+
+/// Notes the type of a unidirectional stream. Hints that the bytes may be those of a bidirectional
+/// one: the first byte of HEADERS is that of a push stream too.
+fn note_head(reading: &mut Reading, at: usize, rest: &[u8]) -> Result<(), AllocError>
+    ensures { IfOk result (λ _. reading.new.phase ≡ reading.old.phase) }
+{
+    let Some((number, _)) = first_varint(rest) else {
+        return Ok(());
+    };
+    reading.past.stream = StreamKind::parse(number);
+    let hint = if StreamName::of(number) == StreamName::Push
+        && reads_as_headers(reading.alloc, rest)?
+    {
+        Some(Rule::LikeMessage)
+    } else {
+        None
+    };
+    reading.warn(at, hint)
+}
+
+/// Returns whether the first frame of these bytes is complete, and a field section that begins with
+/// a pseudo-header field.
+fn reads_as_headers(alloc: Global, bytes: &[u8]) -> Result<bool, AllocError> {
+    let Some(pair) = first_pair(bytes) else {
+        return Ok(false);
+    };
+    let (_, rest) = bytes.split_at(pair.size);
+    let announced = pair.second.into_inner();
+    if announced > rest.len() as u64 {
+        return Ok(false);
+    }
+    let (payload, _) = rest.split_at(announced as usize);
+    let section = read_section(alloc, payload)?;
+    Ok(match section.lines.first() {
+        Some(line) => line.name.first() == Some(&b':'),
+        None => false,
+    })
 }
 
 /// Returns the head of a unidirectional stream (RFC 9114, section 6.2).
@@ -148,10 +205,14 @@ fn head_step(at: usize, rest: &[u8]) -> Step
     if has_session(number) {
         return session_head(at, rest);
     }
+    if is_push(number) {
+        return push_head(at, rest);
+    }
     let head = StreamHead {
         number: number.into_inner(),
         name: StreamName::of(number),
         session: None,
+        push: None,
     };
     Step::go_on(size, Content::Stream(head), after_head(number))
 }
@@ -184,6 +245,37 @@ fn after_head(number: VarInt) -> Next
     }
 }
 
+/// Returns whether a push ID follows the type of a unidirectional stream.
+fn is_push(number: VarInt) -> bool
+    ensures { result ≡ is_push number }
+{
+    number.into_inner() == 1
+}
+
+/// Returns the head of a push stream, after which a response follows (RFC 9114, section 4.6).
+fn push_head(at: usize, rest: &[u8]) -> Step
+    requires nonempty { 0 < length rest.now }
+    ensures within { result.length ≤ length rest.now }
+    ensures some { 0 < result.length }
+    ensures read { IsPushHead at rest.now result.length result.content result.after }
+{
+    let Some(pair) = first_pair(rest) else {
+        return Step::last(
+            rest.len(),
+            Content::Unread,
+            cut_head(at, missing_bytes(rest)),
+        );
+    };
+    let head = StreamHead {
+        number: pair.first.into_inner(),
+        name: StreamName::of(pair.first),
+        session: None,
+        push: Some(pair.second.into_inner()),
+    };
+    let next = Next::Frames(StreamRole::BiLocal, true);
+    Step::go_on(pair.size, Content::Stream(head), next)
+}
+
 /// Returns the head of a WebTransport stream (draft-ietf-webtrans-http3-02, section 4.1).
 #[tactic(auto, using(crate::proofs::RecordingLemmas::no_session_cut, crate::proofs::RecordingLemmas::no_session_id))]
 fn session_head(at: usize, rest: &[u8]) -> Step
@@ -207,6 +299,7 @@ fn session_head(at: usize, rest: &[u8]) -> Step
         number: pair.first.into_inner(),
         name: StreamName::of(pair.first),
         session: Some(session.into_u64()),
+        push: None,
     };
     Step::go_on(pair.size, Content::Stream(head), Next::Payload)
 }
@@ -257,12 +350,16 @@ fn section_step(reading: &mut Reading, at: usize, rest: &[u8]) -> Result<Step, A
 }
 
 /// Returns the only item of settings.
-fn settings_step(reading: &Reading, at: usize, rest: &[u8]) -> Result<Step, AllocError>
+fn settings_step(reading: &mut Reading, at: usize, rest: &[u8]) -> Result<Step, AllocError>
     ensures length { IfOk result (λ s. s.length ≡ length rest.now) }
     ensures read { IfOk result (λ s. IsNext Next.Settings at rest.now s.length s.content s.after) }
+    ensures phase { IfOk result (λ _. reading.new.phase ≡ reading.old.phase) }
 {
     let settings = read_settings(reading.alloc, rest)?;
     let after = settings_then(at, reading.alloc, rest, Next::Settings)?;
+    if after.is_ok() {
+        warn_of_settings(reading, at, settings.as_slice())?;
+    }
     Ok(Step {
         length: rest.len(),
         content: Content::Settings(settings),

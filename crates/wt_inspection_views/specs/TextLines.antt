@@ -11,6 +11,8 @@ use Rattle.wt_inspection_model.specs.declared.item.Inspection.{Inspection}
 use Rattle.wt_inspection_model.specs.declared.item.Item.{Item}
 use Rattle.wt_inspection_model.specs.declared.item.Parts.{Parts}
 use Rattle.wt_inspection_model.specs.declared.item.Parts.TheVariants as parts-is
+use Rattle.wt_inspection_model.specs.declared.item.Signal.{Signal}
+use Rattle.wt_inspection_model.specs.declared.item.Signal.TheVariants as signal-is
 use Rattle.wt_inspection_model.specs.declared.item.capsule.CapsuleItem.{CapsuleItem}
 use Rattle.wt_inspection_model.specs.declared.item.capsule.CloseReason.{CloseReason}
 use Rattle.wt_inspection_model.specs.declared.item.fields.FieldSection.{FieldSection}
@@ -39,12 +41,19 @@ close_lines (Some close) = 2
 abbrev pub capsule_lines : CapsuleItem → ℕ
 capsule_lines capsule = 1 + close_lines capsule.close
 
+-- the number of lines for what a frame says of requests and pushes
+abbrev pub signal_lines : Signal → ℕ
+signal_lines (signal-is.Id id) = 1
+signal_lines (signal-is.Priority id value) = 2
+signal_lines (signal-is.Promise id section) = 1 + field_lines section
+
 -- the number of lines for the contents of a frame payload
 abbrev pub parts_lines : Parts → ℕ
 parts_lines parts-is.Opaque = 0
 parts_lines (parts-is.Fields section) = field_lines section
 parts_lines (parts-is.Settings settings) = length settings.items
 parts_lines (parts-is.Capsules capsules) = sum_by capsule_lines capsules.items
+parts_lines (parts-is.Signal signal) = signal_lines signal
 
 -- the number of lines for an item without its payload bytes
 abbrev pub content_lines : Content → ℕ
@@ -101,6 +110,11 @@ abbrev pub IsFieldLine : Line → List ℕ → Type 0
 IsFieldLine field words =
     (value : List ℕ) × IsShown field.value.items value
     × (words ≡ codes "        " ++ flat_map name_byte field.name.items ++ codes " = " ++ value)
+
+-- the line of a priority has its displayed form
+abbrev pub IsPriorityLine : List ℕ → List ℕ → Type 0
+IsPriorityLine value words =
+    (shown : List ℕ) × IsShown value shown × (words ≡ codes "        priority = " ++ shown)
 
 -- the line of the reason of a close has the displayed form of its text
 abbrev pub IsReasonLine : CloseReason → List ℕ → Type 0

@@ -12,12 +12,15 @@ pub(crate) mod parts;
 
 use crate::{bytes_of, split_warnings};
 use lines::Lines;
-use parts::{add_capsule, add_fields, add_hex, add_settings, add_warnings, count_bytes};
+use parts::{
+    add_capsule, add_fields, add_hex, add_settings, add_signal, add_warnings, count_bytes,
+};
 use std::alloc::{AllocError, Global};
 use wt_inspection_model::item::{
     CapsuleItem, Content, Cut, DatagramHead, End, Fault, FieldSection, FrameItem, FrameName,
     Inspection, Item, Parts, StreamHead, Warning,
 };
+use wtp_core::error::Code;
 use wtp_wire::frame::FrameKind;
 
 /// Formats an inspection of `bytes` as text.
@@ -155,9 +158,10 @@ fn add_item(text: &mut Lines, item: &Item)
 fn words_of_stream(alloc: Global, head: StreamHead) -> Result<String, AllocError> {
     let name = head.name.as_str();
     let number = head.number;
-    match head.session {
-        Some(id) => format!(in alloc; "{name}, type {number:#x}, session {id}"),
-        None => format!(in alloc; "{name}, type {number:#x}"),
+    match (head.session, head.push) {
+        (Some(id), _) => format!(in alloc; "{name}, type {number:#x}, session {id}"),
+        (None, Some(id)) => format!(in alloc; "{name}, type {number:#x}, push {id}"),
+        (None, None) => format!(in alloc; "{name}, type {number:#x}"),
     }
 }
 
@@ -249,6 +253,7 @@ fn add_parts(text: &mut Lines, parts: &Parts)
         Parts::Fields(section) => add_fields(text, section),
         Parts::Settings(settings) => add_settings(text, settings.as_slice()),
         Parts::Capsules(capsules) => add_capsules(text, capsules.as_slice()),
+        Parts::Signal(signal) => add_signal(text, signal),
     }
 }
 
@@ -316,7 +321,8 @@ fn words_of_cut(alloc: Global, cut: Cut) -> Result<String, AllocError> {
 
 /// Returns the details of an error.
 fn words_of_fault(alloc: Global, fault: Fault) -> Result<String, AllocError> {
-    let Fault { code, why, .. } = fault;
-    let number = code.to_code().into_inner();
+    let code = Code::from(fault.code);
+    let number = fault.code.to_code().into_inner();
+    let why = fault.why;
     format!(in alloc; "{code} ({number:#x}): {why}")
 }

@@ -6,5 +6,5 @@ returns-clause-shows c = record {
   tiles = c.in_ok-inspection.ensures.tiles;
   read = c.in_ok-inspection.ensures.read;
   view = c.in_ok-text.ensures;
-  ends = c.status_of.ensures;
+  ends = c.status_of-status.ensures;
 }

@@ -15,6 +15,9 @@ use std::alloc::{AllocError, Global};
 /// The initial capacity of an object, in bytes.
 const INITIAL_CAPACITY: usize = 256;
 
+/// The largest number that each reader of JSON has exactly: 2^53 - 1 (RFC 8259, section 6).
+const LARGEST_NUMBER: u64 = 0x1f_ffff_ffff_ffff;
+
 /// Lines of JSON. A failed allocation is recorded, and [`into_bytes`](Lines::into_bytes) reports
 /// it, so [`add`](Lines::add) returns nothing.
 #[derive(Drop)]
@@ -125,12 +128,18 @@ impl Object {
         self.is_whole.note(added);
     }
 
-    /// Appends a member with a number as its value.
+    /// Appends a member with a number as its value. One above [`LARGEST_NUMBER`] is a string of its
+    /// digits.
     pub(super) fn add_number(&mut self, name: &str, number: u64)
         ensures { AddsMembers self.old self.new }
     {
-        self.add_name(name);
-        self.add_count(number)
+        if number > LARGEST_NUMBER {
+            let digits = format!(in self.alloc; "{number}");
+            self.add_formatted(name, digits);
+        } else {
+            self.add_name(name);
+            self.add_count(number);
+        }
     }
 
     /// Appends a number as the value of a member.

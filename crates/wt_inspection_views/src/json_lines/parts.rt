@@ -5,7 +5,7 @@ ghost use Rattle.wt_inspection_views.specs.Objects.{AddsElements, AddsMembers};
 use super::object::Object;
 use crate::text::parts::name_setting;
 use wt_inspection_model::item::{
-    CapsuleItem, CloseReason, FieldSection, Line, SectionFault, SettingIssue, SettingLine,
+    CapsuleItem, CloseReason, FieldSection, Line, SectionFault, SettingIssue, SettingLine, Signal,
 };
 
 /// Appends the lines of a field section and, if they end early, the reason.
@@ -64,6 +64,24 @@ fn add_dynamic(object: &mut Object, insert_count: Option<u64>)
     }
 }
 
+/// Appends what a frame says of requests and pushes.
+pub(super) fn add_signal(object: &mut Object, signal: &Signal)
+    ensures { AddsMembers object.old object.new }
+{
+    match signal {
+        Signal::Id(id) => object.add_number("id", *id),
+        Signal::Priority(id, value) => {
+            object.add_number("id", *id);
+            object.add_name("priority");
+            object.add_value(value.as_slice());
+        }
+        Signal::Promise(id, section) => {
+            object.add_number("push", *id);
+            add_section(object, section);
+        }
+    }
+}
+
 /// Appends settings.
 pub(super) fn add_settings(object: &mut Object, settings: &[SettingLine])
     ensures { AddsMembers object.old object.new }
@@ -101,8 +119,9 @@ fn add_flag(object: &mut Object, flag: Option<SettingIssue>)
 {
     match flag {
         None => {}
-        Some(SettingIssue::Reserved) => object.add_text("fault", "reserved"),
+        Some(SettingIssue::Reserved) => object.add_text("fault", "http2"),
         Some(SettingIssue::Repeated) => object.add_text("fault", "repeated"),
+        Some(SettingIssue::Value) => object.add_text("fault", "value"),
     }
 }
 

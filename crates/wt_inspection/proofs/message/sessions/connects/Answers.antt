@@ -2,7 +2,7 @@ use Rattle.std.proofs.Common.{rules, tests}
 use Rattle.std.proofs.lemmas.Iterator.{YieldsList-from_slice}
 use Rattle.std.proofs.lemmas.Iterator.Search.{any_from_yields_List}
 use Rattle.wt_inspection.specs.SessionSections.{is_connect}
-use Rattle.wt_inspection.proofs.message.connects.Goals as goal
+use Rattle.wt_inspection.proofs.message.sessions.connects.Goals as goal
 
 pub returns : goal.returns
 returns c =
