@@ -52,7 +52,7 @@ fn show_once(alloc: Global, given: Given<'_>) -> Result<Shown, AllocError> {
     Ok(Shown {
         text: write_text(alloc, &found, bytes, payload)?,
         lines: write_json(alloc, &found, bytes, payload)?,
-        page: write_html(alloc, &found, bytes)?,
+        page: write_html(alloc, "section", &found, bytes)?,
     })
 }
 
@@ -98,7 +98,7 @@ static ROWS: [Row; 9] = [
             \"fields\":[[\":status\",\"200\"]]}
 {\"at\":5,\"item\":\"end\",\"state\":\"whole\"}
 ",
-        part: "<span tabindex=\"0\" data-item=\"0\">0        01 03 00 00 d9\n</span>",
+        part: "<span tabindex=\"0\" data-item=\"0\">0       <i> 01 03</i> 00 00<span data-item=\"0.0\"> d9</span> ",
     },
     Row {
         case: "an open stream within a frame",
@@ -135,7 +135,7 @@ static ROWS: [Row; 9] = [
 {\"at\":3,\"length\":2,\"item\":\"payload\",\"hex\":\"6869\"}
 {\"at\":5,\"item\":\"end\",\"state\":\"whole\"}
 ",
-        part: "data-item=\"1\">3        68 69\n</span>",
+        part: "data-item=\"1\">3        68 69                                            hi\n</span>",
     },
     Row {
         case: "a datagram of aioquic",
@@ -153,7 +153,7 @@ static ROWS: [Row; 9] = [
             \"hex\":\"6563686f3a\"}
 {\"at\":6,\"item\":\"end\",\"state\":\"whole\"}
 ",
-        part: "datagram           session 0, quarter stream ID 0, 5 bytes\n</span><b></b></pre>",
+        part: "datagram           session 0, quarter stream ID 0, 5 bytes\n</summary></details><b></b></div>",
     },
     Row {
         case: "a session is closed",
@@ -216,7 +216,8 @@ static ROWS: [Row; 9] = [
 {\"at\":3,\"length\":3,\"item\":\"frame\",\"type\":\"GOAWAY\",\"number\":7,\"payload\":1}
 {\"at\":6,\"item\":\"end\",\"state\":\"whole\"}
 ",
-        part: "<pre tabindex=\"0\" data-item=\"2\"><span>3     GOAWAY             1 byte\n</span><b></b></pre>",
+        part: "<div data-item=\"2\"><details open><summary>3     GOAWAY             1 byte\n</summary></details><b></b>\
+            </div>",
     },
     Row {
         case: "a section that needs the dynamic table",

@@ -1,5 +1,5 @@
 -- The exit statuses of the program.
-use Rattle.std.specs.Prelude.{ℕ, ◌&&◌, ◌||◌, Bool, not, List, if◌then◌else◌}
+use Rattle.std.specs.Prelude.{ℕ, ◌&&◌, ◌||◌, Bool, true, false, not, List, if◌then◌else◌}
 use Rattle.std.specs.List.{list_any}
 use Rattle.wt_inspection.specs.Results.{End, Warning, has_fault, is_hint}
 use Rattle.wt_inspect.specs.declared.failure.Failure.{Failure}
@@ -9,7 +9,14 @@ use Rattle.wt_inspect.specs.declared.failure.Failure.TheVariants as failure-is
 abbrev pub failure_status : Failure → ℕ
 failure_status failure-is.Arguments = 1
 failure_status failure-is.Memory = 4
+failure_status failure-is.Closed = 141
 failure_status other = 3
+
+-- no message is written: it was written before, or nobody reads the output
+abbrev pub is_silent : Failure → Bool
+is_silent failure-is.Named = true
+is_silent failure-is.Closed = true
+is_silent other = false
 
 -- a rule is broken, and it is not a hint
 abbrev pub is_breach : Warning → Bool

@@ -75,6 +75,8 @@ pub enum Output {
 pub struct Arguments<'a> {
     /// The kind of recording.
     pub recorded: Recorded,
+    /// The name of the kind.
+    pub kind: &'a str,
     /// The format of the output.
     pub output: Output,
     /// Whether the input is hexadecimal text.
@@ -105,7 +107,7 @@ pub fn command<'a>(alloc: Global) -> Result<Command<'a>, Error> {
         .help("What was recorded")
         .value_parser(KINDS.as_slice());
     let file = Arg::new(alloc, "file").value_name("FILE").help(
-        "The recording, of at most 64 MiB; standard input if there is none",
+        "The recording, of at most 64 MiB; standard input if there is none, or it is -",
     );
     let command = Command::new(alloc, "wt_inspect")
         .version(VERSION)
@@ -155,6 +157,7 @@ pub fn read_arguments<'a>(matches: &ArgMatches<'a>) -> Arguments<'a>
 {
     Arguments {
         recorded: recorded_of(matches.get_str("kind")),
+        kind: matches.get_str("kind").unwrap_or(""),
         output: output_of(matches.get_flag("json"), matches.get_flag("html")),
         is_hex: matches.get_flag("hex"),
         is_open: matches.get_flag("open"),

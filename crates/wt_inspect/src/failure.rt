@@ -1,6 +1,6 @@
 //! Errors of the program.
 ghost use Rattle.std.specs.Prelude.{◌≡◌};
-ghost use Rattle.wt_inspect.specs.Statuses.{failure_status};
+ghost use Rattle.wt_inspect.specs.Statuses.{failure_status, is_silent};
 
 use std::alloc::AllocError;
 
@@ -8,11 +8,11 @@ use std::alloc::AllocError;
 #[derive(Clone, Copy, Debug, thiserror::Error)]
 pub enum Failure {
     /// The arguments could not be read or are not UTF-8.
-    #[error("the arguments cannot be read as text")]
+    #[error("an argument is not UTF-8; a file with such a name can be given as standard input")]
     Arguments,
-    /// The file could not be opened.
-    #[error("the file cannot be opened: is there a file of this name that you may read?")]
-    Open,
+    /// A file could not be read, as a message with its name has said.
+    #[error("the file cannot be read")]
+    Named,
     /// Reading failed.
     #[error("the input cannot be read: is it a folder?")]
     Input,
@@ -25,6 +25,9 @@ pub enum Failure {
     /// Writing failed.
     #[error("the output cannot be written")]
     Output,
+    /// Nobody reads the output.
+    #[error("the output is closed")]
+    Closed,
     /// Allocation failed.
     #[error("out of memory")]
     Memory,
@@ -38,7 +41,18 @@ impl Failure {
         match self {
             Failure::Arguments => 1,
             Failure::Memory => 4,
+            Failure::Closed => 141,
             _ => 3,
+        }
+    }
+
+    /// Returns whether nothing is left to say.
+    pub fn is_silent(self) -> bool
+        ensures { result ≡ is_silent self }
+    {
+        match self {
+            Failure::Named | Failure::Closed => true,
+            _ => false,
         }
     }
 }

@@ -9,15 +9,17 @@ ghost use Rattle.wt_inspection.specs.Results.{has_fault};
 
 mod arguments;
 mod failure;
+mod files;
 mod input;
 
 use crate::arguments::{Arguments, Output, command, read_arguments};
 use crate::failure::Failure;
+use crate::files::{read_file, shown_name};
 use crate::input::{read_all, read_hex};
 use std::alloc::{AllocError, Global};
-use std::io::{self, Write};
+use std::env;
+use std::io::{self, ErrorKind, Write};
 use std::process::ExitCode;
-use std::{env, fs};
 use wt_inspection::item::Warning;
 use wt_inspection::{End, Inspection, inspect};
 use wt_inspection_views::html::write_html;
@@ -28,7 +30,9 @@ fn main(rt: HostRuntime) -> ExitCode {
     ExitCode::from(match run(&rt) {
         Ok(status) => status,
         Err(failure) => {
-            let _ = writeln!(rt.stderr(), "wt_inspect: {failure}");
+            if !failure.is_silent() {
+                let _ = writeln!(rt.stderr(), "wt_inspect: {failure}");
+            }
             failure.status()
         }
     })
@@ -39,7 +43,10 @@ fn main(rt: HostRuntime) -> ExitCode {
 fn run(rt: &HostRuntime) -> Result<u8, Failure>
     ensures { IfOk result (λ status. status ≤ 2) }
 {
-    let words = read_words(rt).map_err(|_| Failure::Arguments)?;
+    let words = match read_words(rt) {
+        Ok(words) => words,
+        Err(error) => return Err(words_failure(&error)),
+    };
     run_words(rt, words.as_slice())
 }
 
@@ -66,18 +73,40 @@ fn show_input(rt: &HostRuntime, arguments: &Arguments<'_>) -> Result<u8, Failure
     let alloc = rt.alloc();
     let bytes = read_input(rt, alloc, arguments)?;
     let (text, status) = show(alloc, arguments, bytes.as_slice())?;
+    match write_out(rt, text.as_slice()) {
+        Ok(()) => Ok(status),
+        Err(error) => Err(output_failure(&error)),
+    }
+}
+
+/// Writes to standard output.
+fn write_out(rt: &HostRuntime, text: &[u8]) -> io::Result<()> {
     let mut output = rt.stdout();
-    output
-        .write_all(text.as_slice())
-        .map_err(|_| Failure::Output)?;
-    output.flush().map_err(|_| Failure::Output)?;
-    Ok(status)
+    output.write_all(text)?;
+    output.flush()
+}
+
+/// Returns why writing failed: nobody reads the output, as when a pager ends early, or another
+/// reason.
+fn output_failure(error: &io::Error) -> Failure {
+    match error.kind() {
+        ErrorKind::BrokenPipe => Failure::Closed,
+        _ => Failure::Output,
+    }
 }
 
 /// Returns the program's name and arguments.
 fn read_words(rt: &HostRuntime) -> io::Result<Vec<String>> {
     let words = env::args(rt)?.collect(rt.alloc())?;
     Ok(words)
+}
+
+/// Returns why the arguments could not be read.
+fn words_failure(error: &io::Error) -> Failure {
+    match error.kind() {
+        ErrorKind::OutOfMemory => Failure::Memory,
+        _ => Failure::Arguments,
+    }
 }
 
 /// Reads the input that the arguments name: a file, or standard input.
@@ -94,14 +123,11 @@ fn read_input(
     }
 }
 
-/// Reads a file, or standard input if `file` is `None`.
+/// Reads a file, or standard input if `file` is `None` or `-`.
 fn read_bytes(rt: &HostRuntime, alloc: Global, file: Option<&str>) -> Result<Vec<u8>, Failure> {
     match file {
-        Some(path) => {
-            let mut file = fs::open(rt, path).map_err(|_| Failure::Open)?;
-            read_all(alloc, &mut file)
-        }
-        None => read_all(alloc, &mut rt.stdin()),
+        None | Some("-") => read_all(alloc, &mut rt.stdin()),
+        Some(path) => read_file(rt, alloc, path),
     }
 }
 
@@ -132,7 +158,22 @@ fn write_inspection(
             Ok(text.into_bytes())
         }
         Output::Json => write_json(alloc, inspection, bytes, arguments.has_payload),
-        Output::Html => write_html(alloc, inspection, bytes),
+        Output::Html => {
+            let title = title_of(alloc, arguments)?;
+            write_html(alloc, title.as_str(), inspection, bytes)
+        }
+    }
+}
+
+/// Returns the kind and the name of the input.
+fn title_of(alloc: Global, arguments: &Arguments<'_>) -> Result<String, AllocError> {
+    let kind = arguments.kind;
+    match arguments.file {
+        None | Some("-") => String::from_str(alloc, kind),
+        Some(path) => {
+            let name = shown_name(alloc, path)?;
+            format!(in alloc; "{kind} {name}")
+        }
     }
 }
 
