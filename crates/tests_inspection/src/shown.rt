@@ -202,22 +202,23 @@ static ROWS: [Row; 9] = [
         given: Given {
             bytes: b"\x00\x04\x00\x07\x01\x00",
             kind: Recorded::Uni,
-            open: false,
+            open: true,
             payload: false,
         },
         text: "0     stream             control, type 0x0
 1     SETTINGS           0 bytes
 3     GOAWAY             1 byte
+        ID 0
 6     end
 ",
         lines: "{\"at\":0,\"length\":1,\"item\":\"stream\",\"type\":\"control\",\"number\":0}
 {\"at\":1,\"length\":2,\"item\":\"frame\",\"type\":\"SETTINGS\",\"number\":4,\"payload\":0,\
     \"settings\":[]}
-{\"at\":3,\"length\":3,\"item\":\"frame\",\"type\":\"GOAWAY\",\"number\":7,\"payload\":1}
+{\"at\":3,\"length\":3,\"item\":\"frame\",\"type\":\"GOAWAY\",\"number\":7,\"payload\":1,\"id\":0}
 {\"at\":6,\"item\":\"end\",\"state\":\"whole\"}
 ",
-        part: "<div data-item=\"2\"><details open><summary>3     GOAWAY             1 byte\n</summary></details><b></b>\
-            </div>",
+        part: "<div data-item=\"2\"><details open><summary>3     GOAWAY             1 byte\n</summary>\
+            <span>        ID 0\n</span></details><b></b></div>",
     },
     Row {
         case: "a section that needs the dynamic table",
