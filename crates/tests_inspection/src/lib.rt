@@ -8,3 +8,5 @@ mod inspections;
 mod same;
 #[cfg(test)]
 mod shown;
+#[cfg(test)]
+mod tables;

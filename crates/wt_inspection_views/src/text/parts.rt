@@ -5,13 +5,14 @@ ghost use Rattle.wt_inspection_views.specs.Escaped.{hex_byte};
 ghost use Rattle.wt_inspection_views.specs.Lines.{Gains};
 ghost use Rattle.wt_inspection_views.specs.TextLines.{capsule_lines, close_lines, field_lines};
 ghost use Rattle.wt_inspection_views.specs.TextLines.{hex_lines, stop_lines};
-ghost use Rattle.wt_inspection_views.specs.TextLines.{IsFieldLine, IsReasonLine};
+ghost use Rattle.wt_inspection_views.specs.TextLines.{IsFieldLine, IsKnownLine, IsNamedLine, IsReasonLine, entry_words};
 
 use super::lines::Lines;
 use crate::escaped::{add_escaped, add_hex_byte};
 use std::alloc::{AllocError, Global};
 use wt_inspection_model::item::{
-    CapsuleItem, CloseReason, FieldSection, Line, SectionFault, SettingIssue, SettingLine, Warning,
+    CapsuleItem, CloseReason, FieldSection, Index, Line, SectionFault, SettingIssue, SettingLine,
+    Unknown, Warning,
 };
 use wtp_wire::settings::SettingId;
 
@@ -59,15 +60,53 @@ fn add_fault(text: &mut Lines, fault: SectionFault, insert_count: Option<u64>)
             let words = "needs the dynamic table, encoded Required Insert Count";
             text.add_formatted(format!(in text.alloc; "        {words} {count}"))
         }
+        (SectionFault::NeedsInsertions(required, inserted), _) => {
+            let words = format!(in text.alloc;
+                "        needs {required} insertions, and the encoder stream has {inserted}");
+            text.add_formatted(words)
+        }
     }
 }
 
-/// Returns the line of a field: the displayed forms of its name and of its value.
+/// Returns the line of a field: the displayed forms of its name and of its value, or the entry of
+/// the dynamic table that has them.
 fn words_of_field(alloc: Global, field: &Line) -> Result<String, AllocError>
     ensures { IfOk result (λ words. IsFieldLine field.now (string_bytes words)) }
 {
+    match field.unknown {
+        None => words_of_known(alloc, field),
+        Some(Unknown::Field(index)) => words_of_entry(alloc, index),
+        Some(Unknown::Name(index)) => words_of_named(alloc, index, field),
+    }
+}
+
+/// Returns the line of a field that is known.
+fn words_of_known(alloc: Global, field: &Line) -> Result<String, AllocError>
+    ensures { IfOk result (λ words. IsKnownLine field.now (string_bytes words)) }
+{
     let mut words = String::from_str(alloc, "        ")?;
     add_escaped(&mut words, field.name.as_slice())?;
+    words.push_str(" = ")?;
+    add_escaped(&mut words, field.value.as_slice())?;
+    Ok(words)
+}
+
+/// Returns the line of an entry of the dynamic table that is not known.
+fn words_of_entry(alloc: Global, index: Index) -> Result<String, AllocError>
+    ensures { IfOk result (λ words. string_bytes words ≡ entry_words index) }
+{
+    match index {
+        Index::Relative(index) => format!(in alloc; "        (dynamic {index})"),
+        Index::PostBase(index) => format!(in alloc; "        (dynamic post-base {index})"),
+    }
+}
+
+/// Returns the line of a field whose name is that of such an entry.
+fn words_of_named(alloc: Global, index: Index, field: &Line) -> Result<String, AllocError>
+    ensures { IfOk result
+        (λ words. IsNamedLine index field.now.value.items (string_bytes words)) }
+{
+    let mut words = words_of_entry(alloc, index)?;
     words.push_str(" = ")?;
     add_escaped(&mut words, field.value.as_slice())?;
     Ok(words)
