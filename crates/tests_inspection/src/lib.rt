@@ -10,3 +10,5 @@ mod rules;
 mod same;
 #[cfg(test)]
 mod shown;
+#[cfg(test)]
+mod tables;

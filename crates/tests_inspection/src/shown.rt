@@ -230,14 +230,15 @@ static ROWS: [Row; 9] = [
         },
         text: "0     fields             4 bytes
         :scheme = https
+        (dynamic 5)
         needs the dynamic table, encoded Required Insert Count 7
 4     end
 ",
-        lines: "{\"at\":0,\"length\":4,\"item\":\"section\",\"fields\":[[\":scheme\",\"https\"]],\
-            \"stopped\":\"needs the dynamic table\",\"insert_count\":7}
+        lines: "{\"at\":0,\"length\":4,\"item\":\"section\",\"fields\":[[\":scheme\",\"https\"],\
+    [{\"dynamic\":5}]],\"needs\":\"an encoder stream\",\"insert_count\":7}
 {\"at\":4,\"item\":\"end\",\"state\":\"whole\"}
 ",
-        part: "        needs the dynamic table, encoded Required Insert Count 7\n",
+        part: "        (dynamic 5)\n        needs the dynamic table, encoded Required Insert Count 7\n",
     },
     Row {
         case: "a value with a line feed, and not UTF-8",

@@ -62,6 +62,7 @@ judged_cut_on None name place missing parts next (on, stops, part) = cut_on name
 section_on : (place : ℕ) (fault : Option SectionFault) (on : Then) (next : Next) → AfterSection place fault on (Ok next) → Ok next ≡ on
 section_on place None on next h = h
 section_on place (Some fault-is.NeedsDynamicTable) on next h = h
+section_on place (Some (fault-is.NeedsInsertions required inserted)) on next h = h
 section_on place (Some (fault-is.Malformed cause)) on next h = absurd h
 
 settings_on : {A : Type 0} (place : ℕ) (r : Result A ErrorCode) (on : Then) (next : Next) → AfterSettings place r on (Ok next) → Ok next ≡ on

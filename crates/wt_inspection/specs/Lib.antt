@@ -1,5 +1,7 @@
 pub mod SettingLines
+pub mod Insertions
 pub mod Sections
+pub mod Resolved
 pub mod Heads
 pub mod Tiles
 pub mod CapsuleNames

@@ -11,6 +11,7 @@ ghost use Rattle.wt_inspection.specs.CapsuleNames.{capsule_name, other_name as o
 ghost use Rattle.wt_inspection.specs.DataCapsules.{place_of};
 ghost use Rattle.wt_inspection.specs.Walks.{Fits, Holds, HoldsAt, IsFaultOf, JudgesBy, JudgesClose};
 ghost use Rattle.wt_inspection.specs.Walks.{Judges, LacksOf, TakesPiece, Stepped, begins_at};
+ghost use Rattle.wt_inspection.specs.Resolved.{HasNoSection};
 
 use crate::reading::{Next, Reading, Step, Then, cut, fault, fault_at};
 use std::alloc::{AllocError, Global};
@@ -342,6 +343,7 @@ pub(crate) fn next_capsule(reading: &Reading, at: usize, rest: &[u8]) -> Result<
     ensures within { IfOk result (λ s. s.length ≤ length rest.now) }
     ensures some { IfOk result (λ s. 0 < s.length) }
     ensures read { IfOk result (λ s. IsNext Next.Capsules at rest.now s.length s.content s.after) }
+    ensures sections { IfOk result (λ s. HasNoSection s.content) }
 {
     let Some(pair) = first_pair(rest) else {
         let end = cut(at, "capsule", missing_bytes(rest) as u64);

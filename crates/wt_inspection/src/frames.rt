@@ -1,8 +1,9 @@
 //! Frames (RFC 9114, section 7).
 ghost use Rattle.std.specs.Prelude.{◌≡◌, ◌≤◌, ◌<◌, ◌+◌, ◌^◌, ℕ, true, false, Some, Ok, Err};
-ghost use Rattle.std.specs.Prelude.{IfOk, length, drop};
+ghost use Rattle.std.specs.Prelude.{IfOk, length, drop, option_map};
 ghost use Rattle.wtp_wire.specs.Kind.{kind_of};
 ghost use Rattle.wt_inspection_model.specs.Names.{frame_name_of};
+ghost use Rattle.wt_inspection.specs.Resolved.{ContentWith, HasNoFields, HasNoSection, PartsWith};
 ghost use Rattle.wt_inspection.specs.Walks.{Leads};
 ghost use Rattle.wtp_wire.specs.Settings.{pair_at};
 ghost use Rattle.wt_inspection.specs.Recording.{HasNoFrame, HasParts, IsCutPart, IsNext, Judged};
@@ -19,6 +20,7 @@ use crate::fields::{read_section, section_then};
 use crate::frames::session::session_item;
 use crate::frames::signals::{id_parts, priority_parts, promise_parts};
 use crate::frames::warnings::{late_data, warn_of_frame};
+use crate::insertions::Insertions;
 use crate::message::take_section;
 use crate::reading::{Next, Phase, Reading, Step, Then, add_warning, cut, fault};
 use crate::settings::{read_settings, settings_then, warn_of_settings};
@@ -45,9 +47,10 @@ struct Place {
 }
 
 /// Returns the next frame.
-#[tactic(auto, using(crate::proofs::RecordingLemmas::no_frame_cut))]
+#[tactic(auto, using(crate::proofs::ResolvedLemmas::plain_content, crate::proofs::RecordingLemmas::no_frame_cut))]
 pub(crate) fn next_frame(
     reading: &mut Reading,
+    sent: Option<&Insertions<'_>>,
     role: StreamRole,
     first: bool,
     at: usize,
@@ -61,6 +64,8 @@ pub(crate) fn next_frame(
         s.after) }
     ensures stage { IfOk result (λ s. Leads reading.old.phase reading.new.phase
         (Moves (Ok (Next.Frames role first)) at rest.now s.content s.after) s.after) }
+    ensures sections { IfOk result (λ s. ContentWith (option_map (λ i. i.now) sent.entry) rest.now
+        s.content) }
 {
     let Some(pair) = first_pair(rest) else {
         let end = cut(at, "frame", missing_bytes(rest) as u64);
@@ -73,7 +78,7 @@ pub(crate) fn next_frame(
     if pair.second.into_inner() > left as u64 {
         return cut_frame(reading, role, first, at, pair, rest);
     }
-    whole_frame(reading, role, first, at, pair, rest)
+    whole_frame(reading, sent, role, first, at, pair, rest)
 }
 
 /// Returns whether a session ID follows the type of a frame, in place of a length.
@@ -111,6 +116,7 @@ fn cut_frame(
         s.after) }
     ensures stage { IfOk result (λ s. Leads reading.old.phase reading.new.phase
         (Moves (Ok (Next.Frames role first)) at rest.now s.content s.after) s.after) }
+    ensures sections { IfOk result (λ s. HasNoSection s.content) }
 {
     let present = rest.split_at(pair.size).1;
     let missing = pair.second.into_inner() - present.len() as u64;
@@ -131,6 +137,7 @@ fn cut_frame(
 /// Returns a complete frame.
 fn whole_frame(
     reading: &mut Reading,
+    sent: Option<&Insertions<'_>>,
     role: StreamRole,
     first: bool,
     at: usize,
@@ -148,6 +155,8 @@ fn whole_frame(
         s.after) }
     ensures stage { IfOk result (λ s. Leads reading.old.phase reading.new.phase
         (Moves (Ok (Next.Frames role first)) at rest.now s.content s.after) s.after) }
+    ensures sections { IfOk result (λ s. ContentWith (option_map (λ i. i.now) sent.entry) rest.now
+        s.content) }
 {
     let present = pair.second.into_inner() as usize;
     let (_, body) = rest.split_at(pair.size);
@@ -156,7 +165,9 @@ fn whole_frame(
         at,
         head: pair.size,
     };
-    let Found { parts, after } = judged_parts(reading, role, first, place, pair.first, payload)?;
+    let Found { parts, after } = judged_parts(
+        reading, sent, role, first, place, pair.first, payload,
+    )?;
     Ok(Step {
         length: pair.size + present,
         content: Content::Frame(frame_of(pair, present, parts)),
@@ -202,6 +213,7 @@ fn judged_cut(
         Leads reading.old.phase reading.new.phase
         (TakesCut (name_fault role first name) role name place.at missing
         (place.at + place.head) present.now f.parts f.after) f.after) }
+    ensures plain { IfOk result (λ f. HasNoFields f.parts) }
 {
     let at = place.at;
     if let Some(code) = name_fault(role, first, number) {
@@ -238,6 +250,7 @@ fn cut_parts(
     ensures parts { IfOk result (λ f. IsCutPart (frame_name_of number) f.parts (Err end) f.after) }
     ensures stage { IfOk result (λ f. Leads reading.old.phase reading.new.phase
         (Takes role (frame_name_of number) at present.now f.parts (Err end) f.after) f.after) }
+    ensures plain { IfOk result (λ f. HasNoFields f.parts) }
 {
     if is_data(number) {
         return data_parts(reading, at, present, Err(end));
@@ -272,6 +285,7 @@ fn is_data(number: VarInt) -> bool
 /// is not allowed here is not read.
 fn judged_parts(
     reading: &mut Reading,
+    sent: Option<&Insertions<'_>>,
     role: StreamRole,
     first: bool,
     place: Place,
@@ -287,6 +301,8 @@ fn judged_parts(
         Leads reading.old.phase reading.new.phase
         (TakesWhole (name_fault role first name) role name (place.at + place.head) payload.now
         f.parts (Ok (Next.Frames role (still_first first name))) f.after) f.after) }
+    ensures sections { IfOk result (λ f. PartsWith (option_map (λ i. i.now) sent.entry) payload.now
+        f.parts) }
 {
     let at = place.at;
     if let Some(code) = name_fault(role, first, number) {
@@ -294,7 +310,7 @@ fn judged_parts(
     }
     let next = Next::Frames(role, still_first(first, number));
     warn_of_frame(reading, role, at, number, payload)?;
-    parts_of(reading, role, place, number, payload, next)
+    parts_of(reading, sent, role, place, number, payload, next)
 }
 
 /// Returns the fault of a frame of this type, if it may not be here.
@@ -339,9 +355,10 @@ fn still_first(first: bool, number: VarInt) -> bool
 }
 
 /// Returns what the payload of a complete frame contains. A fault in it ends the reading.
-#[tactic(auto, using(crate::proofs::MessageLemmas::data_leads, crate::proofs::MessageLemmas::data_has, crate::proofs::MessageLemmas::opaque_leads))]
+#[tactic(auto, using(crate::proofs::ResolvedLemmas::plain_parts, crate::proofs::MessageLemmas::data_leads, crate::proofs::MessageLemmas::data_has, crate::proofs::MessageLemmas::opaque_leads))]
 fn parts_of(
     reading: &mut Reading,
+    sent: Option<&Insertions<'_>>,
     role: StreamRole,
     place: Place,
     number: VarInt,
@@ -355,17 +372,20 @@ fn parts_of(
     ensures stage { IfOk result (λ f. Leads reading.old.phase reading.new.phase
         (Takes role (frame_name_of number) (place.at + place.head) payload.now f.parts
         (Ok next) f.after) f.after) }
+    ensures sections { IfOk result (λ f. PartsWith (option_map (λ i. i.now) sent.entry) payload.now
+        f.parts) }
 {
     if is_data(number) {
         return data_parts(reading, place.at + place.head, payload, Ok(next));
     }
-    other_parts(reading, role, place.at, number, payload, next)
+    other_parts(reading, sent, role, place.at, number, payload, next)
 }
 
 /// Returns what the payload of a complete frame contains, if it is not a DATA frame.
-#[tactic(auto, using(crate::proofs::MessageLemmas::opaque_leads))]
+#[tactic(auto, using(crate::proofs::ResolvedLemmas::plain_parts, crate::proofs::MessageLemmas::opaque_leads))]
 fn other_parts(
     reading: &mut Reading,
+    sent: Option<&Insertions<'_>>,
     role: StreamRole,
     at: usize,
     number: VarInt,
@@ -378,15 +398,19 @@ fn other_parts(
         (Ok next) f.after) }
     ensures stage { IfOk result (λ f. (start : ℕ) → Leads reading.old.phase reading.new.phase
         (Takes role (frame_name_of number) start payload.now f.parts (Ok next) f.after) f.after) }
+    ensures sections { IfOk result (λ f. PartsWith (option_map (λ i. i.now) sent.entry) payload.now
+        f.parts) }
 {
     match FrameName::of(number) {
-        FrameName::Read(FrameKind::Headers) => headers_parts(reading, role, at, payload, next),
+        FrameName::Read(FrameKind::Headers) => headers_parts(
+            reading, sent, role, at, payload, next,
+        ),
         FrameName::Read(FrameKind::Settings) => settings_parts(reading, at, payload, next),
         FrameName::CancelPush => Ok(id_parts(payload, next)),
         FrameName::Goaway => Ok(id_parts(payload, next)),
         FrameName::MaxPushId => Ok(id_parts(payload, next)),
         FrameName::PriorityUpdate => priority_parts(reading.alloc, payload, next),
-        FrameName::PushPromise => promise_parts(reading, at, payload, next),
+        FrameName::PushPromise => promise_parts(reading, sent, at, payload, next),
         FrameName::Read(FrameKind::Data)
         | FrameName::Read(FrameKind::WebTransport)
         | FrameName::Read(FrameKind::Exercise(_))
@@ -401,6 +425,7 @@ fn other_parts(
 /// Returns the field section of a HEADERS frame. It ends the reading if it is malformed.
 fn headers_parts(
     reading: &mut Reading,
+    sent: Option<&Insertions<'_>>,
     role: StreamRole,
     at: usize,
     payload: &[u8],
@@ -411,8 +436,10 @@ fn headers_parts(
     ensures stage { IfOk result (λ f. (start : ℕ) → Leads reading.old.phase reading.new.phase
         (Takes role (FrameName.Read FrameKind.Headers) start payload.now f.parts (Ok next) f.after)
         f.after) }
+    ensures sections { IfOk result (λ f. PartsWith (option_map (λ i. i.now) sent.entry) payload.now
+        f.parts) }
 {
-    let section = read_section(reading.alloc, payload)?;
+    let section = read_section(reading.alloc, sent, payload)?;
     take_section(reading, role, at, &section, payload)?;
     let after = section_then(at, &section, next);
     Ok(Found {
@@ -432,6 +459,7 @@ fn settings_parts(
     ensures parts { IfOk result (λ f. HasParts (FrameName.Read FrameKind.Settings) at payload.now
         f.parts (Ok next) f.after) }
     ensures phase { IfOk result (λ _. reading.new.phase ≡ reading.old.phase) }
+    ensures plain { IfOk result (λ f. HasNoFields f.parts) }
 {
     let settings = read_settings(reading.alloc, payload)?;
     let after = settings_then(at, reading.alloc, payload, next)?;
@@ -457,6 +485,7 @@ fn data_parts(
         payload.now f.parts on f.after) }
     ensures stage { IfOk result (λ f. Leads reading.old.phase reading.new.phase
         (TakesDataFrame at payload.now f.parts on f.after) f.after) }
+    ensures plain { IfOk result (λ f. HasNoFields f.parts) }
 {
     let Phase::Session(walk) = &mut reading.phase else {
         return Ok(Found {

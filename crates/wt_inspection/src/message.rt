@@ -167,6 +167,9 @@ fn warn_by(
 ) -> Result<(), AllocError> {
     let mut seen = Pseudo::new();
     for (k, line) in section.lines.iter().enumerate() {
+        if line.unknown.is_some() {
+            continue;
+        }
         let why = warning_of_pseudo(&mut seen, line, purpose).or(warning_of_line(line));
         add_warning(warnings, at, Some(k), why)?;
     }

@@ -1,9 +1,10 @@
 //! The items of a recording.
-ghost use Rattle.std.specs.Prelude.{◌≡◌, ◌+◌, ◌^◌, ◌≤◌, ◌<◌, ◌==◌, IfOk, Ok, codes, length};
+ghost use Rattle.std.specs.Prelude.{◌≡◌, ◌+◌, ◌^◌, ◌≤◌, ◌<◌, ◌==◌, IfOk, Ok, codes, length, option_map, None};
 ghost use Rattle.wt_inspection.specs.Recording.{EndsInspection, IsCutAt, IsNext, IsRecording};
 ghost use Rattle.wt_inspection.specs.Recording.{IsPushHead, IsSessionHead, is_push};
 ghost use Rattle.wt_inspection.specs.Recording.{IsStep, Moves, after_head, has_session};
 ghost use Rattle.wt_inspection.specs.DataCapsules.{Stage};
+ghost use Rattle.wt_inspection.specs.Resolved.{ContentWith, HasNoSection, ItemsWith};
 ghost use Rattle.wt_inspection.specs.Tiles.{Tiles};
 ghost use Rattle.wt_inspection.specs.Walks.{IsStageAt, LeadsAt};
 ghost use Rattle.wtp_wire.specs.StreamKind.{stream_kind_of};
@@ -11,6 +12,7 @@ ghost use Rattle.wtp_wire.specs.StreamKind.{stream_kind_of};
 use crate::capsules::next_capsule;
 use crate::fields::{read_section, section_then};
 use crate::frames::next_frame;
+use crate::insertions::Insertions;
 use crate::message::warn_of_section;
 use crate::reading::{
     Next, Reading, Recorded, Step, Then, cut, end_after, end_at, end_of_nothing, fault, start_of,
@@ -48,6 +50,9 @@ use wtp_wire::stream_header::StreamKind;
 /// end before `:protocol` counts as the request of a session. With [`Recorded::SessionResponse`] each
 /// response that accepts is one. Other DATA frames are not read.
 ///
+/// A field section that needs the dynamic table has lines of which the name, or the name and the
+/// value, are unknown: [`inspect_with`] knows them.
+///
 /// Returns [`AllocError`] if allocation fails.
 pub fn inspect(
     alloc: Global,
@@ -57,6 +62,31 @@ pub fn inspect(
 ) -> Result<Inspection, AllocError>
     ensures tiles { IfOk result (λ i. Tiles 0 i.items.items (length bytes.now)) }
     ensures read { IfOk result (λ i. IsRecording kind «open» bytes.now i.items.items i.end) }
+    ensures sections { IfOk result (λ i. ItemsWith None bytes.now i.items.items) }
+{
+    inspect_with(alloc, kind, bytes, open, None)
+}
+
+/// Does the same as [`inspect`], with the encoder stream of the end that sent the bytes.
+///
+/// A field section is read with the dynamic table as it is when all insertions that the section
+/// needs have just been made. Its Required Insert Count is what the encoded number means once all
+/// insertions were read, or the one before if these are too few for that (RFC 9204, section
+/// 4.5.1.1). So the count is the right one of each section if the encoder stream has at most twice
+/// as many insertions as the table can have entries; and of the later sections otherwise.
+///
+/// Returns [`AllocError`] if allocation fails.
+pub fn inspect_with(
+    alloc: Global,
+    kind: Recorded,
+    bytes: &[u8],
+    open: bool,
+    sent: Option<&Insertions<'_>>,
+) -> Result<Inspection, AllocError>
+    ensures tiles { IfOk result (λ i. Tiles 0 i.items.items (length bytes.now)) }
+    ensures read { IfOk result (λ i. IsRecording kind «open» bytes.now i.items.items i.end) }
+    ensures sections { IfOk result
+        (λ i. ItemsWith (option_map (λ i. i.now) sent.entry) bytes.now i.items.items) }
 {
     let mut tiling = Tiling::new(alloc, bytes);
     let mut reading = Reading::new(alloc);
@@ -70,7 +100,7 @@ pub fn inspect(
             length,
             content,
             after,
-        } = next_step(&mut reading, state, tiling.at(), rest)?;
+        } = next_step(&mut reading, sent, state, tiling.at(), rest)?;
         tiling.push(length, content)?;
         state = after;
     }
@@ -104,7 +134,13 @@ fn end_of(reading: &Reading, kind: Recorded, open: bool, state: Then, bytes: &[u
 }
 
 /// Returns the next item. After the end of the reading it is all bytes that are left.
-fn next_step(reading: &mut Reading, state: Then, at: usize, rest: &[u8]) -> Result<Step, AllocError>
+fn next_step(
+    reading: &mut Reading,
+    sent: Option<&Insertions<'_>>,
+    state: Then,
+    at: usize,
+    rest: &[u8],
+) -> Result<Step, AllocError>
     requires some { 0 < length rest.now }
     requires place { at + length rest.now < 2 ^ 64 }
     ensures within { IfOk result (λ s. s.length ≤ length rest.now) }
@@ -112,15 +148,24 @@ fn next_step(reading: &mut Reading, state: Then, at: usize, rest: &[u8]) -> Resu
     ensures read { IfOk result (λ s. IsStep state at rest.now s.length s.content s.after) }
     ensures stage { IfOk result (λ s. LeadsAt state reading.old.phase reading.new.phase
         (Moves state at rest.now s.content s.after) s.after) }
+    ensures sections { IfOk result (λ s. ContentWith (option_map (λ i. i.now) sent.entry) rest.now
+        s.content) }
 {
     match state {
-        Ok(next) => next_item(reading, next, at, rest),
+        Ok(next) => next_item(reading, sent, next, at, rest),
         Err(end) => Ok(Step::last(rest.len(), Content::Unread, end)),
     }
 }
 
 /// Returns the next item, as long as the reading goes on.
-fn next_item(reading: &mut Reading, next: Next, at: usize, rest: &[u8]) -> Result<Step, AllocError>
+#[tactic(auto, using(crate::proofs::ResolvedLemmas::plain_content))]
+fn next_item(
+    reading: &mut Reading,
+    sent: Option<&Insertions<'_>>,
+    next: Next,
+    at: usize,
+    rest: &[u8],
+) -> Result<Step, AllocError>
     requires some { 0 < length rest.now }
     requires place { at + length rest.now < 2 ^ 64 }
     ensures within { IfOk result (λ s. s.length ≤ length rest.now) }
@@ -128,14 +173,16 @@ fn next_item(reading: &mut Reading, next: Next, at: usize, rest: &[u8]) -> Resul
     ensures read { IfOk result (λ s. IsNext next at rest.now s.length s.content s.after) }
     ensures stage { IfOk result (λ s. LeadsAt (Ok next) reading.old.phase reading.new.phase
         (Moves (Ok next) at rest.now s.content s.after) s.after) }
+    ensures sections { IfOk result (λ s. ContentWith (option_map (λ i. i.now) sent.entry) rest.now
+        s.content) }
 {
     match next {
         Next::Head => head_item(reading, at, rest),
-        Next::Frames(role, first) => next_frame(reading, role, first, at, rest),
+        Next::Frames(role, first) => next_frame(reading, sent, role, first, at, rest),
         Next::Payload => Ok(Step::go_on(rest.len(), Content::Payload, Next::Payload)),
         Next::Capsules => next_capsule(reading, at, rest),
         Next::Datagram => Ok(datagram_step(at, rest)),
-        Next::Section => section_step(reading, at, rest),
+        Next::Section => section_step(reading, sent, at, rest),
         Next::Settings => settings_step(reading, at, rest),
     }
 }
@@ -147,6 +194,7 @@ fn head_item(reading: &mut Reading, at: usize, rest: &[u8]) -> Result<Step, Allo
     ensures some { IfOk result (λ s. 0 < s.length) }
     ensures read { IfOk result (λ s. IsNext Next.Head at rest.now s.length s.content s.after) }
     ensures phase { IfOk result (λ _. reading.new.phase ≡ reading.old.phase) }
+    ensures sections { IfOk result (λ s. HasNoSection s.content) }
 {
     note_head(reading, at, rest)?;
     Ok(head_step(at, rest))
@@ -183,7 +231,7 @@ fn reads_as_headers(alloc: Global, bytes: &[u8]) -> Result<bool, AllocError> {
         return Ok(false);
     }
     let (payload, _) = rest.split_at(announced as usize);
-    let section = read_section(alloc, payload)?;
+    let section = read_section(alloc, None, payload)?;
     Ok(match section.lines.first() {
         Some(line) => line.name.first() == Some(&b':'),
         None => false,
@@ -197,6 +245,7 @@ fn head_step(at: usize, rest: &[u8]) -> Step
     ensures within { result.length ≤ length rest.now }
     ensures some { 0 < result.length }
     ensures read { IsNext Next.Head at rest.now result.length result.content result.after }
+    ensures sections { HasNoSection result.content }
 {
     let Some((number, size)) = first_varint(rest) else {
         let missing = varint_len_needed(rest).saturating_sub(rest.len());
@@ -258,6 +307,7 @@ fn push_head(at: usize, rest: &[u8]) -> Step
     ensures within { result.length ≤ length rest.now }
     ensures some { 0 < result.length }
     ensures read { IsPushHead at rest.now result.length result.content result.after }
+    ensures sections { HasNoSection result.content }
 {
     let Some(pair) = first_pair(rest) else {
         return Step::last(
@@ -283,6 +333,7 @@ fn session_head(at: usize, rest: &[u8]) -> Step
     ensures within { result.length ≤ length rest.now }
     ensures some { 0 < result.length }
     ensures read { IsSessionHead at rest.now result.length result.content result.after }
+    ensures sections { HasNoSection result.content }
 {
     let Some(pair) = first_pair(rest) else {
         return Step::last(
@@ -316,6 +367,7 @@ fn cut_head(at: usize, missing: usize) -> End
 fn datagram_step(at: usize, rest: &[u8]) -> Step
     ensures length { result.length ≡ length rest.now }
     ensures read { IsNext Next.Datagram at rest.now result.length result.content result.after }
+    ensures sections { HasNoSection result.content }
 {
     match Datagram::read(rest) {
         Ok(datagram) => {
@@ -334,12 +386,19 @@ fn datagram_step(at: usize, rest: &[u8]) -> Step
 }
 
 /// Returns the only item of a field section.
-fn section_step(reading: &mut Reading, at: usize, rest: &[u8]) -> Result<Step, AllocError>
+fn section_step(
+    reading: &mut Reading,
+    sent: Option<&Insertions<'_>>,
+    at: usize,
+    rest: &[u8],
+) -> Result<Step, AllocError>
     ensures length { IfOk result (λ s. s.length ≡ length rest.now) }
     ensures read { IfOk result (λ s. IsNext Next.Section at rest.now s.length s.content s.after) }
     ensures phase { IfOk result (λ _. reading.new.phase ≡ reading.old.phase) }
+    ensures sections { IfOk result (λ s. ContentWith (option_map (λ i. i.now) sent.entry) rest.now
+        s.content) }
 {
-    let section = read_section(reading.alloc, rest)?;
+    let section = read_section(reading.alloc, sent, rest)?;
     warn_of_section(reading, at, &section)?;
     let after = section_then(at, &section, Next::Section);
     Ok(Step {
@@ -354,6 +413,7 @@ fn settings_step(reading: &mut Reading, at: usize, rest: &[u8]) -> Result<Step, 
     ensures length { IfOk result (λ s. s.length ≡ length rest.now) }
     ensures read { IfOk result (λ s. IsNext Next.Settings at rest.now s.length s.content s.after) }
     ensures phase { IfOk result (λ _. reading.new.phase ≡ reading.old.phase) }
+    ensures sections { IfOk result (λ s. HasNoSection s.content) }
 {
     let settings = read_settings(reading.alloc, rest)?;
     let after = settings_then(at, reading.alloc, rest, Next::Settings)?;

@@ -9,7 +9,7 @@ pub mod settings;
 
 pub use capsule::{CapsuleItem, CloseReason};
 pub use ending::{Cut, End, Fault, Warning};
-pub use fields::{FieldSection, Line, SectionFault};
+pub use fields::{FieldSection, Index, Line, SectionFault, Unknown};
 pub use names::{FrameName, StreamName};
 pub use rule::Rule;
 pub use settings::{SettingIssue, SettingLine};

@@ -1,7 +1,8 @@
 -- The number of lines in the text of an inspection, and what the lines of a field and of a reason
 -- have.
 use Rattle.std.specs.Prelude.{◌≡◌, ℕ, ◌+◌, ◌-◌, ◌/◌, Bool, if◌then◌else◌, List, [], length}
-use Rattle.std.specs.Prelude.{◌++◌, take, drop, nat_le, sum_by, Option, Some, None, codes, string_bytes}
+use Rattle.std.specs.Prelude.{◌++◌, take, drop, nat_le, sum_by, Option, Some, None, codes, decimal}
+use Rattle.std.specs.Prelude.{string_bytes}
 use Rattle.wtp_wire.specs.declared.frame.kind.FrameKind.TheVariants as kind-is
 use Rattle.wt_inspection_model.specs.declared.item.Content.{Content}
 use Rattle.wt_inspection_model.specs.declared.item.Content.TheVariants as content-is
@@ -16,7 +17,11 @@ use Rattle.wt_inspection_model.specs.declared.item.Signal.TheVariants as signal-
 use Rattle.wt_inspection_model.specs.declared.item.capsule.CapsuleItem.{CapsuleItem}
 use Rattle.wt_inspection_model.specs.declared.item.capsule.CloseReason.{CloseReason}
 use Rattle.wt_inspection_model.specs.declared.item.fields.FieldSection.{FieldSection}
+use Rattle.wt_inspection_model.specs.declared.item.fields.Index.{Index}
+use Rattle.wt_inspection_model.specs.declared.item.fields.Index.TheVariants.{Relative, PostBase}
 use Rattle.wt_inspection_model.specs.declared.item.fields.Line.{Line}
+use Rattle.wt_inspection_model.specs.declared.item.fields.Unknown.{Unknown}
+use Rattle.wt_inspection_model.specs.declared.item.fields.Unknown.TheVariants as unknown-is
 use Rattle.wt_inspection_model.specs.declared.item.fields.SectionFault.{SectionFault}
 use Rattle.std.specs.List.{flat_map}
 use Rattle.wt_inspection_views.specs.Escaped.{IsShown, name_byte}
@@ -105,16 +110,36 @@ inspection_lines payload bytes inspection =
     sum_by (item_lines payload bytes) inspection.items.items
     + length inspection.warnings.items + 1
 
--- the line of a field has its name in ASCII and without blanks, and the displayed form of its value
-abbrev pub IsFieldLine : Line → List ℕ → Type 0
-IsFieldLine field words =
-    (value : List ℕ) × IsShown field.value.items value
-    × (words ≡ codes "        " ++ flat_map name_byte field.name.items ++ codes " = " ++ value)
-
 -- the line of a priority has its displayed form
 abbrev pub IsPriorityLine : List ℕ → List ℕ → Type 0
 IsPriorityLine value words =
     (shown : List ℕ) × IsShown value shown × (words ≡ codes "        priority = " ++ shown)
+
+-- the line of a field that is known has its name in ASCII and without blanks, and the displayed form of its value
+abbrev pub IsKnownLine : Line → List ℕ → Type 0
+IsKnownLine field words =
+    (value : List ℕ) × IsShown field.value.items value
+    × (words ≡ codes "        " ++ flat_map name_byte field.name.items ++ codes " = " ++ value)
+
+-- the line of an entry of the dynamic table that is not known has its index
+abbrev pub entry_words : Index → List ℕ
+entry_words (Relative index) = codes "        (dynamic " ++ decimal index ++ codes ")"
+entry_words (PostBase index) = codes "        (dynamic post-base " ++ decimal index ++ codes ")"
+
+-- the line of the name of such an entry has the displayed form of the value too
+abbrev pub IsNamedLine : Index → List ℕ → List ℕ → Type 0
+IsNamedLine index text words =
+    (value : List ℕ) × IsShown text value × (words ≡ entry_words index ++ codes " = " ++ value)
+
+-- by what is unknown of a field
+abbrev pub IsLineBy : Option Unknown → Line → List ℕ → Type 0
+IsLineBy None field words = IsKnownLine field words
+IsLineBy (Some (unknown-is.Field index)) field words = words ≡ entry_words index
+IsLineBy (Some (unknown-is.Name index)) field words = IsNamedLine index field.value.items words
+
+-- the line of a field
+abbrev pub IsFieldLine : Line → List ℕ → Type 0
+IsFieldLine field words = IsLineBy field.unknown field words
 
 -- the line of the reason of a close has the displayed form of its text
 abbrev pub IsReasonLine : CloseReason → List ℕ → Type 0

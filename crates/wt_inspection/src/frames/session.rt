@@ -3,6 +3,7 @@ ghost use Rattle.std.specs.Prelude.{◌≡◌, ◌≤◌, ◌<◌, true, Some, I
 ghost use Rattle.wtp_wire.specs.Kind.{kind_of};
 ghost use Rattle.wtp_wire.specs.Settings.{pair_at};
 ghost use Rattle.wt_inspection.specs.Recording.{HasNoFrame, IsNext, is_session};
+ghost use Rattle.wt_inspection.specs.Resolved.{HasNoSection};
 
 use crate::reading::{Next, Reading, Step, fault};
 use std::alloc::AllocError;
@@ -33,6 +34,7 @@ pub(super) fn session_item(
         s.after) }
     ensures kept { IfOk result (λ s. (reading.new.phase ≡ reading.old.phase)
         × HasNoFrame s.content) }
+    ensures sections { IfOk result (λ s. HasNoSection s.content) }
 {
     let late = if first && at > 0 {
         Some(Rule::LateSession)
@@ -56,6 +58,7 @@ fn session_frame(role: StreamRole, first: bool, at: usize, pair: FirstPair, rest
     ensures read { IsNext (Next.Frames role first) at rest.now result.length result.content
         result.after }
     ensures plain { HasNoFrame result.content }
+    ensures sections { HasNoSection result.content }
 {
     let Ok(session) = SessionId::try_from_varint(pair.second) else {
         let why = "a session ID is a multiple of 4 (draft-ietf-webtrans-http3-02, section 4)";

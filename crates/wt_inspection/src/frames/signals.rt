@@ -1,10 +1,12 @@
 //! The contents of frames about requests and pushes.
-ghost use Rattle.std.specs.Prelude.{◌≡◌, ℕ, [], IfOk, MatchOption, Ok, Some};
+ghost use Rattle.std.specs.Prelude.{◌≡◌, ℕ, [], IfOk, MatchOption, Ok, Some, option_map};
 ghost use Rattle.wtp_core.specs.Varint.{number_at};
 ghost use Rattle.wt_inspection.specs.Recording.{HasParts, IsNotAlone};
+ghost use Rattle.wt_inspection.specs.Resolved.{HasNoFields, PartsWith};
 
 use crate::fields::{read_section, section_then};
 use crate::frames::Found;
+use crate::insertions::Insertions;
 use crate::message::warn_of_promise;
 use crate::reading::{Next, Reading};
 use std::alloc::{AllocError, Global};
@@ -32,6 +34,7 @@ pub(super) fn id_parts(payload: &[u8], next: Next) -> Found
         result.after }
     ensures most { (at : ℕ) → HasParts FrameName.MaxPushId at payload.now result.parts (Ok next)
         result.after }
+    ensures plain { HasNoFields result.parts }
 {
     let parts = match only_varint(payload) {
         Some(id) => Parts::Signal(Signal::Id(id.into_inner())),
@@ -46,8 +49,9 @@ pub(super) fn id_parts(payload: &[u8], next: Next) -> Found
 /// Returns the ID and the priority that PRIORITY_UPDATE contains. A payload without an ID is not
 /// interpreted.
 pub(super) fn priority_parts(alloc: Global, payload: &[u8], next: Next) -> Result<Found, AllocError>
-    ensures { IfOk result (λ f. (at : ℕ) → HasParts FrameName.PriorityUpdate at payload.now f.parts
-        (Ok next) f.after) }
+    ensures parts { IfOk result (λ f. (at : ℕ) → HasParts FrameName.PriorityUpdate at payload.now
+        f.parts (Ok next) f.after) }
+    ensures plain { IfOk result (λ f. HasNoFields f.parts) }
 {
     let Some((id, size)) = first_varint(payload) else {
         return Ok(Found {
@@ -67,6 +71,7 @@ pub(super) fn priority_parts(alloc: Global, payload: &[u8], next: Next) -> Resul
 /// not interpreted. A malformed section ends the reading.
 pub(super) fn promise_parts(
     reading: &mut Reading,
+    sent: Option<&Insertions<'_>>,
     at: usize,
     payload: &[u8],
     next: Next,
@@ -74,6 +79,8 @@ pub(super) fn promise_parts(
     ensures parts { IfOk result (λ f. HasParts FrameName.PushPromise at payload.now f.parts
         (Ok next) f.after) }
     ensures phase { IfOk result (λ _. reading.new.phase ≡ reading.old.phase) }
+    ensures sections { IfOk result (λ f. PartsWith (option_map (λ i. i.now) sent.entry) payload.now
+        f.parts) }
 {
     let Some((id, size)) = first_varint(payload) else {
         return Ok(Found {
@@ -81,7 +88,7 @@ pub(super) fn promise_parts(
             after: Ok(next),
         });
     };
-    let section = read_section(reading.alloc, &payload[size..])?;
+    let section = read_section(reading.alloc, sent, &payload[size..])?;
     warn_of_promise(reading, at, &section)?;
     let after = section_then(at, &section, next);
     Ok(Found {

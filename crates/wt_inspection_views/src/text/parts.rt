@@ -5,15 +5,15 @@ ghost use Rattle.wt_inspection_views.specs.Escaped.{hex_byte};
 ghost use Rattle.wt_inspection_views.specs.Lines.{Gains};
 ghost use Rattle.wt_inspection_views.specs.TextLines.{capsule_lines, close_lines, field_lines};
 ghost use Rattle.wt_inspection_views.specs.TextLines.{hex_lines, stop_lines};
-ghost use Rattle.wt_inspection_views.specs.TextLines.{IsFieldLine, IsPriorityLine, IsReasonLine};
-ghost use Rattle.wt_inspection_views.specs.TextLines.{signal_lines};
+ghost use Rattle.wt_inspection_views.specs.TextLines.{IsFieldLine, IsKnownLine, IsNamedLine, IsPriorityLine, IsReasonLine};
+ghost use Rattle.wt_inspection_views.specs.TextLines.{entry_words, signal_lines};
 
 use super::lines::Lines;
 use crate::escaped::{add_escaped, add_hex_byte, add_name};
 use std::alloc::{AllocError, Global};
 use wt_inspection_model::item::{
-    CapsuleItem, CloseReason, FieldSection, Line, SectionFault, SettingIssue, SettingLine, Signal,
-    Warning,
+    CapsuleItem, CloseReason, FieldSection, Index, Line, SectionFault, SettingIssue, SettingLine,
+    Signal, Unknown, Warning,
 };
 use wtp_wire::settings::SettingId;
 
@@ -61,12 +61,30 @@ fn add_fault(text: &mut Lines, fault: SectionFault, insert_count: Option<u64>)
             let words = "needs the dynamic table, encoded Required Insert Count";
             text.add_formatted(format!(in text.alloc; "        {words} {count}"))
         }
+        (SectionFault::NeedsInsertions(required, inserted), _) => {
+            let words = format!(in text.alloc;
+                "        needs {required} insertions, and the encoder stream has {inserted}"
+            );
+            text.add_formatted(words)
+        }
     }
 }
 
-/// Returns the line of a field: its name in ASCII, and the displayed form of its value.
+/// Returns the line of a field: its name in ASCII and the displayed form of its value, or the entry of
+/// the dynamic table that has them.
 fn words_of_field(alloc: Global, field: &Line) -> Result<String, AllocError>
     ensures { IfOk result (λ words. IsFieldLine field.now (string_bytes words)) }
+{
+    match field.unknown {
+        None => words_of_known(alloc, field),
+        Some(Unknown::Field(index)) => words_of_entry(alloc, index),
+        Some(Unknown::Name(index)) => words_of_named(alloc, index, field),
+    }
+}
+
+/// Returns the line of a field that is known.
+fn words_of_known(alloc: Global, field: &Line) -> Result<String, AllocError>
+    ensures { IfOk result (λ words. IsKnownLine field.now (string_bytes words)) }
 {
     let mut words = String::from_str(alloc, "        ")?;
     add_name(&mut words, field.name.as_slice())?;
@@ -98,6 +116,27 @@ fn words_of_priority(alloc: Global, value: &[u8]) -> Result<String, AllocError>
 {
     let mut words = String::from_str(alloc, "        priority = ")?;
     add_escaped(&mut words, value)?;
+    Ok(words)
+}
+
+/// Returns the line of an entry of the dynamic table that is not known.
+fn words_of_entry(alloc: Global, index: Index) -> Result<String, AllocError>
+    ensures { IfOk result (λ words. string_bytes words ≡ entry_words index) }
+{
+    match index {
+        Index::Relative(index) => format!(in alloc; "        (dynamic {index})"),
+        Index::PostBase(index) => format!(in alloc; "        (dynamic post-base {index})"),
+    }
+}
+
+/// Returns the line of a field whose name is that of such an entry.
+fn words_of_named(alloc: Global, index: Index, field: &Line) -> Result<String, AllocError>
+    ensures { IfOk result
+        (λ words. IsNamedLine index field.now.value.items (string_bytes words)) }
+{
+    let mut words = words_of_entry(alloc, index)?;
+    words.push_str(" = ")?;
+    add_escaped(&mut words, field.value.as_slice())?;
     Ok(words)
 }
 

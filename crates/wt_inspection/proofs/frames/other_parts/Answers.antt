@@ -34,7 +34,7 @@ pub returns-in-PriorityUpdate-clause-stage : goal.returns-in-PriorityUpdate-clau
 returns-in-PriorityUpdate-clause-stage c =
     ok_map _ _ c.priority_parts.result
     (λ f h. λ start. quiet_leads c.args.role (frame_name_of c.args.number) name-is.PriorityUpdate c.args.reading.now.phase c.args.reading.now.phase start c.args.payload.now f.parts (Ok c.args.next) f.after (cc) tt refl)
-    c.priority_parts.ensures
+    c.priority_parts.ensures.parts
 
 pub returns-in-PushPromise-clause-stage : goal.returns-in-PushPromise-clause-stage
 returns-in-PushPromise-clause-stage c =

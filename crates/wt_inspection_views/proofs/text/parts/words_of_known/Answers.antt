@@ -2,7 +2,7 @@ use Rattle.std.proofs.Common.{arith, ◌≡◌, ◌++◌, List, ℕ, string_byte
 use Rattle.std.proofs.lemmas.Grind.{common_steps}
 use Rattle.std.specs.List.{flat_map}
 use Rattle.wt_inspection_views.specs.Escaped.{IsShown, name_byte}
-use Rattle.wt_inspection_views.proofs.text.parts.words_of_field.Goals as goal
+use Rattle.wt_inspection_views.proofs.text.parts.words_of_known.Goals as goal
 
 pub returns : goal.returns
 returns c =
