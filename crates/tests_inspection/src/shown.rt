@@ -238,7 +238,7 @@ static ROWS: [Row; 9] = [
     [{\"dynamic\":5}]],\"needs\":\"an encoder stream\",\"insert_count\":7}
 {\"at\":4,\"item\":\"end\",\"state\":\"whole\"}
 ",
-        part: "        (dynamic 5)\n        needs the dynamic table, encoded Required Insert Count 7\n",
+        part: "        (dynamic 5)\n</span>",
     },
     Row {
         case: "a value with a line feed, and not UTF-8",
