@@ -1,7 +1,7 @@
 -- The statuses of inspections.
-use Rattle.std.proofs.Common.{◌≡◌, ℕ, Bool, true, false, List, refl, inl, inr, ◌⊎◌}
+use Rattle.std.proofs.Common.{◌≡◌, ℕ, Bool, true, false, List, Option, Some, None, refl, inl, inr, ◌⊎◌}
 use Rattle.wt_inspection.specs.Results.{End, has_fault}
-use Rattle.wt_inspect.specs.Shown.{Shows}
+use Rattle.wt_inspect.specs.Shown.{ShowsWith}
 use Rattle.wt_inspect.specs.Statuses.{end_status}
 use Rattle.wt_inspect.specs.declared.arguments.Arguments.{Arguments}
 
@@ -12,5 +12,6 @@ of_end end status is = by (has_fault end) refl
     by true e = inr (rw e at is)
     by false e = inl (rw e at is)
 
-pub end_statuses : (arguments : Arguments) (bytes text : List ℕ) (status : ℕ) → Shows arguments bytes text status → (status ≡ 0) ⊎ (status ≡ 2)
-end_statuses arguments bytes text status shows = of_end shows.inspection.end status shows.ends
+pub end_statuses : (encoder : Option (List ℕ)) (arguments : Arguments) (bytes text : List ℕ) (status : ℕ) → ShowsWith encoder arguments bytes text status → (status ≡ 0) ⊎ (status ≡ 2)
+end_statuses None arguments bytes text status shows = of_end shows.inspection.end status shows.ends
+end_statuses (Some encoder) arguments bytes text status (sent, is, shows) = of_end shows.inspection.end status shows.ends
