@@ -2,8 +2,15 @@
 use Rattle.std.specs.Prelude.{ℕ, ◌&&◌, ◌||◌, Bool, true, false, not, List, if◌then◌else◌}
 use Rattle.std.specs.List.{list_any}
 use Rattle.wt_inspection.specs.Results.{End, Warning, has_fault, is_hint}
+use Rattle.wtp_dynamic.specs.declared.error.EncoderStreamError.{EncoderStreamError}
+use Rattle.wtp_dynamic.specs.declared.error.EncoderStreamError.TheVariants as stream-is
 use Rattle.wt_inspect.specs.declared.failure.Failure.{Failure}
 use Rattle.wt_inspect.specs.declared.failure.Failure.TheVariants as failure-is
+
+-- what a fault of an encoder stream is
+abbrev pub encoder_failure : EncoderStreamError → Failure
+encoder_failure stream-is.Memory = failure-is.Memory
+encoder_failure fault = failure-is.Encoder fault
 
 -- of a failure
 abbrev pub failure_status : Failure → ℕ

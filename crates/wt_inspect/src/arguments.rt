@@ -1,11 +1,17 @@
 //! Parses the arguments.
-ghost use Rattle.std.specs.Prelude.{◌≡◌, Bool, codes, option_map};
-ghost use Rattle.clap.specs.Matches.{first_value, found_of};
+ghost use Rattle.std.specs.Prelude.{◌≡◌, ◌<◌, ◌^◌, ℕ, Bool, None, Some, codes, option_map};
+ghost use Rattle.clap.specs.Matches.{first_value, found_of, one_text};
 ghost use Rattle.wt_inspect.specs.CommandLine.{IsFlag, Names, output_of};
 
-use clap::{Arg, ArgAction, ArgMatches, Command, Error};
+use clap::{Arg, ArgAction, ArgMatches, Command, Error, value_parser};
 use std::alloc::Global;
 use wt_inspection::Recorded;
+
+/// One more than the largest capacity that may be given.
+const MAX_CAPACITY: u64 = 1 << 60;
+
+/// The capacity if none is given, which is what most stacks announce at most.
+const DEFAULT_CAPACITY: u64 = 4096;
 
 /// The version that the program names.
 const VERSION: &str = "0.8.0";
@@ -43,6 +49,11 @@ To find out why a session closed, in its recorded response, such as response.bin
 
 The same, with the bytes as text:
   echo 00 04 04 33 01 33 01 | wt_inspect uni --open --hex
+
+Field lines may refer to QPACK's dynamic table, which the encoder stream of the same direction
+fills, a unidirectional stream of type 2. To see them, give that stream too, whole:
+  wt_inspect bi --encoder encoder.bin request.bin
+Without it '(dynamic 3)' stands for the name and the value of the entry with the index 3.
 
 Exit status: 0 the bytes were shown, 1 wrong arguments, 2 the bytes have a fault (with --strict, or
 a warning), 3 input or output failed, 4 out of memory.";
@@ -87,6 +98,10 @@ pub struct Arguments<'a> {
     pub has_payload: bool,
     /// Whether a warning counts as a fault.
     pub is_strict: bool,
+    /// The file with the encoder stream, if there is one.
+    pub encoder: Option<&'a str>,
+    /// The largest capacity of the dynamic table, in bytes.
+    pub capacity: u64,
     /// The file to read, or `None` for standard input.
     pub file: Option<&'a str>,
 }
@@ -138,7 +153,22 @@ pub fn command<'a>(alloc: Global) -> Result<Command<'a>, Error> {
             "In text and JSON, show the bytes of payloads too",
         ))?
         .arg(flag(alloc, "strict", "The exit status is 2 for a warning too"))?;
-    Ok(command)
+    add_table(alloc, command)
+}
+
+/// Adds the options of the dynamic table.
+fn add_table<'a>(alloc: Global, command: Command<'a>) -> Result<Command<'a>, Error> {
+    let encoder = Arg::new(alloc, "encoder")
+        .long("encoder")
+        .value_name("FILE")
+        .help("The whole QPACK encoder stream of the same sender: what the dynamic table has");
+    let capacity = Arg::new(alloc, "capacity")
+        .long("capacity")
+        .value_name("N")
+        .value_parser(value_parser!(u64).range(..1 << 60))
+        .help("What the other end allowed by SETTINGS_QPACK_MAX_TABLE_CAPACITY [default: 4096]")
+        .requires_arg("encoder")?;
+    Ok(command.arg(encoder)?.arg(capacity)?)
 }
 
 /// Returns the parsed arguments.
@@ -152,6 +182,11 @@ pub fn read_arguments<'a>(matches: &ArgMatches<'a>) -> Arguments<'a>
     ensures is_open { IsFlag (found_of matches.now) (codes "open") result.is_open }
     ensures has_payload { IsFlag (found_of matches.now) (codes "payload") result.has_payload }
     ensures is_strict { IsFlag (found_of matches.now) (codes "strict") result.is_strict }
+    ensures encoder { option_map (λ path. path.now) result.encoder
+        ≡ first_value (found_of matches.now) (codes "encoder") }
+    ensures capacity { result.capacity < 2 ^ 60 }
+    ensures default { one_text (found_of matches.now) (codes "capacity") ≡ None
+        → result.capacity ≡ 4096 }
     ensures file { option_map (λ path. path.now) result.file
         ≡ first_value (found_of matches.now) (codes "file") }
 {
@@ -163,6 +198,8 @@ pub fn read_arguments<'a>(matches: &ArgMatches<'a>) -> Arguments<'a>
         is_open: matches.get_flag("open"),
         has_payload: matches.get_flag("payload"),
         is_strict: matches.get_flag("strict"),
+        encoder: matches.get_str("encoder"),
+        capacity: capacity_of(matches.get_one("capacity")),
         file: matches.get_str("file"),
     }
 }
@@ -180,6 +217,18 @@ fn recorded_of(name: Option<&str>) -> Recorded
         Some("section") => Recorded::Section,
         Some("settings") => Recorded::Settings,
         _ => Recorded::Bi,
+    }
+}
+
+/// Returns the largest capacity of the dynamic table. The parser accepts none above the largest.
+fn capacity_of(given: Option<u64>) -> u64
+    ensures below { result < 2 ^ 60 }
+    ensures given { (n : ℕ) → given ≡ Some n → n < 2 ^ 60 → result ≡ n }
+    ensures default { given ≡ None → result ≡ 4096 }
+{
+    match given {
+        Some(capacity) => capacity.min(MAX_CAPACITY - 1),
+        None => DEFAULT_CAPACITY,
     }
 }
 

@@ -3,6 +3,7 @@ ghost use Rattle.std.specs.Prelude.{◌≡◌};
 ghost use Rattle.wt_inspect.specs.Statuses.{failure_status, is_silent};
 
 use std::alloc::AllocError;
+use wtp_dynamic::error::EncoderStreamError;
 
 /// Why the program failed.
 #[derive(Clone, Copy, Debug, thiserror::Error)]
@@ -22,6 +23,9 @@ pub enum Failure {
     /// The input is not hexadecimal text.
     #[error("the input is not hexadecimal text: pairs of digits, blanks, line ends and 0x alone")]
     NotHex,
+    /// The encoder stream has a fault.
+    #[error("the encoder stream has a fault: {0} (QPACK_ENCODER_STREAM_ERROR, 0x201)")]
+    Encoder(EncoderStreamError),
     /// Writing failed.
     #[error("the output cannot be written")]
     Output,
@@ -53,6 +57,19 @@ impl Failure {
         match self {
             Failure::Named | Failure::Closed => true,
             _ => false,
+        }
+    }
+}
+
+impl From<EncoderStreamError> for Failure {
+    ghost use Rattle.wt_inspect.specs.Statuses.{encoder_failure};
+
+    ghost from_gives = { λ fault failure. failure ≡ encoder_failure fault };
+
+    fn from(fault: EncoderStreamError) -> Self {
+        match fault {
+            EncoderStreamError::Memory => Failure::Memory,
+            _ => Failure::Encoder(fault),
         }
     }
 }

@@ -1,9 +1,9 @@
 //! Shows the contents of a recorded stream or datagram.
 #![tactic(auto)]
 
-ghost use Rattle.std.specs.Prelude.{◌≡◌, ◌≤◌, ◌⊎◌, IfErr, IfOk};
-ghost use Rattle.wt_inspect.specs.Shown.{IsView, Shows};
+ghost use Rattle.std.specs.Prelude.{◌≡◌, ◌≤◌, ◌<◌, ◌^◌, ◌⊎◌, IfErr, IfOk, option_map};
 ghost use Rattle.std.specs.List.{list_any};
+ghost use Rattle.wt_inspect.specs.Shown.{FailsWith, IsView, Shows, ShowsWith};
 ghost use Rattle.wt_inspect.specs.Statuses.{end_status, is_breach};
 ghost use Rattle.wt_inspection.specs.Results.{has_fault};
 
@@ -21,7 +21,7 @@ use std::env;
 use std::io::{self, ErrorKind, Write};
 use std::process::ExitCode;
 use wt_inspection::item::Warning;
-use wt_inspection::{End, Inspection, inspect};
+use wt_inspection::{End, Insertions, Inspection, inspect_with, instructions_in};
 use wt_inspection_views::html::write_html;
 use wt_inspection_views::json_lines::write_json;
 use wt_inspection_views::text::write_text;
@@ -68,11 +68,18 @@ fn run_words<'a>(rt: &HostRuntime, words: &'a [String]) -> Result<u8, Failure>
 /// contains an error.
 #[tactic(auto, using(crate::proofs::StatusLemmas::end_statuses))]
 fn show_input(rt: &HostRuntime, arguments: &Arguments<'_>) -> Result<u8, Failure>
+    requires { arguments.now.capacity < 2 ^ 60 }
     ensures { IfOk result (λ status. (status ≡ 0) ⊎ (status ≡ 2)) }
 {
     let alloc = rt.alloc();
     let bytes = read_input(rt, alloc, arguments)?;
-    let (text, status) = show(alloc, arguments, bytes.as_slice())?;
+    let instructions = read_encoder(rt, alloc, arguments.encoder)?;
+    let (text, status) = show_with(
+        alloc,
+        arguments,
+        instructions.as_ref().map(|bytes| bytes.as_slice()),
+        bytes.as_slice(),
+    )?;
     match write_out(rt, text.as_slice()) {
         Ok(()) => Ok(status),
         Err(error) => Err(output_failure(&error)),
@@ -123,6 +130,18 @@ fn read_input(
     }
 }
 
+/// Reads the file with the encoder stream, if there is one.
+fn read_encoder(
+    rt: &HostRuntime,
+    alloc: Global,
+    file: Option<&str>,
+) -> Result<Option<Vec<u8>>, Failure> {
+    match file {
+        Some(path) => Ok(Some(read_bytes(rt, alloc, Some(path))?)),
+        None => Ok(None),
+    }
+}
+
 /// Reads a file, or standard input if `file` is `None` or `-`.
 fn read_bytes(rt: &HostRuntime, alloc: Global, file: Option<&str>) -> Result<Vec<u8>, Failure> {
     match file {
@@ -131,12 +150,41 @@ fn read_bytes(rt: &HostRuntime, alloc: Global, file: Option<&str>) -> Result<Vec
     }
 }
 
+/// Returns the output for these bytes and the exit status, with the bytes of an encoder stream if
+/// there are some.
+fn show_with(
+    alloc: Global,
+    arguments: &Arguments<'_>,
+    encoder: Option<&[u8]>,
+    bytes: &[u8],
+) -> Result<(Vec<u8>, u8), Failure>
+    requires { arguments.now.capacity < 2 ^ 60 }
+    ensures shows { IfOk result (λ shown. ShowsWith (option_map (λ xs. xs.now) encoder.entry)
+        arguments.now bytes.now shown.0.items shown.1) }
+    ensures fails { IfErr result (λ e. FailsWith (option_map (λ xs. xs.now) encoder.entry)
+        arguments.now.capacity e) }
+{
+    match encoder {
+        None => show(alloc, arguments, None, bytes),
+        Some(encoder) => {
+            let sent = Insertions::read(alloc, arguments.capacity, instructions_in(encoder))?;
+            show(alloc, arguments, Some(&sent), bytes)
+        }
+    }
+}
+
 /// Returns the output for these bytes and the exit status.
-fn show(alloc: Global, arguments: &Arguments<'_>, bytes: &[u8]) -> Result<(Vec<u8>, u8), Failure>
-    ensures shows { IfOk result (λ shown. Shows arguments.now bytes.now shown.0.items shown.1) }
+fn show(
+    alloc: Global,
+    arguments: &Arguments<'_>,
+    sent: Option<&Insertions<'_>>,
+    bytes: &[u8],
+) -> Result<(Vec<u8>, u8), Failure>
+    ensures shows { IfOk result (λ shown. Shows (option_map (λ i. i.now) sent.entry) arguments.now
+        bytes.now shown.0.items shown.1) }
     ensures fails { IfErr result (λ e. e ≡ Failure.Memory) }
 {
-    let inspection = inspect(alloc, arguments.recorded, bytes, arguments.is_open)?;
+    let inspection = inspect_with(alloc, arguments.recorded, bytes, arguments.is_open, sent)?;
     let text = write_inspection(alloc, arguments, &inspection, bytes)?;
     let status = status_of(arguments.is_strict, &inspection);
     Ok((text, status))
