@@ -8,8 +8,8 @@ use Rattle.wtransport_proto.specs.declared.stream.error.IoReadError.{IoReadError
 use Rattle.wtransport_proto.specs.declared.stream.error.IoReadError.TheVariants.{H3, IO}
 use Rattle.wtransport_proto.specs.ErrorCodes.{code_number}
 use Rattle.wtransport_proto.specs.ErrorScope.{scope_of}
-use Rattle.wt_endpoint.specs.declared.closing.Closing.{Closing}
-use Rattle.wt_endpoint.specs.declared.closing.Closing.TheVariants.{Nothing, Stream, Connection}
+use Rattle.wt_single_streams.specs.declared.closing.Closing.{Closing}
+use Rattle.wt_single_streams.specs.declared.closing.Closing.TheVariants.{Nothing, Stream, Connection}
 
 -- what is closed, with an error code of this number: a code that may end either ends the connection
 abbrev pub closing_with : ErrorScope → ℕ → Closing

@@ -2,7 +2,7 @@
 ghost use Rattle.std.specs.Prelude.{◌≡◌, ◌↔◌, ◌⊎◌, [], IfOk, IsOk, IsTrue};
 ghost use Rattle.wtransport_proto.specs.CapsuleFront.{End};
 ghost use Rattle.wtransport_proto.specs.CapsuleStream.{next_held};
-ghost use Rattle.wt_endpoint.specs.Ends.{CanContinue, HasEnded};
+ghost use Rattle.wt_single_streams.specs.Ends.{CanContinue, HasEnded};
 
 use crate::turns::TURNS;
 use anyhow::{Result, bail};

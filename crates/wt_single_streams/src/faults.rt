@@ -1,7 +1,7 @@
 //! Invalid inputs, and what an endpoint closes after each.
 ghost use Rattle.std.specs.Prelude.{◌≡◌};
 ghost use Rattle.wtransport_proto.specs.Datagram.{datagram_in};
-ghost use Rattle.wt_endpoint.specs.Closing.{datagram_closing};
+ghost use Rattle.wt_single_streams.specs.Closing.{datagram_closing};
 
 use crate::closing::{Closing, after_code, after_fault, after_header_fault};
 use std::alloc::Global;

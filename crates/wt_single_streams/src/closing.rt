@@ -1,7 +1,7 @@
 //! What an endpoint closes after an error, and with which error code.
 ghost use Rattle.std.specs.Prelude.{◌≡◌, ◌≢◌};
 ghost use Rattle.wtransport_proto.specs.ErrorCodes.{code_number};
-ghost use Rattle.wt_endpoint.specs.Closing.{closing_after, closing_for};
+ghost use Rattle.wt_single_streams.specs.Closing.{closing_after, closing_for};
 
 use wtransport_proto::error::{ErrorCode, ErrorScope};
 use wtransport_proto::stream::IoReadError;
