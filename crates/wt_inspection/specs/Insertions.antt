@@ -1,5 +1,5 @@
 -- The encoder stream of the end that sent a recording (RFC 9204, sections 2.1.1, 4.3 and 4.5.1.1).
-use Rattle.std.specs.Prelude.{◌≡◌, ℕ, ◌-◌, ◌*◌, ◌<◌, ◌≤◌, ◌&&◌, nat_lt, nat_le, if◌then◌else◌, ◌==◌, List, length, take, Option, Some, None}
+use Rattle.std.specs.Prelude.{ℕ, ◌-◌, ◌*◌, ◌<◌, ◌≤◌, ◌&&◌, nat_lt, nat_le, if◌then◌else◌, ◌==◌, List, length, take, Option, Some, None}
 use Rattle.wtp_core.specs.Varint.{number_at}
 use Rattle.wtp_dynamic.specs.InsertCount.{most_entries}
 use Rattle.wtp_dynamic.specs.Section.{Prefix, is_blocked}

@@ -1,4 +1,4 @@
-use Rattle.std.proofs.Common.{rules, ◌<◌, ◌≤◌, arith, length}
+use Rattle.std.proofs.Common.{rules, ◌<◌, length}
 use Rattle.wtp_dynamic.specs.Table.{insert_count}
 use Rattle.wt_inspection.proofs.InsertionLemmas.{one_more}
 use Rattle.wt_inspection.proofs.insertions.Insertions.table_at.Goals as goal
