@@ -2,9 +2,9 @@
 use Rattle.std.proofs.Common.{arith, suc, inl, inr, ◌≡◌, ℕ, ◌+◌, ◌<◌, ◌≤◌, ◌/◌, ◌%◌, ◌^◌, ◌&&◌, not, cond, Bool, true, false, nat_eq, nat_lt, nat_le, List, [], ◌∷◌, ◌++◌, get_or, refl, sym, ap, subst}
 use Rattle.std.specs.List.{flat_map, list_any}
 use Rattle.std.specs.Str.{NonePass, NoCharPasses}
-use Rattle.std.proofs.lemmas.Bool.{and_parts, and_left, and_right, or_from, or_parts, ltb-true, leb-true, lt-leb}
+use Rattle.std.proofs.lemmas.Bool.{and_parts, and_left, and_right, or_from, or_parts, ltb-true, ltb-false, leb-true, leb-false, lt-leb}
 use Rattle.std.proofs.lemmas.Str.{encode_ascii, NoCharPasses-nil, NoCharPasses-append}
-use Rattle.wt_inspection_views.specs.Escaped.{AreLines, ArePlain, IsLine, IsPlain, IsShown, escaped_byte, is_plain_byte, digit_of, marked_line}
+use Rattle.wt_inspection_views.specs.Escaped.{AreLines, ArePlain, IsLine, IsPlain, IsShown, escaped_byte, is_other_byte, is_plain_byte, digit_of, marked_line}
 use Rattle.wt_inspection_views.specs.Characters.{needs_escape}
 use Rattle.std.proofs.lemmas.List.{flat_map_more}
 use Rattle.std.specs.Char.{is_control}
@@ -87,3 +87,17 @@ AreLines-append old words line fits o l =
 pub AreLines-pushed : (old new words line : List ℕ) (ok : Bool) → ((k : ℕ) → get_or words k 0 < 2 ^ 8) → AreLines old → IsLine words line → new ≡ cond ok (old ++ line) old → AreLines new
 AreLines-pushed old new words line true fits o l e = subst AreLines (sym e) (AreLines-append old words line fits o l)
 AreLines-pushed old new words line false fits o l e = subst AreLines (sym e) o
+
+-- printable ASCII needs no escape
+other_parts : (b : ℕ) → is_other_byte b ≡ false → (32 ≤ b) × (b < 127)
+other_parts b e =
+    let both = or_parts (nat_lt b 32) (nat_le 127 b) e in
+    (ltb-false b 32 both.0, leb-false 127 b both.1)
+
+pub ascii_needs_none : (text : List ℕ) → list_any is_other_byte text ≡ false → NoCharPasses needs_escape text
+ascii_needs_none [] e = NoCharPasses-nil needs_escape
+ascii_needs_none (b ∷ text) e =
+    let both = or_parts (is_other_byte b) (list_any is_other_byte text) e in
+    let range = other_parts b both.0 in
+    let low : b < 127 = range.1 in
+    NoCharPasses-append needs_escape (b ∷ []) text (no_escape-one b (omega (arith, low)) (printable b range.0 low)) (ascii_needs_none text both.1)

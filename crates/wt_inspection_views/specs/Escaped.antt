@@ -1,5 +1,5 @@
 -- Bytes displayed within a line, and texts whose lines nothing of a peer can imitate.
-use Rattle.std.specs.Prelude.{◌≡◌, ◌⊎◌, ℕ, ◌+◌, ◌/◌, ◌%◌, if◌then◌else◌, Bool, false, ◌&&◌, not}
+use Rattle.std.specs.Prelude.{◌≡◌, ◌⊎◌, ℕ, ◌+◌, ◌/◌, ◌%◌, if◌then◌else◌, Bool, false, ◌&&◌, ◌||◌, not}
 use Rattle.std.specs.Prelude.{List, [], ◌∷◌, ◌++◌, nat_eq, nat_lt, nat_le, count_by, codes}
 use Rattle.std.specs.List.{flat_map, list_any}
 use Rattle.std.specs.Str.{IsUtf8, NoCharPasses}
@@ -12,6 +12,10 @@ digit_of n = if nat_lt n 10 then 48 + n else 87 + n
 -- the byte is printable ASCII other than a backslash
 abbrev pub is_plain_byte : ℕ → Bool
 is_plain_byte b = nat_le 32 b && nat_lt b 127 && not (nat_eq b 92)
+
+-- the byte is not printable ASCII
+abbrev pub is_other_byte : ℕ → Bool
+is_other_byte b = nat_lt b 32 || nat_le 127 b
 
 -- the escaped form of a byte: itself if it is plain, otherwise \xNN
 abbrev pub escaped_byte : ℕ → List ℕ

@@ -18,6 +18,10 @@ is_late_control c = nat_le 127 c && nat_le c 159
 abbrev pub is_unseen : ℕ → Bool
 is_unseen c = is_late_control c || is_invisible c
 
+-- the byte is DEL or not ASCII
+abbrev pub is_late_byte : ℕ → Bool
+is_late_byte b = nat_le 127 b
+
 -- the text has such a character
 abbrev pub has_unseen : List ℕ → Bool
 has_unseen text = list_any is_unseen (chars text)

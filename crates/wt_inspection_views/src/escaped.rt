@@ -1,10 +1,10 @@
 //! Displays bytes within a line.
 ghost use Rattle.std.specs.Prelude.{◌≡◌, ◌<◌, ◌++◌, IfNone, IfOk, IfSome, IsTrue, OnErr, false, string_bytes};
 ghost use Rattle.std.specs.Str.{NoCharPasses};
-ghost use Rattle.std.specs.List.{flat_map};
+ghost use Rattle.std.specs.List.{flat_map, list_any};
 ghost use Rattle.wt_inspection_views.specs.Characters.{needs_escape};
 ghost use Rattle.wt_inspection_views.specs.Escaped.{AddsFront, AddsShown, AppendsFront, HasNoBackslash, IsPlainText, digit_of};
-ghost use Rattle.wt_inspection_views.specs.Escaped.{escaped_byte, hex_byte, is_plain_byte, name_byte};
+ghost use Rattle.wt_inspection_views.specs.Escaped.{escaped_byte, hex_byte, is_other_byte, is_plain_byte, name_byte};
 
 use crate::characters::needs_escape;
 use std::alloc::AllocError;
@@ -67,11 +67,38 @@ fn is_plain(text: &str) -> bool
 }
 
 /// Returns whether a text contains no characters that need an escape.
+#[tactic(auto, using(crate::proofs::CleanLemmas::ascii_needs_none))]
 pub(crate) fn needs_no_escape(text: &str) -> bool
     ensures none { IsTrue result → NoCharPasses needs_escape text.now }
     ensures some { NoCharPasses needs_escape text.now → IsTrue result }
 {
+    if has_other_byte(text.as_bytes()) {
+        chars_need_none(text)
+    } else {
+        true
+    }
+}
+
+/// Returns whether no character of a text needs an escape.
+fn chars_need_none(text: &str) -> bool
+    ensures none { IsTrue result → NoCharPasses needs_escape text.now }
+    ensures some { NoCharPasses needs_escape text.now → IsTrue result }
+{
     !text.chars().any(|c| needs_escape(c))
+}
+
+/// Returns whether a byte is not printable ASCII.
+fn has_other_byte(bytes: &[u8]) -> bool
+    ensures { result ≡ list_any is_other_byte bytes.now }
+{
+    bytes.iter().any(|byte| is_other_byte(*byte))
+}
+
+/// Returns whether a byte is not printable ASCII.
+fn is_other_byte(byte: u8) -> bool
+    ensures { result ≡ is_other_byte byte }
+{
+    byte < 0x20 || byte >= 0x7f
 }
 
 /// Appends each byte, escaped unless it is plain.

@@ -57,7 +57,9 @@ pub fn write_html(
 /// Adds what is shown.
 fn add_title(page: &mut Page, title: &str, size: usize, items: usize) {
     let alloc = page.alloc;
-    page.text(format!(in alloc; "{title}: {size} bytes, {items} items"));
+    let bytes = if size == 1 { "byte" } else { "bytes" };
+    let word = if items == 1 { "item" } else { "items" };
+    page.text(format!(in alloc; "{title}: {size} {bytes}, {items} {word}"));
     page.markup(Markup::Bytes);
 }
 

@@ -11,6 +11,9 @@ use std::marker::Model;
 /// look like a line of the text.
 pub const LINE_MARK: &str = "\u{258c} ";
 
+/// The length of the mark and of the line feed of a line, in bytes.
+const LINE_OVERHEAD: usize = 5;
+
 /// A text of lines. Each begins with [`LINE_MARK`] and ends with a line feed; nothing else of the
 /// text is a mark, a control character or invisible.
 #[derive(Drop)]
@@ -65,7 +68,8 @@ impl PlainText {
 fn line_of(alloc: Global, words: &str) -> Result<String, AllocError>
     ensures { IfOk result (λ l. IsLine words.now (string_bytes l)) }
 {
-    let mut line = String::from_str(alloc, mark_text())?;
+    let mut line = String::with_capacity(alloc, words.len().saturating_add(LINE_OVERHEAD))?;
+    line.push_str(mark_text())?;
     if needs_no_escape(words) {
         line.push_str(words)?;
     } else {

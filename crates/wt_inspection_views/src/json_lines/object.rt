@@ -1,10 +1,10 @@
 //! Lines of JSON, one object per line.
 ghost use Rattle.std.specs.Prelude.{◌≡◌, ℕ, Bool, true, false, List, [], ◌∷◌, IfOk};
-ghost use Rattle.std.specs.List.{flat_map};
+ghost use Rattle.std.specs.List.{flat_map, list_any};
 ghost use Rattle.std.specs.Prelude.{OnErr, OnOk, IsTrue, string_bytes};
 ghost use Rattle.json.specs.Token.{Token};
 ghost use Rattle.wt_inspection_views.specs.Escaped.{hex_byte};
-ghost use Rattle.wt_inspection_views.specs.JsonLines.{has_unseen, is_unseen};
+ghost use Rattle.wt_inspection_views.specs.JsonLines.{has_unseen, is_late_byte, is_unseen};
 
 use crate::characters::is_invisible;
 use crate::escaped::add_hex_byte;
@@ -308,7 +308,33 @@ impl Object {
 
 /// Returns whether a text has a character that JSON does not escape and that is not seen, or
 /// changes the direction of text: DEL, U+0080 to U+009F, or an invisible one.
+#[tactic(auto, using(crate::proofs::DigitLemmas::ascii_is_seen))]
 fn has_unseen(text: &str) -> bool
+    ensures { result ≡ has_unseen text.now }
+{
+    if has_late_byte(text.as_bytes()) {
+        has_unseen_char(text)
+    } else {
+        false
+    }
+}
+
+/// Returns whether a byte is DEL or not ASCII.
+fn has_late_byte(bytes: &[u8]) -> bool
+    ensures { result ≡ list_any is_late_byte bytes.now }
+{
+    bytes.iter().any(|byte| is_late_byte(*byte))
+}
+
+/// Returns whether a byte is DEL or not ASCII.
+fn is_late_byte(byte: u8) -> bool
+    ensures { result ≡ is_late_byte byte }
+{
+    byte >= 0x7f
+}
+
+/// Returns whether a character of a text is DEL, one of U+0080 to U+009F, or invisible.
+fn has_unseen_char(text: &str) -> bool
     ensures { result ≡ has_unseen text.now }
 {
     text.chars().any(|c| is_unseen(c))

@@ -5,7 +5,7 @@ use Rattle.std.proofs.lemmas.Iterator.{YieldsList-from_chars}
 use Rattle.std.proofs.lemmas.Iterator.Search.{any_from_yields_List}
 use Rattle.std.proofs.lemmas.Str.{encodes-chars, encodes_same}
 use Rattle.wt_inspection_views.proofs.CleanLemmas.{any_from_none, none_from_any}
-use Rattle.wt_inspection_views.proofs.escaped.needs_no_escape.Goals as goal
+use Rattle.wt_inspection_views.proofs.escaped.chars_need_none.Goals as goal
 
 false_from_not : (b : Bool) → IsTrue (not b) → b ≡ false
 false_from_not false t = refl

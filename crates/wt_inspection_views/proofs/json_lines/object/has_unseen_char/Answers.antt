@@ -2,7 +2,7 @@ use Rattle.std.proofs.Common.{rules, tests}
 use Rattle.std.proofs.lemmas.Iterator.{YieldsList-from_chars}
 use Rattle.std.proofs.lemmas.Iterator.Search.{any_from_yields_List}
 use Rattle.wt_inspection_views.specs.JsonLines.{is_unseen}
-use Rattle.wt_inspection_views.proofs.json_lines.object.has_unseen.Goals as goal
+use Rattle.wt_inspection_views.proofs.json_lines.object.has_unseen_char.Goals as goal
 
 pub returns : goal.returns
 returns c =
