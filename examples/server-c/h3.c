@@ -135,9 +135,19 @@ static void refuse_fields(h3_stream *s) {
   if (s->quic) quic_stop(s->quic, WT_H3_NO_ERROR);
 }
 
+/* What a request asks for, by its method; other sections change nothing. */
+static uint32_t asked_by(const h3_stream *s, const h3_event *e) {
+  size_t length;
+  if (e->wt.detail != WT_HEADERS_REQUEST) return s->asked;
+  const uint8_t *method = h3_field(e, ":method", &length);
+  if (h3_is(method, length, "HEAD")) return WT_ASKED_HEAD;
+  return h3_is(method, length, "CONNECT") ? WT_ASKED_CONNECT : WT_ASKED_OTHER;
+}
+
 /* Does what an event requires, and passes it on. */
 void h3_act(h3_stream *s, const h3_event *e) {
   h3_connection *c = s->c;
+  uint32_t why;
   switch (e->wt.kind) {
   case WT_EVENT_MORE: return;
   case WT_EVENT_WAITS: s->waits = true; return;
@@ -146,8 +156,11 @@ void h3_act(h3_stream *s, const h3_event *e) {
   case WT_EVENT_OPENED:
     if (e->wt.detail == WT_PURPOSE_IGNORED) h3_end_stream(s, WT_H3_STREAM_CREATION_ERROR);
     return;
+  case WT_EVENT_HEADERS: s->asked = asked_by(s, e); break;
+  case WT_EVENT_SESSION_READY: (void)wt_sending_connected(&s->sending, &why); break;
   case WT_EVENT_SESSION_REQUESTED:
     s->is_session = true;
+    s->asked = WT_ASKED_SESSION;
     if (s->held == NULL) s->held = h3_allocate(HELD);
     break;
   case WT_EVENT_JOINED: s->session = e->wt.number; break;
