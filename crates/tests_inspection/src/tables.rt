@@ -27,7 +27,7 @@ struct Row {
     section: &'static [u8],
     encoder: Option<&'static [u8]>,
     /// The limit of the capacity.
-    limit: u64,
+    limit: u32,
     lines: &'static [Wanted],
     /// What is missing of the lines or wrong with them.
     fault: &'static str,
@@ -233,7 +233,7 @@ fn check_section<R: Abort>(rt: &R, alloc: Global, section: &FieldSection, row: &
 /// Asserts what a row says.
 fn check_row<R: Abort>(rt: &R, alloc: Global, row: &Row) {
     let bytes = instructions_in(row.encoder.unwrap_or(&[]));
-    let sent = Insertions::read(alloc, row.limit, bytes).expect(rt, "the encoder stream");
+    let sent = Insertions::read(alloc, u64::from(row.limit), bytes).expect(rt, "the encoder stream");
     let sent = if row.encoder.is_some() {
         Some(&sent)
     } else {
