@@ -9,7 +9,7 @@ from dataclasses import replace
 from connection_rows import CLOSED_CRITICAL, FRAME, ID, INCOMPLETE, MESSAGE, OTHER, REJECTED
 from connection_rows import REQUEST, RESPONSE, ROWS, SESSION_GONE, TRAILERS, UNEXPECTED, Row
 from connection_rows import frame, number
-from message_bytes import CLOSE, CONNECT, GET, OF_CLIENT, SESSION, capsule, data, headers
+from message_bytes import CLOSE, CONNECT, GET, OF_CLIENT, OF_SERVER, SESSION, capsule, data, headers
 from session_events import session_events_in
 
 DATAGRAM_ERROR, UNDECODABLE = 0x33, 0x200
@@ -120,6 +120,11 @@ SESSION_ROWS = [
     malformed("CONNECT without an authority (4.4)", CONNECT[0]),
     malformed("CONNECT with a host alone (4.4)", CONNECT[0], (b"host", b"a")),
     malformed("a protocol without CONNECT (RFC 8441, 4)", *GET, SESSION[-1]),
+    message(
+        "a protocol that is not known (RFC 9220, 3)",
+        headers(*SESSION[:-1], (b":protocol", b"connect-udp")),
+        end=False,
+    ),
     malformed("a session without a scheme (RFC 8441, 4)", *without(SESSION, b":scheme")),
     malformed("a session without a path (RFC 8441, 4)", *without(SESSION, b":path")),
     malformed("a session without an authority", *without(SESSION, b":authority")),
@@ -315,6 +320,15 @@ SESSION_ROWS = [
     ),
     # Streams of sessions, by what became of these (webtrans 4; table of the codes: 8.1).
     late("a stream of an open session", OPEN, None),
+    late("one after a GOAWAY (5.2; webtrans 4.6)", OPEN + "bytes 2 070100", None),
+    Row(
+        "a session that goes on after a GOAWAY (5.2)",
+        0,
+        RESPONSE + data(capsule(0, b"abc")),
+        end=True,
+        client=True,
+        before=f"request 0 session\nbytes 3 {OF_SERVER}070104",
+    ),
     late("one of a session that ended", OPEN + "end 0", SESSION_GONE),
     late(
         "one of a session that was closed",

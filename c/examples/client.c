@@ -1,10 +1,9 @@
-/* A client: it asks for the session at a URL, and closes the session when it is open. In place of
+/* A client: it asks for a session, and closes the session when it is open. In place of
    QUIC it reads pieces of the server's streams from standard input, as server.c does, and prints what
    QUIC would have to send. Its control stream is 2, and its request's is 0.
      cat pieces | client */
+#include "fields.h"
 #include <stdio.h>
-#include <string.h>
-#include <wtransport.h>
 
 /* The limits: see server.c. */
 enum { MAX_SECTION = 1 << 14, MAX_FIELDS = 1 << 14, HELD = 1200, WINDOW = 1 << 16 };
@@ -16,8 +15,8 @@ typedef struct stream {
   size_t length;
 } stream;
 
-static const char url[] = "https://example.com/chat";
 static wt_connection connection;
+static wt_sending sending; /* of the request */
 static stream request, control; /* what the server sends on streams 0 and 3 */
 static wt_field fields[MAX_FIELDS / 32];
 static uint8_t out[MAX_FIELDS];
@@ -54,30 +53,40 @@ static int ok(int answer) {
 /* Begins the connection, and sends the control stream: its header, and SETTINGS. */
 static void begin(void) {
   static const wt_endpoint endpoint = {WT_SIDE_CLIENT, 1, 1, 0, MAX_SECTION, MAX_FIELDS, HELD, {0}};
-  static const wt_stream_header header = {WT_STREAM_CONTROL, 0};
   static const wt_setting settings[] = {{WT_SETTING_MAX_FIELD_SECTION_SIZE, MAX_FIELDS},
                                         {WT_SETTING_H3_DATAGRAM, 1},
                                         {WT_SETTING_ENABLE_WEBTRANSPORT, 1}};
-  uint8_t payload[32], bytes[64];
-  size_t size, first, rest;
+  wt_control own;
+  uint8_t bytes[32];
+  size_t size;
+  uint32_t why;
   if (ok(wt_connection_new(WT_ABI, &endpoint, &connection)) &&
       ok(wt_stream_accept(&connection, 3, &control.state)) &&
-      ok(wt_settings_write(settings, 3, payload, sizeof payload, &size)) &&
-      ok(wt_stream_header_write(&header, bytes, sizeof bytes, &first)) &&
-      ok(wt_frame_write(WT_FRAME_SETTINGS, payload, size, bytes + first, sizeof bytes - first, &rest)))
-    quic_send(2, bytes, first + rest, 0);
+      ok(wt_control_new(&connection, &own)) &&
+      ok(wt_control_settings(&own, settings, 3, bytes, sizeof bytes, &size, &why)))
+    quic_send(2, bytes, size, 0);
 }
 
-/* Asks for the session, if the settings of both ends allow sessions. */
+/* Asks for the session at https://example.com/chat, if the settings of both ends allow sessions. */
 static void ask(void) {
+  field_list f = {0};
   uint8_t bytes[256];
   size_t size;
+  uint32_t why;
   if (wt_connection_allows_sessions(&connection) != 1) {
     puts("the server has no sessions");
     quic_close(WT_H3_NO_ERROR);
-  } else if (ok(wt_stream_of_request(&connection, WT_ASKED_SESSION, &request.state)) &&
-             ok(wt_request_write((const uint8_t *)url, strlen(url), NULL, 0, NULL, 0, bytes,
-                                 sizeof bytes, &size))) {
+    return;
+  }
+  field_add(&f, ":method", "CONNECT");
+  field_add(&f, ":scheme", "https");
+  field_add(&f, ":protocol", "webtransport");
+  field_add(&f, ":authority", "example.com");
+  field_add(&f, ":path", "/chat");
+  if (ok(wt_stream_of_request(&connection, WT_ASKED_SESSION, &request.state)) &&
+      ok(wt_sending_request(&connection, 0, &sending, &why)) &&
+      ok(wt_sending_headers(&sending, f.list, f.count, f.texts, f.used, bytes, sizeof bytes, &size,
+                            &why))) {
     asked = 1;
     quic_send(0, bytes, size, 0);
   }
@@ -86,13 +95,15 @@ static void ask(void) {
 /* Closes the session with the code 0: its capsule in a DATA frame, and the end of the stream. */
 static void close_session(void) {
   static const char reason[] = "done";
-  uint8_t capsule[64], bytes[80];
-  size_t size, framed;
+  uint8_t bytes[80];
+  size_t size;
+  uint32_t why;
   wt_event e;
-  if (!ok(wt_close_write(0, (const uint8_t *)reason, strlen(reason), capsule, sizeof capsule, &size)) ||
-      !ok(wt_frame_write(WT_FRAME_DATA, capsule, size, bytes, sizeof bytes, &framed)))
+  if (!ok(wt_sending_connected(&sending, &why)) ||
+      !ok(wt_sending_close(&sending, 0, (const uint8_t *)reason, strlen(reason), bytes,
+                           sizeof bytes, &size, &why)))
     return;
-  quic_send(0, bytes, framed, 1);
+  quic_send(0, bytes, size, 1);
   /* WT_EVENT_SESSION_LOST: streams of the session would be reset and stopped now, as in server.c */
   ok(wt_stream_abandon(&connection, &request.state, &e));
 }

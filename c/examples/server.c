@@ -15,6 +15,7 @@ enum { FIELDS = MAX_FIELDS / 32, OUT = MAX_FIELDS };
 typedef struct stream {
   uint64_t id;
   wt_stream state;
+  wt_sending sending; /* of the response */
   uint8_t held[HELD];    /* of a capsule that is cut */
   uint8_t bytes[WINDOW]; /* that were not consumed */
   size_t length;
@@ -100,33 +101,43 @@ static int is_chat(const wt_event *e) {
 
 static void begin(void) {
   static const wt_endpoint endpoint = {WT_SIDE_SERVER, 1, 1, 1, MAX_SECTION, MAX_FIELDS, HELD, {0}};
-  static const uint8_t control[] = {0, 4, 14, 6, 0x80, 0, MAX_FIELDS >> 8, MAX_FIELDS & 255,
-                                    8, 1, 0x33, 1, 0xab, 0x60, 0x37, 0x42, 1};
-  if (!ok(wt_connection_new(WT_ABI, &endpoint, &connection))) return;
-  quic_send(3, control, sizeof control, 0); /* SETTINGS: 0x06 is MAX_FIELDS; 0x08, 0x33 and
-                                               0x2b603742 are 1 */
+  static const wt_setting settings[] = {
+      {WT_SETTING_MAX_FIELD_SECTION_SIZE, MAX_FIELDS}, {WT_SETTING_ENABLE_CONNECT_PROTOCOL, 1},
+      {WT_SETTING_H3_DATAGRAM, 1}, {WT_SETTING_ENABLE_WEBTRANSPORT, 1}};
+  wt_control control; uint8_t bytes[32]; size_t size; uint32_t why;
+  if (ok(wt_connection_new(WT_ABI, &endpoint, &connection)) &&
+      ok(wt_control_new(&connection, &control)) &&
+      ok(wt_control_settings(&control, settings, 4, bytes, sizeof bytes, &size, &why)))
+    quic_send(3, bytes, size, 0);
 }
 static int join(stream *s, uint64_t session, wt_event *e) {
   const stream *its = find(session); uint32_t known;
   return ok(wt_session_known(&connection, session, its ? &its->state : NULL, its != NULL, &known))
          && ok(wt_stream_join(&connection, &s->state, known, e));
 }
-static void answer(stream *s, uint32_t status) {
-  uint8_t bytes[16]; size_t size;
-  if (!ok(wt_response_write(status, NULL, 0, NULL, 0, bytes, sizeof bytes, &size))) return;
-  quic_send(s->id, bytes, size, status != 200);
-  ok(wt_stream_answer(&s->state, status));
+static void answer(stream *s, uint32_t asked, const char *status) {
+  field_list f = {0}; uint8_t bytes[16]; size_t size; uint32_t why; int end = *status != '2';
+  field_add(&f, ":status", status);
+  if (!ok(wt_sending_response(&connection, s->id, asked, &s->sending, &why)) ||
+      !ok(wt_sending_headers(&s->sending, f.list, f.count, f.texts, f.used, bytes, sizeof bytes,
+                             &size, &why)) || (end && !ok(wt_sending_finish(&s->sending, &why))))
+    return;
+  quic_send(s->id, bytes, size, end);
+  ok(wt_stream_answer(&s->state, (uint32_t)atoi(status)));
 }
 static void refuse_fields(stream *s) {
   wt_event e;
-  answer(s, 431);
+  answer(s, WT_ASKED_OTHER, "431");
   quic_stop(s->id, WT_H3_NO_ERROR);
   ok(wt_stream_abandon(&connection, &s->state, &e));
 }
 static void act(stream *s, wt_event e, const uint8_t *bytes) {
   switch (e.kind) {
-  case WT_EVENT_SESSION_REQUESTED: answer(s, is_chat(&e) ? 200 : 404); break;
-  case WT_EVENT_HEADERS: if (e.detail == WT_HEADERS_REQUEST) answer(s, 404); break;
+  case WT_EVENT_SESSION_REQUESTED:
+    answer(s, WT_ASKED_SESSION, is_chat(&e) ? "200" : "404"); break;
+  case WT_EVENT_HEADERS:
+    if (e.detail == WT_HEADERS_REQUEST) answer(s, WT_ASKED_OTHER, "404");
+    break;
   case WT_EVENT_TOO_LARGE: refuse_fields(s); break;
   case WT_EVENT_JOINS: if (join(s, e.number, &e)) act(s, e, bytes); break;
   case WT_EVENT_STREAM_DATA: quic_send(s->id, bytes + e.offset, e.length, 0); break;

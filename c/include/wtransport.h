@@ -13,7 +13,7 @@
    Breaking these rules is undefined behaviour.
 
    Answers. A call that returns an int returns 0 or above if it found no fault, and below 0
-   otherwise: one of WT_OK to WT_UNSUPPORTED below, if its comment names no other numbers. */
+   otherwise: one of WT_OK to WT_REFUSED below, if its comment names no other numbers. */
 #ifndef WTRANSPORT_H
 #define WTRANSPORT_H
 #include <stddef.h>
@@ -29,7 +29,8 @@ enum {
   WT_BUFFER_TOO_SMALL = -2,    /* an output is too short; its size is reported */
   WT_INVALID = -3, /* an argument is out of its range; nothing changed */
   WT_MEMORY = -4,  /* memory allocation failed; nothing changed, and the call can be made again */
-  WT_UNSUPPORTED = -5 /* what is asked for is not in this version; nothing changed */
+  WT_UNSUPPORTED = -5, /* what is asked for is not in this version; nothing changed */
+  WT_REFUSED = -6 /* this may not be sent; *why is the reason, and nothing else changed */
 };
 
 /* Where nothing changed, there are two exceptions: the arrays of wt_fields_read, and the hold and `room`
@@ -436,4 +437,5 @@ int wt_application_code_from_http3(uint64_t number, uint32_t *code);
 #endif
 
 #include "wtransport_connection.h" /* connections: what is next on each stream */
+#include "wtransport_sending.h"    /* what may be sent on them */
 #endif

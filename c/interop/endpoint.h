@@ -158,7 +158,7 @@ static void write_header(stream *s, uint64_t type) {
   APPEND(s, wt_stream_header_write(&header, out, room, &used));
 }
 
-static void write_control(stream *s, const wt_setting *settings, size_t many) {
+static inline void write_control(stream *s, const wt_setting *settings, size_t many) {
   static stream payload;
   payload.size = 0;
   APPEND(&payload, wt_settings_write(settings, many, out, room, &used));

@@ -45,9 +45,63 @@ static struct {
 static const message *ours_of(size_t i) { return now.we_serve ? &now.rows[i].response : &now.rows[i].request; }
 static const message *theirs_of(size_t i) { return now.we_serve ? &now.rows[i].request : &now.rows[i].response; }
 
-/* Writes our message on a stream, whole. */
+static uint32_t asked_of(const exchange *e) {
+  const char *method = value_of(&e->request, ":method");
+  if (strcmp(method, "HEAD") == 0) return WT_ASKED_HEAD;
+  return strcmp(method, "CONNECT") == 0 ? WT_ASKED_CONNECT : WT_ASKED_OTHER;
+}
+
+/* ---- What we send ---- */
+
+static void send_lines(stream *s, wt_sending *sending, const line *lines, int are_trailers) {
+  static stream texts;
+  wt_field fields[LINES];
+  uint32_t why;
+  size_t many = fields_of(lines, fields, &texts);
+  if (many == 0) return;
+  if (are_trailers) {
+    APPEND(s, wt_sending_trailers(sending, fields, many, texts.bytes, texts.size, out, room, &used, &why));
+  } else {
+    APPEND(s, wt_sending_headers(sending, fields, many, texts.bytes, texts.size, out, room, &used, &why));
+  }
+}
+
+/* Sends a message, whole, with reserved frames in between. */
+static void send_own(stream *s, wt_sending *sending, const message *m) {
+  size_t at = 0;
+  uint32_t why;
+  s->size = 0;
+  send_lines(s, sending, m->info, 0);
+  send_lines(s, sending, m->lines, 0);
+  for (const size_t *size = m->data; *size > 0; size++) {
+    write_reserved(s);
+    APPEND(s, wt_sending_data(sending, *size, out, room, &used, &why));
+    for (size_t end = at + *size; at < end; at++) {
+      uint8_t byte = content_at(at);
+      append(s, &byte, 1);
+      MUST(wt_sending_sent(sending, 1, &why) == WT_OK);
+    }
+  }
+  send_lines(s, sending, m->trailers, 1);
+  write_reserved(s);
+  MUST(wt_sending_finish(sending, &why) == WT_OK);
+}
+
+/* Writes our message on a stream, whole. A client's CONNECT with content does not wait for SETTINGS and the answer,
+   as the calls that send would have it: it is written without them. */
 static void write_ours(size_t i) {
-  write_message(&now.written[4 * i], ours_of(i), 0, NULL);
+  const exchange *e = &now.rows[i];
+  wt_sending sending;
+  uint32_t why;
+  if (now.we_serve) {
+    MUST(wt_sending_response(&now.ours, 4 * i, asked_of(e), &sending, &why) == WT_OK);
+    send_own(&now.written[4 * i], &sending, ours_of(i));
+  } else if (asked_of(e) == WT_ASKED_CONNECT) {
+    write_message(&now.written[4 * i], ours_of(i), 0, NULL);
+  } else {
+    MUST(wt_sending_request(&now.ours, 4 * i, &sending, &why) == WT_OK);
+    send_own(&now.written[4 * i], &sending, ours_of(i));
+  }
   now.finished[4 * i] = 1;
   now.answered[i] = 1;
 }
@@ -211,17 +265,15 @@ static exchange random_row(void) {
 static void write_own_streams(void) {
   const wt_setting settings[] = {{WT_SETTING_ENABLE_CONNECT_PROTOCOL, 1}, {0x21 + 0x1f * 7, 9}};
   size_t first = now.we_serve ? 3 : 2;
-  write_control(&now.written[first], settings, 2);
+  wt_control control;
+  uint32_t why;
+  MUST(wt_control_new(&now.ours, &control) == WT_OK);
+  APPEND(&now.written[first], wt_control_settings(&control, settings, 2, out, room, &used, &why));
+  write_reserved(&now.written[first]);
   write_header(&now.written[first + 4], WT_STREAM_QPACK_ENCODER);
   write_header(&now.written[first + 8], WT_STREAM_QPACK_DECODER);
   write_header(&now.written[first + 12], reserved());
   append(&now.written[first + 12], content, sizeof content);
-}
-
-static uint32_t asked_of(const exchange *e) {
-  const char *method = value_of(&e->request, ":method");
-  if (strcmp(method, "HEAD") == 0) return WT_ASKED_HEAD;
-  return strcmp(method, "CONNECT") == 0 ? WT_ASKED_CONNECT : WT_ASKED_OTHER;
 }
 
 static void reset_now(int we_serve) {

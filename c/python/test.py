@@ -378,7 +378,7 @@ def version(header):
 
 
 def main():
-    parts = ["wtransport.h", "wtransport_connection.h"]
+    parts = ["wtransport.h", "wtransport_connection.h", "wtransport_sending.h"]
     header = "".join((TOP / "c/include" / part).read_text(encoding="utf-8") for part in parts)
     by_hand()
     connection()

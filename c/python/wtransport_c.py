@@ -1,4 +1,4 @@
-"""c/include/wtransport.h and its part for ctypes: constants, structs, and arguments of its calls.
+"""c/include/wtransport.h and its parts for ctypes: constants, structs, and arguments of its calls.
 
     library = load("c/out/libwtransport.so")
 
@@ -9,7 +9,7 @@ import ctypes
 from ctypes import POINTER, c_char_p, c_int, c_size_t, c_uint8, c_uint16, c_uint32, c_uint64
 
 OK, MORE, ERROR, BUFFER_TOO_SMALL, INVALID, MEMORY = 0, 1, -1, -2, -3, -4
-UNSUPPORTED = -5
+UNSUPPORTED, REFUSED = -5, -6
 
 VERSION, VERSION_NUMBER = "0.8.0", 0x000800
 
@@ -97,6 +97,10 @@ RULE_MISSING_AUTHORITY, RULE_INVALID_AUTHORITY, RULE_CONNECT_WITH_TARGET = 15, 1
 RULE_UNEXPECTED_PROTOCOL, RULE_INVALID_PROTOCOL, RULE_CONTENT_FIELD = 18, 19, 20
 RULE_MISSING_STATUS, RULE_INVALID_STATUS, RULE_UNEXPECTED_STATUS = 21, 22, 23
 RULE_MISSING_HEAD, RULE_CONTENT_TOO_LONG, RULE_CONTENT_TOO_SHORT = 24, 25, 26
+
+SEND_UNEXPECTED, SEND_DATA_MISSING, SEND_DATA_EXCEEDED, SEND_EMPTY_DATA = 64, 65, 66, 67
+SEND_TOO_LARGE, SEND_TOO_MANY_INTERIM, SEND_INVALID_ID, SEND_ID_RISES = 68, 69, 70, 71
+SEND_UNSUPPORTED = 72
 
 
 class StreamHeader(ctypes.Structure):
@@ -204,6 +208,14 @@ class RequestBudget(ctypes.Structure):
     _fields_ = [("excess", c_uint64), ("answers", c_uint64), ("resets", c_uint64)]
 
 
+class Sending(ctypes.Structure):
+    _fields_ = [("words", c_uint64 * 12)]
+
+
+class Control(ctypes.Structure):
+    _fields_ = [("words", c_uint64 * 8)]
+
+
 # The structs of the header by their names there.
 STRUCTS = {
     "wt_stream_header": StreamHeader,
@@ -220,6 +232,8 @@ STRUCTS = {
     "wt_peer_settings": PeerSettings,
     "wt_hold": Hold,
     "wt_request_budget": RequestBudget,
+    "wt_sending": Sending,
+    "wt_control": Control,
 }
 
 SIZE, U32, U64 = POINTER(c_size_t), POINTER(c_uint32), POINTER(c_uint64)
@@ -234,6 +248,9 @@ OUT = [c_char_p, c_size_t, SIZE]
 
 CONNECTION, STREAM, EVENT = POINTER(Connection), POINTER(Stream), POINTER(Event)
 PEER, HOLD, BUDGET = POINTER(PeerSettings), POINTER(Hold), POINTER(RequestBudget)
+SENDING, CONTROL = POINTER(Sending), POINTER(Control)
+# What a call that sends writes, and why it does not.
+SENDS = [*OUT, U32]
 # The memory and the input of a call that reads a stream, and what it gives.
 RECEIVES = [CONNECTION, STREAM, *BYTES, *BYTES]
 GIVES = [*BYTES, c_uint8, EVENT, *FIELDS, *BYTES]
@@ -296,6 +313,24 @@ ARGUMENTS = {
     "wt_goaway_write": [c_uint8, c_uint64, U64, *OUT],
     "wt_request_answered": [BUDGET],
     "wt_request_reset": [BUDGET, U64],
+    "wt_send_reason_name": [c_uint32, *OUT],
+    "wt_control_new": [CONNECTION, CONTROL],
+    "wt_control_settings": [CONTROL, *SETTINGS, *SENDS],
+    "wt_control_goaway": [CONTROL, c_uint64, *SENDS],
+    "wt_sending_request": [CONNECTION, c_uint64, SENDING, U32],
+    "wt_sending_response": [CONNECTION, c_uint64, c_uint32, SENDING, U32],
+    "wt_sending_headers": [SENDING, *FIELDS, *BYTES, *SENDS],
+    "wt_sending_data": [SENDING, c_uint64, *SENDS],
+    "wt_sending_sent": [SENDING, c_uint64, U32],
+    "wt_sending_owed": [SENDING, U64],
+    "wt_sending_trailers": [SENDING, *FIELDS, *BYTES, *SENDS],
+    "wt_sending_finish": [SENDING, U32],
+    "wt_sending_connected": [SENDING, U32],
+    "wt_sending_unidirectional": [SENDING, *SENDS],
+    "wt_sending_bidirectional": [SENDING, *SENDS],
+    "wt_sending_datagram": [SENDING, *SENDS],
+    "wt_sending_drain": [SENDING, *SENDS],
+    "wt_sending_close": [SENDING, c_uint32, *BYTES, *SENDS],
     "wt_code_name": [c_uint64, *OUT],
     "wt_code_scope": [c_uint64],
     "wt_application_code_to_http3": [c_uint32],

@@ -176,6 +176,84 @@ static int receive_capsule(void) {
   return answer;
 }
 
+/* The sending side of a response, and whether a call that was refused memory left it as it was. */
+static int begin_response(wt_sending *sending) {
+  static const wt_endpoint server = {WT_SIDE_SERVER, 0, 0, 1, 4096, 4096, 100, {0, 0, 0, 0, 0}};
+  wt_connection c;
+  uint32_t why;
+  return wt_connection_new(WT_ABI, &server, &c) == WT_OK &&
+         wt_sending_response(&c, 0, WT_ASKED_SESSION, sending, &why) == WT_OK;
+}
+
+static int send_headers(void) {
+  static const wt_field status = {0, 7, 7, 3};
+  wt_sending sending, same;
+  uint8_t out[64];
+  size_t used;
+  uint32_t why;
+  int answer;
+  if (!begin_response(&sending)) return WT_INVALID;
+  same = sending;
+  answer = wt_sending_headers(&sending, &status, 1, (const uint8_t *)":status200", 10, out,
+                              sizeof out, &used, &why);
+  if (answer == WT_MEMORY && memcmp(&sending, &same, sizeof same)) return WT_INVALID;
+  return answer;
+}
+
+static int send_trailers(void) {
+  static const wt_field status = {0, 7, 7, 3}, field = {0, 5, 5, 1};
+  wt_sending sending;
+  uint8_t out[64];
+  size_t used;
+  uint32_t why;
+  long k = left;
+  if (!begin_response(&sending)) return WT_INVALID;
+  left = -1;
+  if (wt_sending_headers(&sending, &status, 1, (const uint8_t *)":status404", 10, out, sizeof out,
+                         &used, &why) != WT_OK)
+    return WT_INVALID;
+  left = k;
+  return wt_sending_trailers(&sending, &field, 1, (const uint8_t *)"x-sum1", 6, out, sizeof out,
+                             &used, &why);
+}
+
+static int send_close(void) {
+  static const wt_field status = {0, 7, 7, 3};
+  wt_sending sending, same;
+  uint8_t out[64];
+  size_t used;
+  uint32_t why;
+  long k = left;
+  int answer;
+  if (!begin_response(&sending)) return WT_INVALID;
+  left = -1;
+  if (wt_sending_headers(&sending, &status, 1, (const uint8_t *)":status200", 10, out, sizeof out,
+                         &used, &why) != WT_OK)
+    return WT_INVALID;
+  left = k;
+  same = sending;
+  answer = wt_sending_close(&sending, 1, (const uint8_t *)"bye", 3, out, sizeof out, &used, &why);
+  if (answer == WT_MEMORY && memcmp(&sending, &same, sizeof same)) return WT_INVALID;
+  return answer;
+}
+
+static int send_settings(void) {
+  static const wt_endpoint server = {WT_SIDE_SERVER, 0, 0, 1, 4096, 4096, 100, {0, 0, 0, 0, 0}};
+  static const wt_setting settings[] = {{WT_SETTING_H3_DATAGRAM, 1}};
+  wt_connection c;
+  wt_control control, same;
+  uint8_t out[16];
+  size_t used;
+  uint32_t why;
+  int answer;
+  if (wt_connection_new(WT_ABI, &server, &c) != WT_OK || wt_control_new(&c, &control) != WT_OK)
+    return WT_INVALID;
+  same = control;
+  answer = wt_control_settings(&control, settings, 1, out, sizeof out, &used, &why);
+  if (answer == WT_MEMORY && memcmp(&control, &same, sizeof same)) return WT_INVALID;
+  return answer;
+}
+
 /* A request whose first bytes are held: after WT_MEMORY they still are, and no others were taken. */
 static int receive_pushed(void) {
   static const wt_endpoint server = {WT_SIDE_SERVER, 0, 0, 1, 4096, 4096, 100, {0, 0, 0, 0, 0}};
@@ -247,6 +325,10 @@ int main(void) {
   refuse("wt_receive of a request", receive_request);
   refuse("wt_receive of a capsule", receive_capsule);
   refuse("wt_receive_pushed", receive_pushed);
+  refuse("wt_sending_headers", send_headers);
+  refuse("wt_sending_trailers", send_trailers);
+  refuse("wt_sending_close", send_close);
+  refuse("wt_control_settings", send_settings);
   printf("%lu passed, %lu failed\n", passed, failed);
   return failed > 0;
 }

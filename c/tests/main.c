@@ -31,6 +31,9 @@ int main(void) {
   test_connection_words();
   test_connection_pushes();
   test_connection_peer();
+  test_sending_messages();
+  test_sending_sessions();
+  test_sending_words();
   printf("%lu passed, %lu failed\n", passed, failed);
   return failed > 0;
 }

@@ -7,7 +7,7 @@ from __future__ import annotations
 from ctypes import Array, c_uint32, c_uint64, create_string_buffer
 from dataclasses import dataclass
 from enum import IntEnum
-from typing import Any, Callable
+from typing import Any, Callable, Iterator
 
 import wtransport_c as c
 from wtransport import Fields, check, library
@@ -25,6 +25,7 @@ HeadersKind = _numbers("HeadersKind", "HEADERS_")
 Waits = _numbers("Waits", "WAITS_")
 Known = _numbers("Known", "KNOWN_")
 DatagramUse = _numbers("DatagramUse", "DATAGRAM_")
+PAUSES = (EventKind.MORE, EventKind.WAITS)
 
 
 @dataclass(frozen=True)
@@ -35,147 +36,194 @@ class Event:
     kind: EventKind
     detail: int = 0
     number: int = 0
-    consumed: int = 0
     data: bytes = b""
     fields: Fields = ()
 
 
 @dataclass(frozen=True)
 class Limits:
-    """The largest encoded and decoded field sections that are read, and the longest datagram of a
-    capsule, in bytes."""
+    """In bytes: the largest encoded and decoded field sections that are read, the longest datagram
+    of a capsule, and what is held of a stream that waits for its session, or for something else."""
 
     max_section: int
     max_fields: int
     max_datagram: int
+    max_early: int
+    max_waiting: int
+
+
+class Connection:
+    """A server's connection, with WebTransport and datagrams, and the streams of the peer on it."""
+
+    def __init__(self, limits: Limits) -> None:
+        self.words, self.limits = c.Connection(), limits
+        self.streams: dict[int, Stream] = {}
+        self.over: dict[int, Known] = {}  # of streams that are over: what is known of their IDs
+        sizes = limits.max_section, limits.max_fields, limits.max_datagram
+        endpoint = c.Endpoint(c.SIDE_SERVER, 1, 1, 1, *sizes)
+        check(library.wt_connection_new(c.ABI, endpoint, self.words))
+
+    def accept(self, stream_id: int) -> Stream | None:
+        """Begins a stream that the peer opened; None if it is over, or is not the peer's."""
+        if stream_id % 2 == 1 or stream_id in self.over:
+            return None
+        stream = self.streams[stream_id] = Stream(self)
+        check(library.wt_stream_accept(self.words, stream_id, stream.words))
+        return stream
+
+    def stream_of(self, session: int) -> Stream:
+        """Begins the peer's half of a bidirectional stream that was opened here for a session."""
+        stream = Stream(self)
+        check(library.wt_stream_of_session(session, stream.words))
+        return stream
+
+    def forget(self, stream_id: int) -> None:
+        """Both halves of a stream are over: only what is known of its ID is kept."""
+        if stream_id in self.streams:
+            self.over[stream_id] = self.known(stream_id)
+            del self.streams[stream_id]
+
+    def known(self, session: int) -> Known:
+        """What is known of a session."""
+        known, its = c_uint32(), self.streams.get(session)
+        words = its.words if its else None
+        check(library.wt_session_known(self.words, session, words, its is not None, known))
+        return self.over.get(session, Known(known.value))
+
+    def was_stopped(self, purpose: Purpose) -> Event:
+        """The peer asked to stop a unidirectional stream that was opened here."""
+        code = c_uint64()
+        answer = library.wt_stopped(self.words, purpose, code)
+        if answer == c.ERROR:
+            return Event(EventKind.CONNECTION_ERROR, number=code.value)
+        check(answer)
+        return Event(EventKind.MORE)
+
+    def datagram(self, data: bytes) -> Event:
+        """Reads a QUIC datagram."""
+        event = c.Event()
+        check(library.wt_datagram_receive(self.words, data, len(data), event))
+        return _event_of(event, data)
+
+    def datagram_use(self, session: int) -> DatagramUse:
+        """What to do with a datagram of a session."""
+        return DatagramUse(library.wt_datagram_use(self.known(session)))
 
 
 class Stream:
-    """The state of the peer's half of a stream. `held` bytes of a capsule that is cut are in it."""
+    """The peer's half of a stream: its state, and the bytes that are held of it. `waits` is what it
+    waits for, and `session` the session if that is one."""
 
-    def __init__(self) -> None:
-        self.words, self.memory, self.held = c.Stream(), create_string_buffer(0), 0
+    def __init__(self, connection: Connection) -> None:
+        self.connection, self.words, self.hold = connection, c.Stream(), c.Hold()
+        self.waits, self.session = Waits.NOTHING, 0
+        self._room = create_string_buffer(0)  # has the bytes that are held
+        self._capsule = create_string_buffer(0)  # has those of a capsule that is cut
+        self._capsule_held = 0
+
+    @property
+    def held(self) -> int:
+        """How many bytes wait for more."""
+        return self.hold.end - self.hold.start + self._capsule_held
+
+    @property
+    def is_over(self) -> bool:
+        """The end came, and all before it was read."""
+        return self.hold.fin == 1 and not self.waits
+
+    def receive(self, chunk: bytes = b"", end: bool = False) -> Iterator[Event]:
+        """What is next on the stream, of which a chunk came, until it needs more or waits. It joins
+        its session by itself."""
+        if self.waits == Waits.SESSION:
+            yield self._join(self.session)
+        event = Event(EventKind.SKIPPED)
+        while event.kind not in PAUSES:
+            event = self._next(chunk, end)
+            chunk = chunk[self.hold.taken :]
+            if event.kind in PAUSES:
+                event = self._keep(event, len(chunk))
+            yield self._join(event.number) if event.kind == EventKind.JOINS else event
+        waits = event.kind == EventKind.WAITS
+        self.waits, self.session = (Waits(event.detail), event.number) if waits else (0, 0)
 
     def answer(self, status: int) -> None:
         """Says that a CONNECT request is answered with this status."""
         check(library.wt_stream_answer(self.words, status))
 
-    def waits(self) -> tuple[Waits, int]:
-        """What the stream waits for, and the session if that is one."""
-        waits, session = c_uint32(), c_uint64()
-        check(library.wt_stream_waits(self.words, waits, session))
-        return Waits(waits.value), session.value
+    def was_reset(self) -> Event:
+        """The peer reset the stream."""
+        return self._change(library.wt_stream_reset, drops=True)
 
+    def was_stopped(self) -> Event:
+        """The peer asked to stop the own half of a bidirectional stream."""
+        return self._change(library.wt_stream_stop)
 
-class Connection:
-    """The state of a server's connection, with WebTransport and datagrams."""
+    def abandon(self) -> Event:
+        """The stream is read no further."""
+        return self._change(library.wt_stream_abandon, drops=True)
 
-    def __init__(self, limits: Limits) -> None:
-        self._words, self._limits = c.Connection(), limits
-        sizes = limits.max_section, limits.max_fields, limits.max_datagram
-        endpoint = c.Endpoint(c.SIDE_SERVER, 1, 1, 1, *sizes)
-        check(library.wt_connection_new(c.ABI, endpoint, self._words))
-
-    def accept(self, stream_id: int) -> Stream:
-        """Begins a stream that the peer opened."""
-        stream = Stream()
-        check(library.wt_stream_accept(self._words, stream_id, stream.words))
-        return stream
-
-    def receive(self, stream: Stream, data: bytes, end: bool) -> Event:
-        """What is next in the bytes of a stream that were not consumed before."""
-        event, (fields, texts) = c.Event(), _room(self._limits)
+    def _next(self, chunk: bytes, end: bool) -> Event:
+        limits, event = self.connection.limits, c.Event()
+        fields, texts = _arrays(limits)
         check(
-            library.wt_receive(
-                *(self._words, stream.words, stream.memory, len(stream.memory), None, 0),
-                *(data, len(data), end, event, fields, len(fields), texts, len(texts)),
+            library.wt_receive_pushed(
+                *(self.connection.words, self.words, self._capsule, len(self._capsule), None, 0),
+                *(self.hold, self._room, len(self._room), chunk, len(chunk), end),
+                *(event, fields, len(fields), texts, len(texts)),
             )
         )
-        stream.held = event.held
+        self._capsule_held = event.held
         if event.kind == EventKind.SESSION_REQUESTED:
-            stream.memory = create_string_buffer(max(1028, self._limits.max_datagram))
-        return _event_of(event, data, fields, texts)
+            self._capsule = create_string_buffer(max(1028, limits.max_datagram))
+        return _event_of(event, self._room if self.hold.in_array else chunk, fields, texts)
 
-    def known(self, session: int, its: Stream | None) -> Known:
-        """What is known of a session; `its` is the stream with that ID, if there is one."""
-        known = c_uint32()
-        words = its.words if its else None
-        check(library.wt_session_known(self._words, session, words, its is not None, known))
-        return Known(known.value)
+    def _keep(self, event: Event, more: int) -> Event:
+        """Makes room for so many bytes beside those that are held, and ends a stream of which too
+        many wait. Returns the event, or what comes in its place."""
+        limits, size = self.connection.limits, self.hold.end - self.hold.start + more
+        is_early = event.kind == EventKind.WAITS and event.detail == Waits.SESSION
+        if size > (limits.max_early if is_early else limits.max_waiting):
+            return self._change(library.wt_stream_overflow, drops=True)
+        if more == 0:
+            return event
+        least = max(4112, limits.max_section + 16)
+        self._room = create_string_buffer(self._room.raw, max(least, size))
+        return Event(EventKind.SKIPPED)
 
-    def join(self, stream: Stream, known: Known) -> Event:
-        """Says what is known of the session of a stream."""
-        return self._change(library.wt_stream_join, stream, known)
+    def _join(self, session: int) -> Event:
+        """Says what is known of the session of the stream."""
+        return self._change(library.wt_stream_join, self.connection.known(session))
 
-    def reset(self, stream: Stream) -> Event:
-        """The peer reset a stream."""
-        return self._change(library.wt_stream_reset, stream)
-
-    def stop(self, stream: Stream) -> Event:
-        """The peer asked to stop the own half of a bidirectional stream."""
-        return self._change(library.wt_stream_stop, stream)
-
-    def abandon(self, stream: Stream) -> Event:
-        """A stream is read no further."""
-        return self._change(library.wt_stream_abandon, stream)
-
-    def overflow(self, stream: Stream) -> Event:
-        """More bytes of a stream wait than are kept."""
-        return self._change(library.wt_stream_overflow, stream)
-
-    def stopped(self, purpose: Purpose) -> int | None:
-        """The peer asked to stop a unidirectional stream that was opened here. Returns the error
-        code for the connection, if that is one."""
-        code = c_uint64()
-        answer = library.wt_stopped(self._words, purpose, code)
-        if answer == c.ERROR:
-            return code.value
-        return check(answer)
-
-    def datagram(self, data: bytes) -> Event:
-        """Reads a QUIC datagram."""
+    def _change(self, call: Callable[..., int], *arguments: Any, drops: bool = False) -> Event:
+        """What a call says of the stream; `drops`: the bytes that are held are lost."""
         event = c.Event()
-        check(library.wt_datagram_receive(self._words, data, len(data), event))
-        return _event_of(event, data)
-
-    def _change(self, call: Callable[..., int], stream: Stream, *arguments: Any) -> Event:
-        event = c.Event()
-        check(call(self._words, stream.words, *arguments, event))
-        stream.held = event.held
+        check(call(self.connection.words, self.words, *arguments, event))
+        self._capsule_held = event.held
+        if drops:
+            self.hold = c.Hold()
         return _event_of(event)
 
 
-def of_session(session: int) -> Stream:
-    """Begins the peer's half of a bidirectional stream that was opened here for a session."""
-    stream = Stream()
-    check(library.wt_stream_of_session(session, stream.words))
-    return stream
+_made: dict[Limits, tuple[Array, Array]] = {}
 
 
-def datagram_use(known: Known) -> DatagramUse:
-    """What to do with a datagram, by what is known of its session."""
-    return DatagramUse(library.wt_datagram_use(known))
-
-
-_rooms: dict[Limits, tuple[Array, Array]] = {}
-
-
-def _room(limits: Limits) -> tuple[Array, Array]:
-    """Room for every event: for its fields, and for their texts or other bytes."""
-    if limits not in _rooms:
+def _arrays(limits: Limits) -> tuple[Array, Array]:
+    """Room for the fields of every event, and for their texts or other bytes."""
+    if limits not in _made:
         texts = max(limits.max_fields, limits.max_datagram, c.MAX_CLOSE_REASON)
         fields = (c.Field * (limits.max_fields // 32))()
-        _rooms[limits] = fields, create_string_buffer(texts)
-    return _rooms[limits]
+        _made[limits] = fields, create_string_buffer(texts)
+    return _made[limits]
 
 
-def _event_of(event: c.Event, data: bytes = b"", fields: Any = (), texts: Any = None) -> Event:
+def _event_of(event: c.Event, data: Any = b"", fields: Any = (), texts: Any = b"") -> Event:
     """The event of a struct, with copies of its bytes."""
-    text = texts[: event.used] if event.used else b""
+    text = texts[: event.used]
     pairs = [
         (text[f.name_offset :][: f.name_length], text[f.value_offset :][: f.value_length])
         for f in fields[: event.fields]
     ]
-    piece = data[event.offset :][: event.length] if event.length else b"" if pairs else text
-    kind = EventKind(event.kind)
-    return Event(kind, event.detail, event.number, event.consumed, piece, pairs)
+    piece = data[event.offset : event.offset + event.length]
+    if event.length == 0 and not pairs:
+        piece = text
+    return Event(EventKind(event.kind), event.detail, event.number, piece, pairs)

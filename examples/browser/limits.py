@@ -112,12 +112,10 @@ async def early_streams(port: int) -> tuple[int | None, bool]:
     """Streams of a session whose request comes later: one more than may wait is rejected."""
     async with client_of(port) as client:
         head = number(0x41) + number(4 * (STREAMS + 1))
-        streams = [client.open(head + b"early") for _ in range(STREAMS + 1)]
+        streams = [client.open(head + b"early", end=True) for _ in range(STREAMS + 1)]
         *early, last = [client.stream(stream) for stream in streams]
         await client.until(lambda: None not in (last.reset, last.stopped))
         saw = await held(port, len(b"early"))
-        for stream in streams[:-1]:
-            client.send(stream, b"", end=True)
         await client.open_session(b"/echo")
         await client.until(lambda: all(stream.is_ended for stream in early))
         served = all(stream.data == b"early" for stream in early)

@@ -86,6 +86,7 @@ class Log:
         self.page_rows: deque[object] = deque(maxlen=256)
         self.counts: Counter[str] = Counter()
         self.is_done = False
+        self.most_held = 0  # the most bytes that any stream has held between two events
 
     def clear(self) -> None:
         """Begins anew, for another browser."""
@@ -99,18 +100,24 @@ class Log:
         else:
             self.rows.append([session.path, what, *values])
 
+    def note_held(self, connection: Connection, stream_id: int) -> None:
+        """Notes how many bytes a stream holds after an event."""
+        stream = connection.state.streams.get(stream_id)
+        self.most_held = max(self.most_held, stream.held if stream else 0)
+
     def summary(self, live: set[Connection]) -> dict[str, object]:
         """All of it, for JSON; `live` are the connections."""
+        streams = [stream for c in live for stream in c.streams.values()]
         return {
             "rows": list(self.rows),
             "counts": self.counts,
             "page": list(self.page_rows),
             "done": self.is_done,
-            "held": max((c.held() for c in live), default=0),
-            "undecided": Connection.most_held,
+            "held": max((s.state.held for s in streams if s.state), default=0),
+            "undecided": self.most_held,
             "sessions": sum(len(c.sessions) for c in live),
-            "readers": sum(s.can_receive for c in live for s in c.streams.values()),
-            "streams": sum(len(s.streams) for c in live for s in c.sessions.values()),
+            "readers": sum(s.can_receive for s in streams),
+            "streams": sum(s.session is not None for s in streams),
         }
 
 
@@ -161,7 +168,7 @@ class Site(Application):
         return status
 
     def opened(self, session: Session) -> None:
-        self.log.add(session, "opened", session.connection.serial)
+        self.log.add(session, "opened")
         if command(session) == "/push":
             for size in SIZES if session.path == "/push" else (0,):
                 stream = session.open_stream(bidirectional=True)
@@ -241,11 +248,11 @@ class Protocol(QuicConnectionProtocol):
     def quic_event_received(self, event: QuicEvent) -> None:
         if isinstance(event, ProtocolNegotiated):
             self.http = Connection(self._quic, self.site)
-            self.http.start()
             self.live.add(self.http)
         if self.http is not None:
             self.grease.handle(event)
             self.http.handle(event)
+            self.site.log.note_held(self.http, getattr(event, "stream_id", -1))
             self.transmit()
             if self.http.is_closed and self.http in self.live:
                 self.live.discard(self.http)

@@ -1,13 +1,12 @@
-"""Streams and sessions of a connection: what they send, and what comes of a stream's events."""
+"""Streams and sessions of a connection: how requests are answered, and what is sent."""
 from __future__ import annotations
 
 import contextlib
-from dataclasses import dataclass, field
+from dataclasses import dataclass
 from typing import TYPE_CHECKING
 
 import wtransport
 import wtransport_c as c
-from connection import Event, EventKind, HeadersKind, Purpose, of_session
 from connection import Stream as State
 from wtransport import Fields
 
@@ -21,39 +20,32 @@ DRAFT_02_ANSWER = (b"sec-webtransport-http3-draft", b"draft02")
 @dataclass(eq=False)
 class Stream:
     """A stream of a connection. `state` is that of the peer's half, if it has one, `session` the
-    session that it belongs to, and `rest` are bytes that were not read yet."""
+    session that it belongs to, and `fields` are those of a request."""
 
     connection: Connection
     id: int
     state: State | None
     session: Session | None = None
-    rest: bytes = b""
     fields: Fields = ()
-    has_ended: bool = False  # no bytes come after `rest`
-    is_stopped: bool = False  # the peer was asked to send no more
-    is_request: bool = False
-    can_receive: bool = field(init=False)
-    can_send: bool = field(init=False)
 
     def __post_init__(self) -> None:
-        self.can_receive = self.state is not None
+        self.is_bidirectional, self.can_receive = self.id % 4 < 2, self.state is not None
         self.can_send = self.is_bidirectional or not self.can_receive
 
-    @property
-    def is_bidirectional(self) -> bool:
-        return self.id % 4 < 2
-
-    def held(self) -> int:
-        """How many bytes of the stream wait for more."""
-        return len(self.rest) + (self.state.held if self.state else 0)
+    def end(self, sending: bool = False, receiving: bool = False) -> None:
+        """A half is over; the stream is forgotten when both are."""
+        self.can_send &= not sending
+        self.can_receive &= not receiving
+        if not self.can_send and not self.can_receive:
+            self.connection.streams.pop(self.id, None)
+            self.connection.state.forget(self.id)
 
     # ---- What is sent ----
 
     def send(self, data: bytes, end: bool = False) -> None:
         if self.can_send:
             self.connection.quic.send_stream_data(self.id, data, end)
-            self.can_send = not end
-            self.connection.release(self)
+            self.end(sending=end)
 
     def reset(self, code: int) -> None:
         """Resets the own half with an application's code."""
@@ -67,109 +59,79 @@ class Stream:
         """Ends both halves with an HTTP/3 code; what still comes is dropped."""
         self._reset(number)
         self._stop(number)
-        self.connection.abandon(self)
-        if self.session:
-            self.session.streams.pop(self.id, None)
+        self.abandon()
+
+    def abandon(self) -> None:
+        """Reads the stream no further."""
+        if self.can_receive:
+            event = self.state.abandon()
+            self.end(receiving=True)
+            self.connection.act(self, event)
 
     def _reset(self, number: int) -> None:
         if self.can_send:
             self.connection.quic.reset_stream(self.id, number)
-            self.can_send = False
-            self.connection.release(self)
+            self.end(sending=True)
 
     def _stop(self, number: int) -> None:
-        if self.can_receive and not self.has_ended and not self.is_stopped:
-            self.is_stopped = True
+        if self.can_receive:
             with contextlib.suppress(ValueError):  # it has ended, and aioquic has dropped it
                 self.connection.quic.stop_stream(self.id, number)
 
-    def _refuse(self, status: int) -> None:
-        """Answers a request of which no more is read."""
-        self.send(wtransport.write_response(status), True)
-        self.state.answer(status)
-        self._stop(c.H3_NO_ERROR)
-        self.connection.abandon(self)
-
     # ---- What comes ----
 
-    def act(self, event: Event, code: int) -> None:
-        """Does what an event of the peer's half requires. `code` is that of a reset."""
-        application, session = self.connection.application, self.connection.sessions.get(self.id)
-        match event.kind:
-            case EventKind.OPENED:
-                self._open(event.detail)
-            case EventKind.JOINED:
-                self.session = self.connection.sessions[event.number]
-                self.session.streams[self.id] = self
-            case EventKind.STREAM_DATA:
-                application.received(self, event.data, False)
-            case EventKind.SESSION_REQUESTED:
-                self._answer(event.fields)
-            case EventKind.SESSION_CLOSED:
-                self.send(b"", True)
-                session.end(event.number, event.data.decode())
-            case EventKind.SESSION_LOST if session:
-                self.abort(code)
-                session.end(None, "")
-            case EventKind.DATAGRAM:
-                application.datagram(session, event.data)
-            case EventKind.SETTINGS:
-                application.settings(wtransport.read_settings(event.data))
-            case _:
-                self._act_on_message(event, code)
+    def ask(self, fields: Fields) -> None:
+        """A request came, which is answered when it has ended. CONNECT is for no session here."""
+        self.fields = fields
+        if (b":method", b"CONNECT") in fields:
+            self.refuse(501)
 
-    def _act_on_message(self, event: Event, code: int) -> None:
-        match event.kind:
-            case EventKind.HEADERS if event.detail == HeadersKind.REQUEST:
-                self.fields = event.fields
-                if (b":method", b"CONNECT") in self.fields:  # for another protocol, or none
-                    self._refuse(501)
-            case EventKind.TOO_LARGE:
-                self._refuse(431)
-            case EventKind.MALFORMED | EventKind.STREAM_ERROR:
-                self.abort(event.number)
-            case EventKind.END if self.session:
-                self.connection.application.received(self, b"", True)
-            case EventKind.END if self.fields:
-                self._respond(*self.connection.application.request(self.fields))
-            case EventKind.RESET if self.session:
-                self.connection.application.was_reset(self, wtransport.to_application(code))
-            case EventKind.RESET:
-                self._reset(event.number if event.detail else c.H3_REQUEST_CANCELLED)
-
-    def was_stopped(self, code: int) -> None:
-        """The peer asked to send no more, and aioquic has reset the own half."""
-        self.can_send = False
-        if self.is_request:  # it can have no answer
-            self.abort(c.H3_REQUEST_CANCELLED)
-        elif self.session and self.id in self.session.streams:
-            self.connection.application.was_stopped(self, wtransport.to_application(code))
-        self.connection.release(self)
-
-    def _open(self, purpose: int) -> None:
-        self.is_request = purpose == Purpose.MESSAGE
-        if self.is_request and not self.can_send:
-            self.abort(c.H3_REQUEST_CANCELLED)
-        elif purpose == Purpose.IGNORED:
-            self._stop(c.H3_STREAM_CREATION_ERROR)
-
-    def _respond(self, status: int, fields: Fields, content: bytes) -> None:
-        """Answers a request; one with HEAD without the content (RFC 9110, section 9.3.2)."""
-        is_head = (b":method", b"HEAD") in self.fields
-        data = b"" if is_head else wtransport.write_data(content)
-        self.send(wtransport.write_response(status, fields) + data, True)
-
-    def _answer(self, fields: Fields) -> None:
-        """Answers the request for a session."""
+    def ask_session(self, fields: Fields) -> None:
+        """A request for a session came."""
+        connection, self.fields = self.connection, fields
         session = Session(self, dict(fields)[b":path"].decode("utf-8", "replace"))
-        status = self.connection.application.session(session, fields)
+        status = connection.application.session(session, fields)
         if status != 200:
-            self._refuse(status)
+            self.refuse(status)
             return
         answer = [DRAFT_02_ANSWER] if DRAFT_02 in fields else []
         self.send(wtransport.write_response(status, answer))
         self.state.answer(status)
-        self.connection.open_session(session)
+        connection.sessions[self.id] = session
+        connection.application.opened(session)
+
+    def refuse(self, status: int) -> None:
+        """Answers a request of which no more is read."""
+        self.send(wtransport.write_response(status), True)
+        self.state.answer(status)
+        self._stop(c.H3_NO_ERROR)
+        self.abandon()
+
+    def was_ended(self) -> None:
+        """The peer sends no more: a request is answered, and with HEAD without the content."""
+        if self.session:
+            self.connection.application.received(self, b"", True)
+        elif self.fields:
+            status, fields, content = self.connection.application.request(self.fields)
+            is_head = (b":method", b"HEAD") in self.fields
+            data = b"" if is_head else wtransport.write_data(content)
+            self.send(wtransport.write_response(status, fields) + data, True)
+
+    def was_reset(self, code: int) -> None:
+        """The peer reset its half."""
+        event = self.state.was_reset()
+        self.end(receiving=True)
+        self.connection.act(self, event, code)
+
+    def was_stopped(self, code: int) -> None:
+        """The peer asked to send no more, and aioquic has reset the own half."""
+        if self.state:
+            self.connection.act(self, self.state.was_stopped())
+        self.end(sending=True)
+        if self.fields:
+            self.abort(c.H3_REQUEST_CANCELLED)
+        elif self.session:
+            self.connection.application.was_stopped(self, wtransport.to_application(code))
 
 
 @dataclass(eq=False)
@@ -178,40 +140,34 @@ class Session:
 
     stream: Stream
     path: str
-    streams: dict[int, Stream] = field(default_factory=dict)
-
-    @property
-    def connection(self) -> Connection:
-        return self.stream.connection
-
-    @property
-    def id(self) -> int:
-        return self.stream.id
 
     def open_stream(self, bidirectional: bool) -> Stream:
         """Opens a stream, and writes its header."""
-        state = of_session(self.id) if bidirectional else None
-        stream = self.connection.open_stream(state, self)
-        self.streams[stream.id] = stream
+        connection, session = self.stream.connection, self.stream.id
+        number = connection.quic.get_next_available_stream_id(is_unidirectional=not bidirectional)
+        state = connection.state.stream_of(session) if bidirectional else None
+        stream = connection.streams[number] = Stream(connection, number, state, self)
         if bidirectional:
-            stream.send(wtransport.write_session_frame(self.id))
+            stream.send(wtransport.write_session_frame(session))
         else:
-            stream.send(wtransport.write_stream_header(c.STREAM_WEBTRANSPORT, self.id))
+            stream.send(wtransport.write_stream_header(c.STREAM_WEBTRANSPORT, session))
         return stream
 
     def send_datagram(self, payload: bytes) -> None:
-        self.connection.quic.send_datagram_frame(wtransport.write_datagram(self.id, payload))
+        datagram = wtransport.write_datagram(self.stream.id, payload)
+        self.stream.connection.quic.send_datagram_frame(datagram)
 
     def close(self, code: int, reason: str) -> None:
         """Closes the session: its last DATA frame has the close capsule."""
         self.stream.send(wtransport.write_close(code, reason), True)
         self.end(code, reason)
-        self.connection.abandon(self.stream)
+        self.stream.abandon()
 
     def end(self, code: int | None, reason: str) -> None:
-        """The session is over: its streams are reset and stopped."""
-        if self.connection.sessions.pop(self.id, None):
-            for stream in list(self.streams.values()):
+        """The session is over: its own stream ends, and the others are reset and stopped."""
+        connection = self.stream.connection
+        if connection.sessions.pop(self.stream.id, None):
+            self.stream.send(b"", True)
+            for stream in [s for s in connection.streams.values() if s.session is self]:
                 stream.abort(c.WEBTRANSPORT_SESSION_GONE)
-            self.connection.application.closed(self, code, reason)
-            self.connection.has_changed = True
+            connection.application.closed(self, code, reason)

@@ -86,7 +86,7 @@ static void fail(session *of_it, const char *what, uint64_t number) {
 static bool open_stream(session *of_it) {
   uint8_t bytes[MAX_SIZE];
   bool one_way = of_it->opened % 5 == 2;
-  h3_stream *s = h3_open(of_it->s, !one_way);
+  h3_stream *s = (of_it->ready ? h3_open : h3_open_early)(of_it->s, !one_way);
   if (s == NULL) return false;
   echo *e = s->user = allocate(sizeof *e);
   e->size = of_it->opened % 4 == 3 ? random_below(MAX_SIZE) : random_below(200);
@@ -109,7 +109,7 @@ static void open_reset_stream(session *of_it) {
 }
 
 static void send_datagram(session *of_it) {
-  h3_send_datagram(of_it->s, "datagram", 8);
+  (of_it->ready ? h3_send_datagram : h3_send_datagram_early)(of_it->s, "datagram", 8);
   datagrams_sent++;
 }
 

@@ -6,6 +6,7 @@
 #include <string.h>
 
 static const uint64_t no_session = UINT64_MAX;
+static const uint8_t none; /* where no bytes are */
 static uint8_t side;
 static bool late_settings;
 static wt_field fields[FIELDS];
@@ -47,7 +48,7 @@ h3_stream *h3_find(h3_connection *c, uint64_t id) {
 
 static void free_stream(h3_stream *s) {
   on_stream_over(s);
-  free(s->bytes);
+  free(s->room);
   free(s->held);
   free(s);
 }
@@ -72,14 +73,20 @@ void h3_close_connection(h3_connection *c, uint64_t code) {
   quic_close(c->quic, code);
 }
 
+/* Drops the bytes that are held: no call of the library tells their credit any more. */
+static void drop(h3_stream *s) {
+  if (s->quic) quic_consume(s->quic, s->hold.end - s->hold.start);
+  s->hold = (wt_hold){0};
+  s->waits = false;
+}
+
 /* Ends both halves of a stream with an error code. */
 static void end_halves(h3_stream *s, uint64_t code) {
   quic_stream *q = s->quic;
   if (q == NULL) return;
   quic_reset(q, code);
   quic_stop(q, code);
-  s->length = 0;
-  s->waits = false;
+  drop(s);
   if (!s->writes) quic_done(q);
 }
 
@@ -128,9 +135,19 @@ static void refuse_fields(h3_stream *s) {
   if (s->quic) quic_stop(s->quic, WT_H3_NO_ERROR);
 }
 
+/* What a request asks for, by its method; other sections change nothing. */
+static uint32_t asked_by(const h3_stream *s, const h3_event *e) {
+  size_t length;
+  if (e->wt.detail != WT_HEADERS_REQUEST) return s->asked;
+  const uint8_t *method = h3_field(e, ":method", &length);
+  if (h3_is(method, length, "HEAD")) return WT_ASKED_HEAD;
+  return h3_is(method, length, "CONNECT") ? WT_ASKED_CONNECT : WT_ASKED_OTHER;
+}
+
 /* Does what an event requires, and passes it on. */
 void h3_act(h3_stream *s, const h3_event *e) {
   h3_connection *c = s->c;
+  uint32_t why;
   switch (e->wt.kind) {
   case WT_EVENT_MORE: return;
   case WT_EVENT_WAITS: s->waits = true; return;
@@ -139,8 +156,11 @@ void h3_act(h3_stream *s, const h3_event *e) {
   case WT_EVENT_OPENED:
     if (e->wt.detail == WT_PURPOSE_IGNORED) h3_end_stream(s, WT_H3_STREAM_CREATION_ERROR);
     return;
+  case WT_EVENT_HEADERS: s->asked = asked_by(s, e); break;
+  case WT_EVENT_SESSION_READY: (void)wt_sending_connected(&s->sending, &why); break;
   case WT_EVENT_SESSION_REQUESTED:
     s->is_session = true;
+    s->asked = WT_ASKED_SESSION;
     if (s->held == NULL) s->held = h3_allocate(HELD);
     break;
   case WT_EVENT_JOINED: s->session = e->wt.number; break;
@@ -162,54 +182,41 @@ void h3_act(h3_stream *s, const h3_event *e) {
   }
 }
 
-/* Reads all that is next in the bytes of a stream, and returns how many were consumed. */
-static size_t read_events(h3_stream *s, const uint8_t *bytes, size_t length) {
-  h3_connection *c = s->c;
-  h3_event e = {.fields = fields, .out = out};
-  size_t start = 0;
-  s->waits = false;
-  do {
-    int answer = wt_receive(&c->wt, &s->wt, s->held, s->held ? HELD : 0, NULL, 0, bytes + start,
-                            length - start, s->fin, &e.wt, fields, FIELDS, out, sizeof out);
-    if (answer != WT_OK) {
-      h3_close_connection(c, WT_H3_INTERNAL_ERROR);
-      return length;
-    }
-    e.bytes = bytes + start + e.wt.offset;
-    start += e.wt.consumed;
-    bool data = e.wt.kind == WT_EVENT_DATA || e.wt.kind == WT_EVENT_STREAM_DATA;
-    if (s->quic) quic_consume(s->quic, e.wt.consumed - (data ? e.wt.length : 0));
-    h3_act(s, &e);
-  } while (e.wt.kind != WT_EVENT_MORE && e.wt.kind != WT_EVENT_WAITS && !c->broken && !s->ended);
-  return s->ended ? length : start;
+static bool is_content(const wt_event *e) {
+  return e->kind == WT_EVENT_DATA || e->kind == WT_EVENT_STREAM_DATA;
 }
 
-/* Reads what came after what waits, and keeps the rest: at most the stream's window of flow
-   control, since only what is consumed is credited. */
-static void read_stream(h3_stream *s, const uint8_t *bytes, size_t length) {
-  if (s->length == 0) {
-    uint8_t none = 0;
-    size_t consumed = read_events(s, bytes ? bytes : &none, length);
-    if (consumed < length) {
-      s->length = length - consumed;
-      s->bytes = h3_allocate(QUIC_STREAM_WINDOW);
-      memcpy(s->bytes, bytes + consumed, s->length);
+/* Reads all that is next on a stream, of which these bytes came. What waits is held: at most the
+   stream's window of flow control, since only what is consumed is credited. */
+static void read_stream(h3_stream *s, const uint8_t *bytes, size_t length, bool fin) {
+  h3_connection *c = s->c;
+  h3_event e = {.fields = fields, .out = out};
+  bool pauses;
+  s->waits = false;
+  do {
+    if (wt_receive_pushed(&c->wt, &s->wt, s->held, s->held ? HELD : 0, NULL, 0, &s->hold, s->room,
+                          s->room ? QUIC_STREAM_WINDOW : 0, bytes, length, fin, &e.wt, fields,
+                          FIELDS, out, sizeof out) != WT_OK) {
+      h3_close_connection(c, WT_H3_INTERNAL_ERROR);
+      return;
     }
-  } else {
-    if (length > QUIC_STREAM_WINDOW - s->length) length = 0; /* flow control forbids it */
-    if (length > 0) memcpy(s->bytes + s->length, bytes, length);
-    s->length += length;
-    size_t consumed = read_events(s, s->bytes, s->length);
-    if (s->length > 0) {
-      s->length -= consumed;
-      memmove(s->bytes, s->bytes + consumed, s->length);
+    e.bytes = (s->hold.in_array ? s->room : bytes) + e.wt.offset;
+    bytes += s->hold.taken;
+    length -= s->hold.taken;
+    if (s->quic) quic_consume(s->quic, e.wt.consumed - (is_content(&e.wt) ? e.wt.length : 0));
+    h3_act(s, &e);
+    pauses = e.wt.kind == WT_EVENT_MORE || e.wt.kind == WT_EVENT_WAITS;
+    if (pauses && length > 0 && s->room == NULL) {
+      s->room = h3_allocate(QUIC_STREAM_WINDOW);
+      pauses = false;
     }
-    if (s->length == 0) {
-      free(s->bytes);
-      s->bytes = NULL;
-    }
+  } while (!pauses && !c->broken && !s->ended);
+  if (s->hold.start == s->hold.end) {
+    free(s->room);
+    s->room = NULL;
+    s->hold.start = s->hold.end = 0;
+    if (s->quic && s->hold.fin && !s->waits) quic_done(s->quic);
   }
-  if (s->quic && s->fin && s->length == 0 && !s->waits) quic_done(s->quic);
 }
 
 /* Reads a stream again that waits for its session, SETTINGS or an answer. */
@@ -218,7 +225,7 @@ static void wake(h3_stream *s) {
   uint64_t session;
   if (wt_stream_waits(&s->wt, &waits, &session) == WT_OK && waits == WT_WAITS_SESSION)
     join(s, session);
-  if (s->quic && !s->c->broken) read_stream(s, NULL, 0);
+  if (s->quic && !s->c->broken) read_stream(s, &none, 0, false);
 }
 
 /* After each call of QUIC: reads streams whose wait may be over, and frees those that are gone. */
@@ -264,8 +271,7 @@ void on_data(quic_stream *q, const uint8_t *bytes, size_t length, bool fin) {
   h3_stream *s = *quic_stream_user(q);
   h3_connection *c = s->c;
   if (c->broken) return;
-  s->fin |= fin;
-  read_stream(s, bytes, length);
+  read_stream(s, length > 0 ? bytes : &none, length, fin);
   settle(c);
 }
 
@@ -275,8 +281,7 @@ void on_reset(quic_stream *q, uint64_t code) {
   h3_event e = {.code = code};
   if (c->broken) return;
   if (wt_stream_reset(&c->wt, &s->wt, &e.wt) != WT_OK) h3_close_connection(c, WT_H3_INTERNAL_ERROR);
-  s->waits = false;
-  s->length = 0;
+  drop(s);
   h3_act(s, &e);
   if (s->quic) quic_done(s->quic);
   settle(c);

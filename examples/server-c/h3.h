@@ -15,15 +15,17 @@ struct h3_stream {
   h3_connection *c;
   quic_stream *quic; /* null: it is gone */
   wt_stream wt;
+  wt_sending sending; /* of the request's message, or of the response */
+  uint32_t asked;     /* what the request asks for, at a server: one of WT_ASKED_.. */
   uint64_t id;
   uint64_t session; /* of a stream of a session; UINT64_MAX: it has none */
   void *user; /* the program's: null at first */
   uint64_t content; /* the program's: how much of its content came */
   /* the rest is for h3.c */
   h3_stream *next;
-  uint8_t *bytes, *held; /* what was not consumed; of a capsule that is cut */
-  size_t length;
-  bool fin, is_session, writes, waits, ended;
+  wt_hold hold;
+  uint8_t *room, *held; /* what was not consumed; of a capsule that is cut */
+  bool is_session, answers, writes, waits, ended;
 };
 
 struct h3_connection {
@@ -76,9 +78,15 @@ void h3_send_content(h3_stream *s, const void *bytes, size_t length, bool fin);
 h3_stream *h3_connect(h3_connection *c, const char *url, bool sent);
 void h3_request(h3_stream *s, const char *url, bool fin);
 
-/* Opens a stream of a session, null if the peer allows no more for now, and sends on it. */
+/* Opens a stream of a session, null if the session is not open or the peer allows no more for now,
+   and sends on it. */
 h3_stream *h3_open(h3_stream *session, bool bidirectional);
 void h3_send(h3_stream *s, const void *bytes, size_t length, bool fin);
+
+/* A stream and a datagram before the session is open, to test a server, which lets the stream wait
+   and drops the datagram: the calls of wt_sending refuse both. */
+h3_stream *h3_open_early(h3_stream *session, bool bidirectional);
+void h3_send_datagram_early(h3_stream *session, const void *bytes, size_t length);
 
 /* Sends a whole unidirectional stream of a session, as soon as the peer allows one more. */
 void h3_send_one_way(h3_stream *session, const void *bytes, size_t length);

@@ -176,7 +176,9 @@ pub enum Event<'a> {
     /// An error of the connection: close it with the code. No event follows on any stream, and every
     /// session is lost.
     ConnectionError(Code),
-    /// The peer reset the stream before its last event. Reset the own half with the code, if there is one.
+    /// The peer reset the stream before its last event. Reset the own half with the code, if there is one. For a
+    /// stream of a session there is none: what becomes of the own half is the application's to decide, and
+    /// [`from_http3`](crate::error::application_codes::from_http3) says which of its codes QUIC's is.
     Reset(Option<Code>),
     /// The stream ended, without an error.
     End,

@@ -2,10 +2,10 @@
 //! whose calls are proved to do what their definitions say.
 //!
 //! This crate is Vesgrauf's. It is neither the crate `wtransport`, which is an endpoint with sockets, nor
-//! `wtransport-proto`, which is its protocol core and has the same purpose as this crate: the README says
-//! what corresponds to what. It has no dependencies, no socket, no clock and no runtime: bytes of streams
-//! and datagrams go in, events come out, and what is sent is written as bytes. A whole server and a client
-//! over quinn are in the folder `quinn` beside this crate.
+//! `wtransport-proto`, which is its protocol core and has the same purpose as this crate: the page MIGRATION.md
+//! beside this crate says what corresponds to what. It has no dependencies, no socket, no clock and no runtime:
+//! bytes of streams and datagrams go in, events come out, and what is sent is written as bytes. A whole server
+//! and a client over quinn are in the folder `quinn` beside this crate.
 //!
 //! # What is where
 //!
@@ -32,7 +32,8 @@
 //! 2. For each stream of the peer: [`Connection::accept`], and [`Connection::receive`] with its bytes.
 //! 3. It does what the comment of each [`Event`] says.
 //! 4. It reads streams that [wait](Event::Waits) again: for a session after that was answered or ended, for
-//!    SETTINGS after they came, for an answer after [`Stream::answer`].
+//!    SETTINGS after they came, for an answer after [`Stream::answer`]. One that waits for its session is given
+//!    to [`Connection::join`] first, with what is [known](Connection::known) now.
 //! 5. A reset of a stream, a request to stop it and a datagram go to [`Connection::reset`],
 //!    [`Connection::stop`] (or [`Connection::stopped`]) and [`Connection::datagram`].
 //! 6. To close a session it writes what
@@ -54,6 +55,21 @@
 //!
 //! [`Connection::receive`] wants the bytes that were not consumed again, with more after them. If QUIC gives each
 //! byte once, [`Connection::receive_pushed`] reads the chunks, and a [`PushedStream`] holds what is left.
+//!
+//! What quinn calls these things:
+//!
+//! | quinn 0.9 | Here |
+//! |---|---|
+//! | `Connection::accept_bi`, `accept_uni`; `VarInt::from(stream.id()).into_inner()` is the ID | [`Connection::accept`] |
+//! | `RecvStream::read_chunk`: bytes, or `None` at the end | [`Connection::receive`], with `fin` at the end |
+//! | the error `ReadError::Reset` | [`Connection::reset`] |
+//! | `SendStream::stopped`, or the error `WriteError::Stopped` | [`Connection::stop`], [`Connection::stopped`] |
+//! | `Connection::read_datagram` | [`Connection::datagram`] |
+//! | `SendStream::reset`, `RecvStream::stop`, `Connection::close` with `VarInt::from_u64(code.number())` | what an error asks for |
+//!
+//! A task for each stream reads it in a loop. The tasks of a connection share the [`Connection`] and the table of its
+//! [`Stream`]s in a mutex, which none of them holds while it waits, and a `tokio::sync::Notify` that wakes those whose
+//! streams wait. `SendStream::finish` of quinn 0.9 panics if it is called again after it ended.
 //!
 //! Here a client of this crate asks such a server for a session, without a network in between:
 //!
@@ -130,7 +146,7 @@
 //!
 //! # Memory and safety
 //!
-//! All unsafe code is in `src/sys.rs` and `src/sys/connections.rs`. A [`Connection`] has no table and no queue. It keeps memory
+//! All unsafe code is in `src/sys.rs`. A [`Connection`] has no table and no queue. It keeps memory
 //! for one field section, a datagram and a reason, within its [`Limits`], and a [`Stream`] that of a capsule
 //! that is cut: at most 1,028 bytes, or [`Limits::max_datagram`] if that is more. How many bytes of a stream
 //! wait is the caller's own limit ([`Connection::overflow`], [`PushedStream::new`]).
@@ -141,6 +157,11 @@
 #![warn(missing_docs)]
 
 extern crate alloc;
+
+/// The code of the page is tested.
+#[cfg(doctest)]
+#[doc = include_str!("../MIGRATION.md")]
+mod migration {}
 
 pub mod budget;
 pub mod capsule;

@@ -1,5 +1,4 @@
-//! The C calls as safe functions: the only unsafe code of this crate. Those of connections are in
-//! `connections`.
+//! The C calls as safe functions: the only unsafe code of this crate.
 //!
 //! What makes them safe is that each pointer comes from a reference or a slice whose length goes with
 //! it, that Rust forbids a `&mut` to overlap anything, and that the library keeps no pointer. The
@@ -7,21 +6,23 @@
 //! not valid for it. Whatever it returns is checked by slicing.
 #![allow(unsafe_code)]
 
-mod connections;
 mod constants;
 mod declarations;
+mod room;
 #[cfg(test)]
 mod tests;
 
-pub use self::connections::*;
 pub use self::constants::*;
 use self::declarations::*;
 pub use self::declarations::{
     Capsule, CapsuleReader, Connection, Endpoint, Event, Field, Frame, Hold, PeerSettings, Reader,
     RequestBudget, Setting, Stream, StreamHeader,
 };
+pub use self::room::Room;
+use self::room::{expect_ok, name};
 use alloc::string::String;
 use alloc::vec::Vec;
+use core::cell::Cell;
 
 /// Appends what a call writes into the room that it is given, and returns the answer of the call. If
 /// that is not `WT_OK`, the bytes are unchanged. `guess`: how many bytes it is likely to write.
@@ -47,19 +48,7 @@ where
     }
 }
 
-/// Returns the name that a call writes, or `None` if there is none.
-fn name<F>(call: F) -> Option<String>
-where
-    F: Fn(*mut i8, usize, &mut usize) -> i32,
-{
-    let mut text = Vec::new();
-    match append(&mut text, 64, |out, room, used| call(out.cast(), room, used)) {
-        WT_OK => String::from_utf8(text).ok(),
-        _ => None,
-    }
-}
-
-// SAFETY of every call below, and in `connections`: the pointers are those of references and slices, with their lengths, for
+// SAFETY of every call below: the pointers are those of references and slices, with their lengths, for
 // the time of the call; those that are written are of exclusive borrows, or of the room of `append`.
 
 pub fn version() -> u32 {
@@ -210,7 +199,6 @@ pub fn request_write(url: &[u8], fields: &[Field], texts: &[u8], out: &mut Vec<u
 /// Appends the authority and the path of a request: the answer, the size of the authority, and the
 /// error code.
 pub fn request_read(section: &[u8], out: &mut Vec<u8>) -> (i32, usize, u64) {
-    use core::cell::Cell;
     let (authority, code) = (Cell::new(0), Cell::new(0));
     let (start, length) = (section.as_ptr(), section.len());
     let answer = append(out, length, |out, room, used| unsafe {
@@ -293,7 +281,212 @@ pub fn application_code_from_http3(number: u64) -> Option<u32> {
     }
 }
 
-/// Panics if the library rejects a state that it made.
-pub fn expect_ok(answer: i32) {
-    assert!(answer == WT_OK, "libwtransport rejected a state of its own: {answer}");
+// The calls of connections.
+
+pub fn connection_new(endpoint: &Endpoint) -> Option<Connection> {
+    let mut connection = Connection::default();
+    match unsafe { wt_connection_new(WT_ABI, endpoint, &mut connection) } {
+        WT_OK => Some(connection),
+        _ => None,
+    }
+}
+
+/// Returns the state of the connection of a client that resumes a session of TLS.
+pub fn connection_resuming(endpoint: &Endpoint, remembered: &PeerSettings) -> Option<Connection> {
+    let mut connection = Connection::default();
+    match unsafe { wt_connection_resuming(WT_ABI, endpoint, remembered, &mut connection) } {
+        WT_OK => Some(connection),
+        _ => None,
+    }
+}
+
+pub fn connection_settings(connection: &Connection) -> PeerSettings {
+    let mut settings = PeerSettings::default();
+    expect_ok(unsafe { wt_connection_settings(connection, &mut settings) });
+    settings
+}
+
+pub fn early_data_refused(connection: &mut Connection) {
+    expect_ok(unsafe { wt_early_data_refused(connection) });
+}
+
+pub fn connection_allows_sessions(connection: &Connection) -> bool {
+    is_true(unsafe { wt_connection_allows_sessions(connection) })
+}
+
+pub fn connection_unprocessed(connection: &Connection, id: u64) -> bool {
+    is_true(unsafe { wt_connection_unprocessed(connection, id) })
+}
+
+pub fn stream_accept(connection: &mut Connection, id: u64) -> Stream {
+    let mut stream = Stream::default();
+    expect_ok(unsafe { wt_stream_accept(connection, id, &mut stream) });
+    stream
+}
+
+pub fn stream_of_request(connection: &Connection, asked: u32) -> Stream {
+    let mut stream = Stream::default();
+    expect_ok(unsafe { wt_stream_of_request(connection, asked, &mut stream) });
+    stream
+}
+
+pub fn stream_of_session(session: u64) -> Stream {
+    let mut stream = Stream::default();
+    expect_ok(unsafe { wt_stream_of_session(session, &mut stream) });
+    stream
+}
+
+pub fn receive(
+    connection: &mut Connection,
+    stream: &mut Stream,
+    bytes: &[u8],
+    fin: bool,
+    room: Room<'_>,
+) -> (i32, Event) {
+    let mut event = Event::default();
+    let answer = unsafe {
+        wt_receive(
+            connection,
+            stream,
+            room.held.as_mut_ptr(),
+            room.held.len(),
+            core::ptr::null_mut(),
+            0,
+            bytes.as_ptr(),
+            bytes.len(),
+            fin.into(),
+            &mut event,
+            room.fields.as_mut_ptr(),
+            room.fields.len(),
+            room.out.as_mut_ptr(),
+            room.out.len(),
+        )
+    };
+    (answer, event)
+}
+
+/// Reads a chunk of a stream whose bytes come once. `bytes` holds what is left of it, as `hold` says.
+pub fn receive_pushed(
+    connection: &mut Connection,
+    stream: &mut Stream,
+    (hold, bytes): (&mut Hold, &mut [u8]),
+    chunk: &[u8],
+    fin: bool,
+    room: Room<'_>,
+) -> (i32, Event) {
+    let mut event = Event::default();
+    let answer = unsafe {
+        wt_receive_pushed(
+            connection,
+            stream,
+            room.held.as_mut_ptr(),
+            room.held.len(),
+            core::ptr::null_mut(),
+            0,
+            hold,
+            bytes.as_mut_ptr(),
+            bytes.len(),
+            chunk.as_ptr(),
+            chunk.len(),
+            fin.into(),
+            &mut event,
+            room.fields.as_mut_ptr(),
+            room.fields.len(),
+            room.out.as_mut_ptr(),
+            room.out.len(),
+        )
+    };
+    (answer, event)
+}
+
+pub fn stream_answer(stream: &mut Stream, status: u32) {
+    expect_ok(unsafe { wt_stream_answer(stream, status) });
+}
+
+pub fn session_known(connection: &Connection, session: u64, its: &[Stream]) -> u32 {
+    let mut known = 0;
+    expect_ok(unsafe {
+        wt_session_known(connection, session, its.as_ptr(), its.len(), &mut known)
+    });
+    known
+}
+
+pub fn stream_join(connection: &mut Connection, stream: &mut Stream, known: u32) -> Event {
+    event(|event| unsafe { wt_stream_join(connection, stream, known, event) })
+}
+
+pub fn stream_waits(stream: &Stream) -> (u32, u64) {
+    let (mut waits, mut session) = (0, 0);
+    expect_ok(unsafe { wt_stream_waits(stream, &mut waits, &mut session) });
+    (waits, session)
+}
+
+pub fn stream_belongs(stream: &Stream) -> Option<u64> {
+    let (mut belongs, mut session) = (0, 0);
+    expect_ok(unsafe { wt_stream_belongs(stream, &mut belongs, &mut session) });
+    (belongs == 1).then_some(session)
+}
+
+pub fn stream_reset(connection: &mut Connection, stream: &mut Stream) -> Event {
+    event(|event| unsafe { wt_stream_reset(connection, stream, event) })
+}
+
+pub fn stream_stop(connection: &mut Connection, stream: &mut Stream) -> Event {
+    event(|event| unsafe { wt_stream_stop(connection, stream, event) })
+}
+
+pub fn stream_abandon(connection: &mut Connection, stream: &mut Stream) -> Event {
+    event(|event| unsafe { wt_stream_abandon(connection, stream, event) })
+}
+
+pub fn stream_overflow(connection: &mut Connection, stream: &mut Stream) -> Event {
+    event(|event| unsafe { wt_stream_overflow(connection, stream, event) })
+}
+
+pub fn stopped(connection: &mut Connection, purpose: u32) -> (i32, u64) {
+    let mut code = 0;
+    let answer = unsafe { wt_stopped(connection, purpose, &mut code) };
+    (answer, code)
+}
+
+pub fn datagram_receive(connection: &mut Connection, bytes: &[u8]) -> Event {
+    let (start, length) = (bytes.as_ptr(), bytes.len());
+    event(|event| unsafe { wt_datagram_receive(connection, start, length, event) })
+}
+
+pub fn datagram_use(known: u32) -> i32 {
+    unsafe { wt_datagram_use(known) }
+}
+
+pub fn goaway_write(side: u8, id: u64, last: &mut u64, out: &mut Vec<u8>) -> i32 {
+    let last = Cell::from_mut(last);
+    append(out, 16, |out, room, used| unsafe {
+        wt_goaway_write(side, id, last.as_ptr(), out, room, used)
+    })
+}
+
+pub fn request_answered(budget: &mut RequestBudget) {
+    expect_ok(unsafe { wt_request_answered(budget) });
+}
+
+/// Counts a request that was reset before its answer: returns an error code if that is one too many.
+pub fn request_reset(budget: &mut RequestBudget) -> Option<u64> {
+    let mut code = 0;
+    match unsafe { wt_request_reset(budget, &mut code) } {
+        WT_OK => None,
+        WT_ERROR => Some(code),
+        answer => panic!("libwtransport returned {answer}"),
+    }
+}
+
+/// Returns the event that a call writes, which cannot fail for states that the library made.
+fn event(call: impl FnOnce(&mut Event) -> i32) -> Event {
+    let mut event = Event::default();
+    expect_ok(call(&mut event));
+    event
+}
+
+fn is_true(answer: i32) -> bool {
+    assert!(answer >= 0, "libwtransport rejected a state of its own");
+    answer == 1
 }

@@ -176,11 +176,11 @@ static STREAMS: [Row; 22] = [
         end: ("whole", 0),
     },
     Row {
-        case: "a push stream is not read",
+        case: "a push stream: its push ID, and a response (RFC 9114, section 4.6)",
         kind: Recorded::Uni,
-        bytes: b"\x01\x05ab",
+        bytes: b"\x01\x05\x01\x03\x00\x00\xd9",
         open: false,
-        items: &[(0, 1, "push"), (1, 3, "payload")],
+        items: &[(0, 2, "push"), (2, 5, "HEADERS")],
         end: ("whole", 0),
     },
     Row {

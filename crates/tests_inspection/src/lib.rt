@@ -5,6 +5,10 @@
 #[cfg(test)]
 mod inspections;
 #[cfg(test)]
+mod rules;
+#[cfg(test)]
 mod same;
 #[cfg(test)]
 mod shown;
+#[cfg(test)]
+mod tables;

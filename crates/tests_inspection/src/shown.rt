@@ -8,6 +8,7 @@ use std::process::Abort;
 use wt_inspection::{Recorded, inspect};
 use wt_inspection_views::html::write_html;
 use wt_inspection_views::json_lines::write_json;
+use wt_inspection_views::plain::LINE_MARK;
 use wt_inspection_views::text::write_text;
 
 /// A recording that is shown.
@@ -51,7 +52,7 @@ fn show_once(alloc: Global, given: Given<'_>) -> Result<Shown, AllocError> {
     Ok(Shown {
         text: write_text(alloc, &found, bytes, payload)?,
         lines: write_json(alloc, &found, bytes, payload)?,
-        page: write_html(alloc, &found, bytes)?,
+        page: write_html(alloc, "section", &found, bytes)?,
     })
 }
 
@@ -72,6 +73,7 @@ fn text_in(bytes: &[u8]) -> &str {
 struct Row {
     case: &'static str,
     given: Given<'static>,
+    /// The text without the mark of each line.
     text: &'static str,
     /// The JSON, a line for each item.
     lines: &'static str,
@@ -96,7 +98,7 @@ static ROWS: [Row; 9] = [
             \"fields\":[[\":status\",\"200\"]]}
 {\"at\":5,\"item\":\"end\",\"state\":\"whole\"}
 ",
-        part: "<span tabindex=\"0\" data-item=\"0\">0        01 03 00 00 d9\n</span>",
+        part: "<span tabindex=\"0\" data-item=\"0\">0       <i> 01 03</i> 00 00<span data-item=\"0.0\"> d9</span> ",
     },
     Row {
         case: "an open stream within a frame",
@@ -114,7 +116,7 @@ static ROWS: [Row; 9] = [
             \"present\":2,\"hex\":\"6162\"}
 {\"at\":0,\"item\":\"end\",\"state\":\"cut\",\"of\":\"frame\",\"missing\":3}
 ",
-        part: "<pre>0     cut                frame, at least 3 bytes missing\n</pre></div>",
+        part: "<pre><span>0     cut                frame, at least 3 bytes missing\n</span></pre></div>",
     },
     Row {
         case: "a unidirectional stream and its payload",
@@ -133,7 +135,7 @@ static ROWS: [Row; 9] = [
 {\"at\":3,\"length\":2,\"item\":\"payload\",\"hex\":\"6869\"}
 {\"at\":5,\"item\":\"end\",\"state\":\"whole\"}
 ",
-        part: "data-item=\"1\">3        68 69\n</span>",
+        part: "data-item=\"1\">3        68 69                                            hi\n</span>",
     },
     Row {
         case: "a datagram of aioquic",
@@ -151,7 +153,7 @@ static ROWS: [Row; 9] = [
             \"hex\":\"6563686f3a\"}
 {\"at\":6,\"item\":\"end\",\"state\":\"whole\"}
 ",
-        part: "datagram           session 0, quarter stream ID 0, 5 bytes\n<b></b></pre>",
+        part: "datagram           session 0, quarter stream ID 0, 5 bytes\n</summary></details><b></b></div>",
     },
     Row {
         case: "a session is closed",
@@ -184,37 +186,39 @@ static ROWS: [Row; 9] = [
         text: "0     settings           4 bytes
         SETTINGS_H3_DATAGRAM (0x33) = 1
         HTTP/2 setting (0x2) = 0, which must not be sent (RFC 9114, section 7.2.4.1)
-0     fault              SettingsError (0x109): a setting must not be sent, or is repeated \
+0     fault              H3_SETTINGS_ERROR (0x109): a setting must not be sent, or is repeated \
 (RFC 9114, section 7.2.4)
 ",
         lines: "{\"at\":0,\"length\":4,\"item\":\"settings\",\"settings\":[{\"id\":51,\
             \"name\":\"SETTINGS_H3_DATAGRAM\",\"value\":1},{\"id\":2,\"name\":\"HTTP/2 setting\",\
-            \"value\":0,\"fault\":\"reserved\"}]}
-{\"at\":0,\"item\":\"end\",\"state\":\"fault\",\"code\":265,\"name\":\"SettingsError\",\"why\":\"a \
+            \"value\":0,\"fault\":\"http2\"}]}
+{\"at\":0,\"item\":\"end\",\"state\":\"fault\",\"code\":265,\"name\":\"H3_SETTINGS_ERROR\",\"why\":\"a \
     setting must not be sent, or is repeated (RFC 9114, section 7.2.4)\"}
 ",
-        part: "<pre class=\"fault\">0     fault              SettingsError (0x109): ",
+        part: "<pre class=\"fault\"><span>0     fault              H3_SETTINGS_ERROR (0x109): ",
     },
     Row {
         case: "a control stream",
         given: Given {
             bytes: b"\x00\x04\x00\x07\x01\x00",
             kind: Recorded::Uni,
-            open: false,
+            open: true,
             payload: false,
         },
         text: "0     stream             control, type 0x0
 1     SETTINGS           0 bytes
 3     GOAWAY             1 byte
+        ID 0
 6     end
 ",
         lines: "{\"at\":0,\"length\":1,\"item\":\"stream\",\"type\":\"control\",\"number\":0}
 {\"at\":1,\"length\":2,\"item\":\"frame\",\"type\":\"SETTINGS\",\"number\":4,\"payload\":0,\
     \"settings\":[]}
-{\"at\":3,\"length\":3,\"item\":\"frame\",\"type\":\"GOAWAY\",\"number\":7,\"payload\":1}
+{\"at\":3,\"length\":3,\"item\":\"frame\",\"type\":\"GOAWAY\",\"number\":7,\"payload\":1,\"id\":0}
 {\"at\":6,\"item\":\"end\",\"state\":\"whole\"}
 ",
-        part: "<pre tabindex=\"0\" data-item=\"2\">3     GOAWAY             1 byte\n<b></b></pre>",
+        part: "<div data-item=\"2\"><details open><summary>3     GOAWAY             1 byte\n</summary>\
+            <span>        ID 0\n</span></details><b></b></div>",
     },
     Row {
         case: "a section that needs the dynamic table",
@@ -226,14 +230,15 @@ static ROWS: [Row; 9] = [
         },
         text: "0     fields             4 bytes
         :scheme = https
+        (dynamic 5)
         needs the dynamic table, encoded Required Insert Count 7
 4     end
 ",
-        lines: "{\"at\":0,\"length\":4,\"item\":\"section\",\"fields\":[[\":scheme\",\"https\"]],\
-            \"stopped\":\"needs the dynamic table\",\"insert_count\":7}
+        lines: "{\"at\":0,\"length\":4,\"item\":\"section\",\"fields\":[[\":scheme\",\"https\"],\
+    [{\"dynamic\":5}]],\"needs\":\"an encoder stream\",\"insert_count\":7}
 {\"at\":4,\"item\":\"end\",\"state\":\"whole\"}
 ",
-        part: "        needs the dynamic table, encoded Required Insert Count 7\n",
+        part: "        (dynamic 5)\n</span>",
     },
     Row {
         case: "a value with a line feed, and not UTF-8",
@@ -245,12 +250,12 @@ static ROWS: [Row; 9] = [
         },
         text: "0     fields             9 bytes
         x = <\\x0a\"\\xff
-        warning: field 1: a field value has a NUL, CR or LF (RFC 9114, section 10.3)
+        warning: field 1: H3_MESSAGE_ERROR: a field value has a control character (RFC 9114, section 10.3)
 9     end
 ",
         lines: "{\"at\":0,\"length\":9,\"item\":\"section\",\"fields\":[[\"x\",{\"hex\":\"3c0a22ff\"}]]}
-{\"at\":0,\"item\":\"warning\",\"line\":0,\"why\":\"a field value has a NUL, CR or LF (RFC 9114, section \
-    10.3)\"}
+{\"at\":0,\"item\":\"warning\",\"line\":1,\"code\":270,\"name\":\"H3_MESSAGE_ERROR\",\"why\":\"a field \
+    value has a control character (RFC 9114, section 10.3)\"}
 {\"at\":9,\"item\":\"end\",\"state\":\"whole\"}
 ",
         part: "        x = &lt;\\x0a&quot;\\xff\n",
@@ -273,10 +278,20 @@ fn has_part(page: &[u8], part: &[u8]) -> bool {
     page.windows(part.len().max(1)).any(|window| window == part)
 }
 
+/// Asserts that a text has these lines, each after the mark.
+fn check_marked<R: Abort>(rt: &R, text: &str, wanted: &str, case: &str) {
+    let mut lines = text.lines();
+    for words in wanted.lines() {
+        let line = lines.next().and_then(|line| line.strip_prefix("\u{258c} "));
+        assert_same(rt, line, Some(words), case);
+    }
+    assert_same(rt, lines.next(), None, case);
+}
+
 /// Asserts the display of a row.
 fn check_row<R: Abort>(rt: &R, alloc: Global, row: &Row) {
     let shown = show_again(alloc, row.given).expect(rt, "memory");
-    assert_same(rt, shown.text.as_str(), row.text, row.case);
+    check_marked(rt, shown.text.as_str(), row.text, row.case);
     assert_same(rt, text_in(shown.lines.as_slice()), row.lines, row.case);
     assert_same(
         rt,
@@ -304,7 +319,7 @@ struct ValueRow {
     value: &'static str,
 }
 
-static VALUES: [ValueRow; 10] = [
+static VALUES: [ValueRow; 15] = [
     ValueRow {
         section: b"\x00\x00\x21x\x03a\nb",
         text: "a\\x0ab",
@@ -354,6 +369,41 @@ static VALUES: [ValueRow; 10] = [
         value: "\0",
     },
     ValueRow {
+        // RIGHT-TO-LEFT OVERRIDE, U+202E
+        section: b"\x00\x00\x21x\x05a\xe2\x80\xaeb",
+        text: "a\\xe2\\x80\\xaeb",
+        key: "hex",
+        value: "61e280ae62",
+    },
+    ValueRow {
+        // ZERO WIDTH SPACE, U+200B
+        section: b"\x00\x00\x21x\x05a\xe2\x80\x8bb",
+        text: "a\\xe2\\x80\\x8bb",
+        key: "hex",
+        value: "61e2808b62",
+    },
+    ValueRow {
+        // TAG LATIN CAPITAL LETTER A, U+E0041
+        section: b"\x00\x00\x21x\x04\xf3\xa0\x81\x81",
+        text: "\\xf3\\xa0\\x81\\x81",
+        key: "hex",
+        value: "f3a08181",
+    },
+    ValueRow {
+        // the mark of lines, U+258C
+        section: b"\x00\x00\x21x\x05\xe2\x96\x8c 0",
+        text: "\\xe2\\x96\\x8c 0",
+        key: "fields",
+        value: "\u{258c} 0",
+    },
+    ValueRow {
+        // Hebrew, which is seen as it is after its name
+        section: b"\x00\x00\x21x\x04\xd7\xa9\xd7\x9c",
+        text: "\u{5e9}\u{5dc}",
+        key: "fields",
+        value: "\u{5e9}\u{5dc}",
+    },
+    ValueRow {
         section: b"\x00\x00\x21x\x03\"}]",
         text: "\"}]",
         key: "fields",
@@ -397,7 +447,8 @@ fn check_value<R: Abort>(rt: &R, alloc: Global, row: &ValueRow) {
     let line = shown.text.as_str().lines().nth(1).unwrap_or("");
     assert_same(
         rt,
-        line.strip_prefix("        x = "),
+        line.strip_prefix(LINE_MARK)
+            .and_then(|words| words.strip_prefix("        x = ")),
         Some(row.text),
         row.text,
     );
@@ -409,6 +460,22 @@ fn check_value<R: Abort>(rt: &R, alloc: Global, row: &ValueRow) {
 fn values_are_shown_as_text(rt: HostRuntime) {
     for row in &VALUES {
         check_value(&rt, rt.alloc(), row);
+    }
+}
+
+#[test]
+fn names_are_shown_in_ascii(rt: HostRuntime) {
+    // Names with a blank, and with a letter that is written from right to left (RFC 9204, section
+    // 4.5.6).
+    let sections: [(&[u8], &str); 2] = [
+        (b"\x00\x00\x25a = b\x01c", "a\\x20=\\x20b = c"),
+        (b"\x00\x00\x22\xd7\xa9\x02\xd7\x9c", "\\xd7\\xa9 = \u{5dc}"),
+    ];
+    for (section, words) in sections {
+        let shown = show_once(rt.alloc(), section_of(section)).expect(&rt, "memory");
+        let line = shown.text.as_str().lines().nth(1).unwrap_or("");
+        let came = line.strip_prefix(LINE_MARK).map(|line| line.trim_start());
+        assert_same(&rt, came, Some(words), words);
     }
 }
 
@@ -434,12 +501,15 @@ fn a_long_name_is_shown(rt: HostRuntime) {
     assert_same(
         &rt,
         line.len(),
-        LONG + 11,
-        "indented by 8, and followed by an equals sign",
+        LONG + 15,
+        "after a mark of 4 bytes, indented by 8, and followed by an equals sign",
     );
     assert_same(
         &rt,
-        line.trim_end_matches(" = ").trim_start().len(),
+        line.trim_end_matches(" = ")
+            .trim_start_matches(LINE_MARK)
+            .trim_start()
+            .len(),
         LONG,
         "the name",
     );

@@ -445,6 +445,7 @@ pub(crate) static TRAILERS: [Group; 5] = [
             b"empty|digest=x",
             b"empty|content-length=x",
             b"empty|content-length=1|content-length=2",
+            b"empty|host=a|host=b@c",
         ],
     },
     Group {

@@ -1,5 +1,6 @@
-//! The fields of subprotocols, by rows. Strings and lists are those of RFC 8941, sections 3.1 and 3.3.3,
-//! and of the tests of the HTTP working group for structured fields (`string` and `list`).
+//! The fields of subprotocols, by rows. Strings and lists are those of RFC 9651, sections 3.1 and 3.3.3,
+//! and of the tests of the HTTP working group for structured fields (`string`, `list`, `date` and
+//! `display-string`).
 use std::alloc::Global;
 use std::process::Abort;
 use wtp_core::error::ErrorScope;
@@ -103,7 +104,7 @@ fn offers_are_read_past_refused_memory(rt: HostRuntime) {
 }
 
 /// Lines of `wt-protocol`, and the string.
-static ITEMS: [(&[&[u8]], Option<&[u8]>); 21] = [
+static ITEMS: [(&[&[u8]], Option<&[u8]>); 28] = [
     (&[], None),
     (&[b"\"hello world\""], Some(b"hello world")),
     (&[b"\"\""], Some(b"")),
@@ -115,6 +116,16 @@ static ITEMS: [(&[&[u8]], Option<&[u8]>); 21] = [
     (&[b"\"a\"; foo=bar ; q"], None),
     (&[b"\"a\"; foo=bar;baz=\"x\""], Some(b"a")),
     (&[b"\"a\";B=1"], None),
+    (&[b"\"a\";d=@1659578233"], Some(b"a")),
+    (
+        &[b"\"a\";d=@-1659578233;s=%\"f%c3%bc%c3%bc\";q"],
+        Some(b"a"),
+    ),
+    (&[b"\"a\";s=%\"foo \\ ;,bar\""], Some(b"a")),
+    (&[b"\"a\";s=%'foo'"], None),
+    (&[b"\"a\";s=%foo"], None),
+    (&[b"\"a\";s=%\"foo"], None),
+    (&[b"\"a\";s=%\"f\xc3\xbc\""], None),
     (&[b""], None),
     (&[b"'foo'"], None),
     (&[b"foo"], None),
@@ -181,7 +192,7 @@ fn choices_are_checked(rt: HostRuntime) {
     assert!(rt; NotOffered.scope() == ErrorScope::Stream, "the scope");
 }
 
-/// Strings, and the list of them (RFC 8941, sections 4.1.1 and 4.1.6).
+/// Strings, and the list of them (RFC 9651, sections 4.1.1 and 4.1.6).
 static WRITTEN: [(&[&[u8]], Result<&[u8], WriteError>); 8] = [
     (&[], Ok(b"")),
     (&[b"foo"], Ok(b"\"foo\"")),

@@ -9,4 +9,6 @@ mod errors;
 #[cfg(test)]
 mod playing;
 #[cfg(test)]
+mod refused;
+#[cfg(test)]
 mod sessions;

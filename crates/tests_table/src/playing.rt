@@ -1,6 +1,8 @@
 //! A table of a server, and reading its streams.
 use std::alloc::Global;
+use wtp_fields::fields::{FieldList, FieldSectionError};
 use wtp_frames::endpoint::{Endpoint, Side};
+use wtp_streams::h3::H3Connection;
 use wtp_streams::limits::Limits;
 use wtp_streams::streams::Streams;
 use wtp_webtransport::event::Event;
@@ -33,6 +35,39 @@ pub(crate) fn read(streams: &mut Streams, id: u64, bytes: &[u8]) -> (usize, u64)
     for _turn in 0..20u32 {
         let rest = bytes.get(start..).unwrap_or(&[]);
         let Some(received) = streams.receive(id, rest, false) else {
+            return (start, 1);
+        };
+        start = start.saturating_add(received.consumed);
+        match received.event {
+            Event::More | Event::Waits(_) => return (start, 0),
+            Event::StreamError(fault) | Event::ConnectionError(fault) => {
+                return (start, fault.code().number().into_inner());
+            }
+            _ => {}
+        }
+    }
+    (start, 2)
+}
+
+/// Returns a server with WebTransport that sends too.
+pub(crate) fn server_end(alloc: Global) -> H3Connection {
+    let mut endpoint = Endpoint::new(Side::Server);
+    endpoint.webtransport = true;
+    endpoint.datagrams = true;
+    H3Connection::new(alloc, endpoint, true, Limits::new())
+}
+
+/// Decodes a section.
+pub(crate) fn list_of(alloc: Global, section: &[u8]) -> Result<FieldList, FieldSectionError> {
+    FieldList::decode(alloc, section, 4096)
+}
+
+/// Reads a stream as `read` does.
+pub(crate) fn read_h3(h3: &mut H3Connection, id: u64, bytes: &[u8]) -> (usize, u64) {
+    let mut start: usize = 0;
+    for _turn in 0..20u32 {
+        let rest = bytes.get(start..).unwrap_or(&[]);
+        let Some(received) = h3.receive(id, rest, false) else {
             return (start, 1);
         };
         start = start.saturating_add(received.consumed);

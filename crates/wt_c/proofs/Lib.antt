@@ -15,3 +15,4 @@ pub mod BlankLemmas
 pub mod ReceivingLemmas
 pub mod PeerLemmas
 pub mod PushingLemmas
+pub mod SendingLemmas

@@ -20,3 +20,5 @@ pub mod ControlSending
 pub mod RequestBudgets
 pub mod PeerSettings
 pub mod Pushing
+pub mod Sending
+pub mod SendingCalls

@@ -18,6 +18,7 @@ mod output;
 pub mod reader;
 pub mod request_faults;
 pub mod sections;
+pub mod sending;
 pub mod sessions;
 pub mod settings;
 pub mod status;

@@ -131,7 +131,7 @@ pub extern "C" fn wt_settings_read(
 }
 
 /// Returns whether each identifier and each value is below 2^62.
-fn are_numbers(settings: &[WtSetting]) -> bool
+pub(crate) fn are_numbers(settings: &[WtSetting]) -> bool
     ensures { MatchBool result (AreNumbers settings.now) (¬ (AreNumbers settings.now)) }
 {
     for setting in settings {
@@ -180,7 +180,7 @@ fn is_faultless(id: VarInt, others: &[WtSetting]) -> bool
 /// Returns whether the settings have no fault. Each identifier that is known is compared with all
 /// after it: for n settings there are at most n (n - 1) / 2 comparisons.
 #[tactic(auto, using(crate::proofs::FaultlessLemmas::faultless_steps))]
-fn are_faultless(settings: &[WtSetting]) -> bool
+pub(crate) fn are_faultless(settings: &[WtSetting]) -> bool
     requires { AreNumbers settings.now }
     ensures { MatchBool result (AreFaultless (pairs_of settings.now))
         (¬ (AreFaultless (pairs_of settings.now))) }
@@ -196,7 +196,7 @@ fn are_faultless(settings: &[WtSetting]) -> bool
 }
 
 /// Writes the numbers of settings and their values one after the other.
-fn write_pairs(alloc: Global, settings: &[WtSetting]) -> Result<Vec<u8>, AllocError>
+pub(crate) fn write_pairs(alloc: Global, settings: &[WtSetting]) -> Result<Vec<u8>, AllocError>
     requires { AreNumbers settings.now }
     ensures pairs { IfOk result (λ v. v.items ≡ settings_wire (pairs_of settings.now)) }
     ensures memory { OnErr result (settings.now ≢ []) }

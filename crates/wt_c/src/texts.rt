@@ -140,7 +140,7 @@ fn is_short_ascii(bytes: &[u8], max_len: usize) -> bool
 }
 
 /// Returns whether all names and values are within this many bytes.
-fn are_within(fields: &[WtField], size: usize) -> bool
+pub(crate) fn are_within(fields: &[WtField], size: usize) -> bool
     ensures { MatchBool result (AreWithin size fields.now) (¬ (AreWithin size fields.now)) }
 {
     for field in fields {

@@ -1,4 +1,0 @@
-pub mod Closing
-pub mod Datagrams
-pub mod Ends
-pub mod Responses

@@ -1,68 +1,205 @@
-//! A client for WebTransport sessions.
-ghost use Rattle.std.specs.Prelude.{◌≡◌, ◌/◌, IfOk};
-ghost use Rattle.wtransport_proto.specs.Datagram.{datagram_wire};
-
-use crate::server::send_headers;
-use crate::turns::until_ready;
-use anyhow::Result;
+//! A client: two requests and three sessions at once.
+use crate::end::{Application, Link};
 use std::alloc::Global;
-use std::borrow::CowSlice;
-use wtransport_proto::bytes::{AsyncRead, AsyncWrite, BytesWriter};
-use wtransport_proto::capsule::capsules::CloseWebTransportSession;
-use wtransport_proto::datagram::Datagram;
-use wtransport_proto::frame::{Frame, FrameReading};
-use wtransport_proto::ids::{QStreamId, SessionId};
-use wtransport_proto::session::{SessionRequest, SessionResponse, response_of_frame};
-use wtransport_proto::stream::bilocal::StreamBiLocalQuic;
-use wtransport_proto::stream::session::StreamSession;
+use std::collections::BTreeMap;
+use wtp_core::error::Code;
+use wtp_fields::fields::FieldList;
+use wtp_fields::headers::Headers;
+use wtp_fields::session::UrlParseError;
+use wtp_streams::error::Error;
+use wtp_webtransport::event::{Event, HeadersKind};
 
-/// Returns a session request for a URL, with an origin.
-fn request_for(alloc: Global, url: &str) -> Result<SessionRequest> {
-    let mut request = SessionRequest::new(alloc, url)?;
-    request.insert("origin", "https://example.com")?;
-    Ok(request)
-}
+/// How many bytes the content of each request has.
+pub const CONTENT: usize = 20_000;
 
-/// Sends a session request for a URL. Returns the session's stream.
-pub fn request<W: AsyncWrite>(alloc: Global, url: &str, sink: &mut W) -> Result<StreamSession> {
-    let request = request_for(alloc, url)?;
-    send_headers(alloc, request.headers(), sink)?;
-    let stream = StreamBiLocalQuic::open_bi().upgrade();
-    Ok(stream.into_session(request))
-}
-
-/// Reads the response to the request. The source is then positioned right after the response.
-pub fn read_response<S: AsyncRead>(
+/// A client, and what came back.
+#[derive(Drop)]
+pub struct Client {
     alloc: Global,
-    session: &StreamSession,
-    source: &mut S,
-) -> Result<SessionResponse> {
-    let mut reading = FrameReading::new(alloc);
-    let frame = until_ready(|| session.read_frame_async(&mut reading, source))??;
-    Ok(response_of_frame(alloc, &frame)?)
+    /// What is to be printed.
+    pub log: Vec<String>,
+    /// How many bytes of content came on each stream of a message.
+    content: BTreeMap<u64, usize>,
+    /// The text of each stream of a session.
+    texts: BTreeMap<u64, Vec<u8>>,
+    /// The sessions of the streams.
+    sessions: BTreeMap<u64, u64>,
+    /// How many streams and datagrams are still to come in each session, until it is closed.
+    left: BTreeMap<u64, u32>,
 }
 
-/// Closes a session with an application error code and a reason, as a capsule in DATA frames.
-pub fn close<W: BytesWriter>(alloc: Global, code: u32, reason: &str, out: &mut W) -> Result<()> {
-    let mut capsule = Vec::new(alloc);
-    CloseWebTransportSession::new(alloc, code, reason)?.write(&mut capsule)?;
-    write_data(capsule.as_slice(), out)
-}
-
-/// Writes DATA frames of at most 5 bytes each.
-fn write_data<W: BytesWriter>(data: &[u8], out: &mut W) -> Result<()> {
-    for piece in data.chunks(5) {
-        Frame::new_data(CowSlice::Borrowed(piece)).write(out)?;
+impl Client {
+    /// Creates a client that sent nothing.
+    pub fn new(alloc: Global) -> Self {
+        Client {
+            alloc,
+            log: Vec::new(alloc),
+            content: BTreeMap::new(alloc),
+            texts: BTreeMap::new(alloc),
+            sessions: BTreeMap::new(alloc),
+            left: BTreeMap::new(alloc),
+        }
     }
-    Ok(())
+
+    /// Sends requests and asks for sessions, once the server allows them.
+    fn begin(&mut self, link: &mut Link) -> Result<(), Error> {
+        for path in ["/first", "/second"] {
+            self.upload(link, path)?;
+        }
+        for url in [
+            "https://example.com/chat",
+            "https://example.com/none",
+            "https://example.com/chat",
+        ] {
+            let id = link.outgoing.open_bidirectional();
+            let list = session_request(link.alloc, url)?;
+            link.connection
+                .request(id, &list, link.outgoing.stream(id)?)?;
+        }
+        Ok(())
+    }
+
+    /// Sends a request with content, in DATA frames of 1,000 bytes.
+    fn upload(&mut self, link: &mut Link, path: &str) -> Result<(), Error> {
+        let id = link.outgoing.open_bidirectional();
+        let list = request(link.alloc, path)?;
+        link.connection
+            .request(id, &list, link.outgoing.stream(id)?)?;
+        for _piece in 0..CONTENT / 1000 {
+            link.send_content(id, &[0x61; 1000])?;
+        }
+        link.end(id)
+    }
+
+    /// Uses a session: streams of both kinds, and a datagram.
+    fn use_session(&mut self, link: &mut Link, id: u64) -> Result<(), Error> {
+        self.note(format!(in link.alloc; "session {id} is open")?)?;
+        let question = link.open_stream(id, true, b"a question of the client")?;
+        link.open_stream(id, false, b"news of the client")?;
+        self.sessions.insert(question, id)?;
+        // Two streams of the server, one that comes back, and a datagram.
+        self.left.insert(id, 4)?;
+        link.send_datagram(id, b"a datagram of the client")
+    }
+
+    /// Keeps a line.
+    fn note(&mut self, line: String) -> Result<(), Error> {
+        self.log.push(line)?;
+        Ok(())
+    }
+
+    /// Notes that the server refused a session.
+    fn rejected(&mut self, link: &mut Link, id: u64, status: u32) -> Result<(), Error> {
+        self.note(format!(in link.alloc; "session {id} is refused with status {status}")?)?;
+        link.end(id)
+    }
+
+    /// Notes the response to a request.
+    fn responded(&mut self, link: &mut Link, id: u64, status: u32) -> Result<(), Error> {
+        self.note(format!(in link.alloc; "request {id}: status {status}")?)
+    }
+
+    /// Counts content of a message.
+    fn count(&mut self, id: u64, len: usize) -> Result<(), Error> {
+        let count = self.content.entry(id)?.or_insert(0);
+        *count = count.saturating_add(len);
+        Ok(())
+    }
+
+    /// Keeps bytes of a stream of a session.
+    fn keep(&mut self, id: u64, bytes: &[u8]) -> Result<(), Error> {
+        let alloc = self.alloc;
+        let text = self.texts.entry(id)?.or_insert(Vec::new(alloc));
+        text.extend_from_slice(bytes)?;
+        Ok(())
+    }
+
+    /// Notes the end of a stream.
+    fn end(&mut self, link: &mut Link, id: u64) -> Result<(), Error> {
+        if let Some(count) = self.content.remove(&id) {
+            return self.note(format!(in link.alloc; "request {id}: {count} bytes came back")?);
+        }
+        link.end(id)?;
+        let Some(text) = self.texts.remove(&id) else {
+            return Ok(());
+        };
+        let text = str::from_utf8(text.as_slice()).unwrap_or("no text");
+        self.note(format!(in link.alloc; "stream {id}: {text}")?)?;
+        match self.sessions.remove(&id) {
+            Some(session) => self.came(link, session),
+            None => Ok(()),
+        }
+    }
+
+    /// Counts a stream or a datagram of a session, which is closed after the last one.
+    fn came(&mut self, link: &mut Link, session: u64) -> Result<(), Error> {
+        let Some(left) = self.left.get_mut(&session) else {
+            return Ok(());
+        };
+        *left = left.saturating_sub(1);
+        if *left > 0 {
+            return Ok(());
+        }
+        let out = link.outgoing.stream(session)?;
+        link.connection.close(session, 7, "bye", out)?;
+        link.outgoing.end(session)?;
+        Ok(())
+    }
+
+    /// Keeps the session of a stream.
+    fn joined(&mut self, id: u64, session: u64) -> Result<(), Error> {
+        self.sessions.insert(id, session)?;
+        Ok(())
+    }
 }
 
-/// Returns a datagram of a session with this payload.
-pub fn datagram(alloc: Global, session: SessionId, payload: &[u8]) -> Result<Vec<u8>>
-    ensures { IfOk result (λ v. v.items ≡ datagram_wire (session / 4, payload.now)) }
-{
-    let datagram = Datagram::new(QStreamId::from_session_id(session), payload);
-    let mut buffer = [0; 1200];
-    let size = datagram.write(&mut buffer)?;
-    Ok(Vec::from_slice(alloc, &buffer[..size])?)
+impl Application for Client {
+    fn handle(&mut self, link: &mut Link, id: u64, event: Event<'_>) -> Result<(), Error> {
+        match event {
+            Event::Settings(_, _) => self.begin(link),
+            Event::SessionReady(_, _) => self.use_session(link, id),
+            Event::Rejected(status, _) => self.rejected(link, id, status),
+            Event::Headers(HeadersKind::Response(status), _) => self.responded(link, id, status),
+            Event::Data(bytes) => self.count(id, bytes.len()),
+            Event::Joined(session) => self.joined(id, session),
+            Event::StreamData(bytes) => self.keep(id, bytes),
+            Event::End => self.end(link, id),
+            Event::SessionLost => link.close(id, Code::H3_NO_ERROR),
+            Event::StreamError(fault) => link.close(id, fault.code()),
+            Event::Malformed(_) => link.close(id, Code::H3_MESSAGE_ERROR),
+            Event::ConnectionError(fault) => Err(fault.into()),
+            Event::NoMemory => Err(Error::Memory),
+            _ => Ok(()),
+        }
+    }
+
+    fn datagram(&mut self, link: &mut Link, session: u64, payload: &[u8]) -> Result<(), Error> {
+        let text = str::from_utf8(payload).unwrap_or("no text");
+        self.note(format!(in link.alloc; "session {session}: {text}")?)?;
+        self.came(link, session)
+    }
+}
+
+/// Returns the fields of a request for a session.
+fn session_request(alloc: Global, url: &str) -> Result<FieldList, Error> {
+    match FieldList::request(alloc, url) {
+        Ok(list) => Ok(list),
+        Err(UrlParseError::Memory) => Err(Error::Memory),
+        Err(_) => Err(Error::Stream(Code::H3_INTERNAL_ERROR)),
+    }
+}
+
+/// Returns the fields of a request with content.
+fn request(alloc: Global, path: &str) -> Result<FieldList, Error> {
+    let mut headers = Headers::new(alloc);
+    headers.insert(":method", "POST")?;
+    headers.insert(":scheme", "https")?;
+    headers.insert(":authority", "example.com")?;
+    headers.insert(":path", path)?;
+    let length = format!(in alloc; "{CONTENT}")?;
+    headers.insert("content-length", length.as_str())?;
+    let Ok(frame) = headers.generate_frame(alloc) else {
+        return Err(Error::Memory);
+    };
+    Ok(FieldList::decode(alloc, frame.payload(), 65_536)?)
 }

@@ -1,143 +1,253 @@
-//! Streams of a QUIC library, and adapters to the traits of `bytes`. The library has no contract,
-//! so the adapters have no model and check the values that it returns.
-ghost use Rattle.std.specs.Prelude.{◌≡◌, []};
+//! One end of a QUIC connection in memory: what came and is not consumed, and what is sent.
+use std::alloc::{AllocError, Global};
+use std::collections::{BTreeMap, VecDeque};
+use wtp_core::error::Code;
 
-use std::alloc::Global;
-use wtransport_proto::bytes::{AsyncRead, AsyncWrite, ReadStep, WriteStep};
-
-/// Why a call to the QUIC library transferred no bytes.
-#[derive(Clone, Copy, Debug)]
-pub enum QuicError {
-    /// Nothing can be transferred now. The library wakes this task when something can.
-    WouldBlock,
-    /// The peer reset the stream, or no longer reads it.
-    Closed,
-    /// The connection is lost.
-    ConnectionLost,
-}
-
-/// A receiving stream of a QUIC library.
-pub trait ReceiveStream {
-    /// Copies received bytes into the buffer and returns their number, or 0 at the end of the
-    /// stream.
-    fn receive(&mut self, buf: &mut [u8]) -> Result<usize, QuicError>;
-}
-
-/// A sending stream of a QUIC library.
-pub trait SendStream {
-    /// Accepts bytes to send and returns their number.
-    fn send(&mut self, buf: &[u8]) -> Result<usize, QuicError>;
-}
-
-/// A receiving stream as a source.
+/// What a QUIC library reports.
 #[derive(Drop)]
-pub struct QuicSource<T> {
-    pub stream: T,
+pub enum Happened {
+    /// The peer opened a stream.
+    Opened(u64),
+    /// Bytes or the end of a stream came.
+    Readable(u64),
+    /// The peer reset a stream with this code.
+    Reset(u64, Code),
+    /// The peer asked to stop the own half of a stream with this code.
+    Stopped(u64, Code),
+    /// A datagram came.
+    Datagram(Vec<u8>),
 }
 
-impl<T: ReceiveStream> AsyncRead for QuicSource<T> {
-    fn poll_read(&mut self, buf: &mut [u8]) -> ReadStep {
-        if buf.is_empty() {
-            return ReadStep::Bytes(0);
-        }
-        match self.stream.receive(buf) {
-            Ok(n) => ReadStep::Bytes(n.min(buf.len())),
-            Err(QuicError::WouldBlock) => ReadStep::NotReady,
-            Err(QuicError::Closed) => ReadStep::Reset,
-            Err(QuicError::ConnectionLost) => ReadStep::NotConnected,
-        }
-    }
-}
-
-/// A sending stream as a sink.
+/// The bytes of a stream that came.
 #[derive(Drop)]
-pub struct QuicSink<T> {
-    pub stream: T,
-}
-
-impl<T: SendStream> AsyncWrite for QuicSink<T> {
-    fn poll_write(&mut self, buf: &[u8]) -> WriteStep {
-        if buf.is_empty() {
-            return WriteStep::Bytes(0);
-        }
-        match self.stream.send(buf) {
-            Ok(0) | Err(QuicError::WouldBlock) => WriteStep::NotReady,
-            Ok(n) => WriteStep::Bytes(n.min(buf.len())),
-            Err(QuicError::Closed) => WriteStep::Stopped,
-            Err(QuicError::ConnectionLost) => WriteStep::NotConnected,
-        }
-    }
-}
-
-/// A receiving stream over bytes in memory. At most 3 bytes are available at a time.
-#[derive(Drop)]
-pub struct MemoryReceiver<'a> {
-    bytes: &'a [u8],
-    is_woken: bool,
-}
-
-impl<'a> MemoryReceiver<'a> {
-    /// Creates a stream with these bytes.
-    pub fn new(bytes: &'a [u8]) -> Self
-        ensures { result.bytes.now ≡ bytes.now }
-    {
-        MemoryReceiver {
-            bytes,
-            is_woken: false,
-        }
-    }
-}
-
-impl ReceiveStream for MemoryReceiver<'_> {
-    fn receive(&mut self, buf: &mut [u8]) -> Result<usize, QuicError> {
-        self.is_woken = !self.is_woken;
-        if self.is_woken {
-            return Err(QuicError::WouldBlock);
-        }
-        let n = self.bytes.len().min(buf.len()).min(3);
-        let (front, rest) = self.bytes.split_at(n);
-        buf[..n].copy_from_slice(front);
-        self.bytes = rest;
-        Ok(n)
-    }
-}
-
-/// A sending stream that keeps its bytes in memory. It accepts at most 3 bytes at a time.
-#[derive(Drop)]
-pub struct MemorySender {
+struct Received {
     bytes: Vec<u8>,
-    is_woken: bool,
+    consumed: usize,
+    is_ended: bool,
 }
 
-impl MemorySender {
-    /// Creates an empty stream.
-    pub fn new(alloc: Global) -> Self
-        ensures { result.bytes.items ≡ [] }
-    {
-        MemorySender {
-            bytes: Vec::new(alloc),
-            is_woken: false,
+/// What came.
+#[derive(Drop)]
+pub struct Incoming {
+    alloc: Global,
+    streams: BTreeMap<u64, Received>,
+    happened: VecDeque<Happened>,
+}
+
+impl Incoming {
+    /// Creates an end at which nothing came.
+    pub fn new(alloc: Global) -> Self {
+        Incoming {
+            alloc,
+            streams: BTreeMap::new(alloc),
+            happened: VecDeque::new(alloc),
         }
     }
 
-    /// Returns the bytes that were sent.
-    pub fn bytes(&self) -> &[u8]
-        ensures { result.now ≡ self.now.bytes.items }
-    {
-        self.bytes.as_slice()
+    /// Returns what happened next.
+    pub fn next(&mut self) -> Option<Happened> {
+        self.happened.pop_front()
+    }
+
+    /// Returns the bytes of a stream that are not consumed.
+    pub fn bytes(&self, id: u64) -> &[u8] {
+        match self.streams.get(&id) {
+            Some(stream) => stream.bytes.get(stream.consumed..).unwrap_or(&[]),
+            None => &[],
+        }
+    }
+
+    /// Returns whether a stream ends after these bytes.
+    pub fn is_ended(&self, id: u64) -> bool {
+        match self.streams.get(&id) {
+            Some(stream) => stream.is_ended,
+            None => false,
+        }
+    }
+
+    /// Consumes the first `len` bytes of a stream.
+    pub fn consume(&mut self, id: u64, len: usize) {
+        if let Some(stream) = self.streams.get_mut(&id) {
+            stream.consumed = stream.consumed.saturating_add(len);
+            if stream.consumed >= stream.bytes.len() {
+                stream.bytes.clear();
+                stream.consumed = 0;
+            }
+        }
+    }
+
+    /// Takes bytes of a stream from the network.
+    pub fn deliver(&mut self, id: u64, bytes: &[u8], fin: bool) -> Result<(), AllocError> {
+        if !self.streams.contains_key(&id) {
+            self.happened.push_back(Happened::Opened(id))?;
+        }
+        let stream = self.streams.entry(id)?.or_insert(Received {
+            bytes: Vec::new(self.alloc),
+            consumed: 0,
+            is_ended: false,
+        });
+        stream.bytes.extend_from_slice(bytes)?;
+        stream.is_ended = fin;
+        self.happened.push_back(Happened::Readable(id))?;
+        Ok(())
+    }
+
+    /// Takes from the network that a stream is reset and stopped.
+    fn close(&mut self, id: u64, code: Code) -> Result<(), AllocError> {
+        if !self.streams.contains_key(&id) {
+            self.deliver(id, &[], false)?;
+        }
+        self.happened.push_back(Happened::Reset(id, code))?;
+        self.happened.push_back(Happened::Stopped(id, code))?;
+        Ok(())
     }
 }
 
-impl SendStream for MemorySender {
-    fn send(&mut self, buf: &[u8]) -> Result<usize, QuicError> {
-        self.is_woken = !self.is_woken;
-        if self.is_woken {
-            return Err(QuicError::WouldBlock);
+/// What is to be sent on a stream.
+#[derive(Drop)]
+struct Sent {
+    bytes: Vec<u8>,
+    taken: usize,
+    is_ended: bool,
+    is_told: bool,
+}
+
+impl Sent {
+    /// Returns up to `most` bytes, and whether the stream ends after them. They are then sent.
+    fn take(&mut self, most: usize) -> (&[u8], bool) {
+        let left = self.bytes.get(self.taken..).unwrap_or(&[]);
+        let piece = left.get(..most).unwrap_or(left);
+        self.taken = self.taken.saturating_add(piece.len());
+        let fin = self.is_ended && piece.len() == left.len();
+        self.is_told = fin;
+        (piece, fin)
+    }
+
+    /// Returns whether nothing is left to be sent.
+    fn is_quiet(&self) -> bool {
+        self.taken >= self.bytes.len() && self.is_told == self.is_ended
+    }
+}
+
+/// What is to be sent.
+#[derive(Drop)]
+pub struct Outgoing {
+    alloc: Global,
+    streams: BTreeMap<u64, Sent>,
+    datagrams: VecDeque<Vec<u8>>,
+    /// Streams that are reset and stopped.
+    closed: VecDeque<(u64, Code)>,
+    next_bidirectional: u64,
+    next_unidirectional: u64,
+}
+
+impl Outgoing {
+    /// Creates an end that sent nothing. The number is 0 at a client and 1 at a server (RFC 9000, section
+    /// 2.1).
+    pub fn new(alloc: Global, side: u64) -> Self {
+        Outgoing {
+            alloc,
+            streams: BTreeMap::new(alloc),
+            datagrams: VecDeque::new(alloc),
+            closed: VecDeque::new(alloc),
+            next_bidirectional: side,
+            next_unidirectional: side.saturating_add(2),
         }
-        let n = buf.len().min(3);
-        match self.bytes.extend_from_slice(&buf[..n]) {
-            Ok(()) => Ok(n),
-            Err(_) => Err(QuicError::ConnectionLost),
+    }
+
+    /// Returns the ID of a new bidirectional stream.
+    pub fn open_bidirectional(&mut self) -> u64 {
+        let id = self.next_bidirectional;
+        self.next_bidirectional = id.saturating_add(4);
+        id
+    }
+
+    /// Returns the ID of a new unidirectional stream.
+    pub fn open_unidirectional(&mut self) -> u64 {
+        let id = self.next_unidirectional;
+        self.next_unidirectional = id.saturating_add(4);
+        id
+    }
+
+    /// Returns the buffer of a stream.
+    pub fn stream(&mut self, id: u64) -> Result<&mut Vec<u8>, AllocError> {
+        let stream = self.streams.entry(id)?.or_insert(Sent {
+            bytes: Vec::new(self.alloc),
+            taken: 0,
+            is_ended: false,
+            is_told: false,
+        });
+        Ok(&mut stream.bytes)
+    }
+
+    /// Ends a stream after the bytes in its buffer.
+    pub fn end(&mut self, id: u64) -> Result<(), AllocError> {
+        self.stream(id)?;
+        if let Some(stream) = self.streams.get_mut(&id) {
+            stream.is_ended = true;
         }
+        Ok(())
+    }
+
+    /// Resets a stream, and asks the peer to stop its half.
+    pub fn close(&mut self, id: u64, code: Code) -> Result<(), AllocError> {
+        self.streams.remove(&id);
+        self.closed.push_back((id, code))?;
+        Ok(())
+    }
+
+    /// Sends a datagram.
+    pub fn datagram(&mut self, bytes: Vec<u8>) -> Result<(), AllocError> {
+        self.datagrams.push_back(bytes)?;
+        Ok(())
+    }
+
+    /// Carries some of it to the other end: of some streams a piece, in an order that depends on `random`
+    /// alone. Returns whether nothing is left.
+    pub fn carry(&mut self, random: &mut Random, to: &mut Incoming) -> Result<bool, AllocError> {
+        let mut is_quiet = true;
+        for (id, stream) in &mut self.streams {
+            if stream.is_quiet() {
+                continue;
+            }
+            is_quiet = false;
+            if random.below(2) == 0 {
+                let most = random.below(900).saturating_add(1);
+                let (piece, fin) = stream.take(most);
+                to.deliver(*id, piece, fin)?;
+            }
+        }
+        if let Some((id, code)) = self.closed.pop_front() {
+            to.close(id, code)?;
+            is_quiet = false;
+        }
+        if let Some(bytes) = self.datagrams.pop_front() {
+            to.happened.push_back(Happened::Datagram(bytes))?;
+            is_quiet = false;
+        }
+        Ok(is_quiet)
+    }
+}
+
+/// Numbers that look random, and are the same each time.
+#[derive(Drop)]
+pub struct Random {
+    state: u64,
+}
+
+impl Random {
+    /// Creates the numbers of a seed.
+    pub fn new(seed: u64) -> Self {
+        Random { state: seed }
+    }
+
+    /// Returns a number below `limit`, or 0.
+    pub fn below(&mut self, limit: usize) -> usize {
+        self.state = self
+            .state
+            .wrapping_mul(6364136223846793005)
+            .wrapping_add(1442695040888963407);
+        let high = (self.state >> 33) as usize;
+        high.checked_rem(limit).unwrap_or(0)
     }
 }

@@ -11,6 +11,7 @@ use Rattle.wt_inspect.specs.declared.arguments.Output.TheVariants as output-is
 abbrev pub kind_name : Recorded → List ℕ
 kind_name recorded-is.Bi = codes "bi"
 kind_name recorded-is.Response = codes "response"
+kind_name recorded-is.SessionResponse = codes "session-response"
 kind_name recorded-is.Uni = codes "uni"
 kind_name recorded-is.Datagram = codes "datagram"
 kind_name recorded-is.Capsules = codes "capsules"

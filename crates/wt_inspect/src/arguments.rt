@@ -1,11 +1,17 @@
 //! Parses the arguments.
-ghost use Rattle.std.specs.Prelude.{◌≡◌, Bool, codes, option_map};
-ghost use Rattle.clap.specs.Matches.{first_value, found_of};
+ghost use Rattle.std.specs.Prelude.{◌≡◌, ◌<◌, ◌^◌, ℕ, Bool, None, Some, codes, option_map};
+ghost use Rattle.clap.specs.Matches.{first_value, found_of, one_text};
 ghost use Rattle.wt_inspect.specs.CommandLine.{IsFlag, Names, output_of};
 
-use clap::{Arg, ArgAction, ArgMatches, Command, Error};
+use clap::{Arg, ArgAction, ArgMatches, Command, Error, value_parser};
 use std::alloc::Global;
 use wt_inspection::Recorded;
+
+/// One more than the largest capacity that may be given.
+const MAX_CAPACITY: u64 = 1 << 60;
+
+/// The capacity if none is given, which is what most stacks announce at most.
+const DEFAULT_CAPACITY: u64 = 4096;
 
 /// The version that the program names.
 const VERSION: &str = "0.8.0";
@@ -15,6 +21,7 @@ const MORE: &str = "\
 KIND says what the bytes are, from the first one on, in one direction of one stream:
   bi        a bidirectional stream, by the end that opened it: a request, or a WebTransport stream
   response  the other direction of a request: a response
+  session-response  the response to a request for a session, and capsules in its DATA frames
   uni       a unidirectional stream: control, QPACK encoder or decoder, WebTransport, push
   datagram  the payload of one QUIC datagram
   capsules  the content of the DATA frames of a session
@@ -23,8 +30,9 @@ KIND says what the bytes are, from the first one on, in one direction of one str
 The other direction of a WebTransport stream is the application's bytes alone, so it has no KIND.
 
 What is written: a line for each item, with its place in bytes, what it is, and mostly its size;
-below it, indented, the field lines, settings or capsules that it contains. A line 'warning' below
-an item says what a standard forbids, though reading went on. The last line says how the bytes end:
+below it, indented, the field lines, settings, capsules or numbers that it contains. A line
+'warning' below an item says what a standard forbids, though reading went on, and with which error
+code; 'hint' says that the bytes may be of another KIND. The last line says how the bytes end:
 'end', 'cut' within an item, or 'fault' with the error code and why; bytes after the item with the
 fault are 'not read'.
 A 'reserved' setting, frame or stream is one that peers send to be ignored; an 'unknown' one has no
@@ -33,18 +41,33 @@ name here.
 To find a wrong setting in a recorded control stream, such as control.bin:
   wt_inspect uni --open control.bin
 The settings are below the frame SETTINGS, each with its name, identifier and value. One that must
-not be sent, or is there twice, says so in its line. The last line says 'fault', unless an unknown
-one is there twice. Values are not judged.
+not be sent, is there twice, or has a value that is not allowed says so in its line, and in a
+'warning' or in the last line, which then says 'fault'.
+
+To find out why a session closed, in its recorded response, such as response.bin:
+  wt_inspect session-response --open response.bin
 
 The same, with the bytes as text:
   echo 00 04 04 33 01 33 01 | wt_inspect uni --open --hex
 
-Exit status: 0 the bytes were shown, 1 wrong arguments, 2 the bytes have a fault, 3 input or output
-failed, 4 out of memory.";
+Field lines may refer to QPACK's dynamic table, which the encoder stream of the same direction
+fills, a unidirectional stream of type 2. To see them, give that stream too, whole:
+  wt_inspect bi --encoder encoder.bin request.bin
+Without it '(dynamic 3)' stands for the name and the value of the entry with the index 3.
+
+Exit status: 0 the bytes were shown, 1 wrong arguments, 2 the bytes have a fault (with --strict, or
+a warning), 3 input or output failed, 4 out of memory.";
 
 /// The names of the kinds of recordings.
-static KINDS: [&str; 7] = [
-    "bi", "response", "uni", "datagram", "capsules", "section", "settings",
+static KINDS: [&str; 8] = [
+    "bi",
+    "response",
+    "session-response",
+    "uni",
+    "datagram",
+    "capsules",
+    "section",
+    "settings",
 ];
 
 /// The format of the output.
@@ -63,6 +86,8 @@ pub enum Output {
 pub struct Arguments<'a> {
     /// The kind of recording.
     pub recorded: Recorded,
+    /// The name of the kind.
+    pub kind: &'a str,
     /// The format of the output.
     pub output: Output,
     /// Whether the input is hexadecimal text.
@@ -71,6 +96,12 @@ pub struct Arguments<'a> {
     pub is_open: bool,
     /// Whether payload bytes are shown.
     pub has_payload: bool,
+    /// Whether a warning counts as a fault.
+    pub is_strict: bool,
+    /// The file with the encoder stream, if there is one.
+    pub encoder: Option<&'a str>,
+    /// The largest capacity of the dynamic table, in bytes.
+    pub capacity: u64,
     /// The file to read, or `None` for standard input.
     pub file: Option<&'a str>,
 }
@@ -91,7 +122,7 @@ pub fn command<'a>(alloc: Global) -> Result<Command<'a>, Error> {
         .help("What was recorded")
         .value_parser(KINDS.as_slice());
     let file = Arg::new(alloc, "file").value_name("FILE").help(
-        "The recording, of at most 64 MiB; standard input if there is none",
+        "The recording, of at most 64 MiB; standard input if there is none, or it is -",
     );
     let command = Command::new(alloc, "wt_inspect")
         .version(VERSION)
@@ -120,8 +151,24 @@ pub fn command<'a>(alloc: Global) -> Result<Command<'a>, Error> {
             alloc,
             "payload",
             "In text and JSON, show the bytes of payloads too",
-        ))?;
-    Ok(command)
+        ))?
+        .arg(flag(alloc, "strict", "The exit status is 2 for a warning too"))?;
+    add_table(alloc, command)
+}
+
+/// Adds the options of the dynamic table.
+fn add_table<'a>(alloc: Global, command: Command<'a>) -> Result<Command<'a>, Error> {
+    let encoder = Arg::new(alloc, "encoder")
+        .long("encoder")
+        .value_name("FILE")
+        .help("The whole QPACK encoder stream of the same sender: what the dynamic table has");
+    let capacity = Arg::new(alloc, "capacity")
+        .long("capacity")
+        .value_name("N")
+        .value_parser(value_parser!(u64).range(..1 << 60))
+        .help("What the other end allowed by SETTINGS_QPACK_MAX_TABLE_CAPACITY [default: 4096]")
+        .requires_arg("encoder")?;
+    Ok(command.arg(encoder)?.arg(capacity)?)
 }
 
 /// Returns the parsed arguments.
@@ -134,15 +181,25 @@ pub fn read_arguments<'a>(matches: &ArgMatches<'a>) -> Arguments<'a>
     ensures is_hex { IsFlag (found_of matches.now) (codes "hex") result.is_hex }
     ensures is_open { IsFlag (found_of matches.now) (codes "open") result.is_open }
     ensures has_payload { IsFlag (found_of matches.now) (codes "payload") result.has_payload }
+    ensures is_strict { IsFlag (found_of matches.now) (codes "strict") result.is_strict }
+    ensures encoder { option_map (λ path. path.now) result.encoder
+        ≡ first_value (found_of matches.now) (codes "encoder") }
+    ensures capacity { result.capacity < 2 ^ 60 }
+    ensures default { one_text (found_of matches.now) (codes "capacity") ≡ None
+        → result.capacity ≡ 4096 }
     ensures file { option_map (λ path. path.now) result.file
         ≡ first_value (found_of matches.now) (codes "file") }
 {
     Arguments {
         recorded: recorded_of(matches.get_str("kind")),
+        kind: matches.get_str("kind").unwrap_or(""),
         output: output_of(matches.get_flag("json"), matches.get_flag("html")),
         is_hex: matches.get_flag("hex"),
         is_open: matches.get_flag("open"),
         has_payload: matches.get_flag("payload"),
+        is_strict: matches.get_flag("strict"),
+        encoder: matches.get_str("encoder"),
+        capacity: capacity_of(matches.get_one("capacity")),
         file: matches.get_str("file"),
     }
 }
@@ -153,12 +210,25 @@ fn recorded_of(name: Option<&str>) -> Recorded
 {
     match name {
         Some("response") => Recorded::Response,
+        Some("session-response") => Recorded::SessionResponse,
         Some("uni") => Recorded::Uni,
         Some("datagram") => Recorded::Datagram,
         Some("capsules") => Recorded::Capsules,
         Some("section") => Recorded::Section,
         Some("settings") => Recorded::Settings,
         _ => Recorded::Bi,
+    }
+}
+
+/// Returns the largest capacity of the dynamic table. The parser accepts none above the largest.
+fn capacity_of(given: Option<u64>) -> u64
+    ensures below { result < 2 ^ 60 }
+    ensures given { (n : ℕ) → given ≡ Some n → n < 2 ^ 60 → result ≡ n }
+    ensures default { given ≡ None → result ≡ 4096 }
+{
+    match given {
+        Some(capacity) => capacity.min(MAX_CAPACITY - 1),
+        None => DEFAULT_CAPACITY,
     }
 }
 

@@ -1,18 +1,19 @@
 //! Errors of the program.
 ghost use Rattle.std.specs.Prelude.{◌≡◌};
-ghost use Rattle.wt_inspect.specs.Statuses.{failure_status};
+ghost use Rattle.wt_inspect.specs.Statuses.{failure_status, is_silent};
 
 use std::alloc::AllocError;
+use wtp_dynamic::error::EncoderStreamError;
 
 /// Why the program failed.
 #[derive(Clone, Copy, Debug, thiserror::Error)]
 pub enum Failure {
     /// The arguments could not be read or are not UTF-8.
-    #[error("the arguments cannot be read as text")]
+    #[error("an argument is not UTF-8; a file with such a name can be given as standard input")]
     Arguments,
-    /// The file could not be opened.
-    #[error("the file cannot be opened: is there a file of this name that you may read?")]
-    Open,
+    /// A file could not be read, as a message with its name has said.
+    #[error("the file cannot be read")]
+    Named,
     /// Reading failed.
     #[error("the input cannot be read: is it a folder?")]
     Input,
@@ -22,9 +23,15 @@ pub enum Failure {
     /// The input is not hexadecimal text.
     #[error("the input is not hexadecimal text: pairs of digits, blanks, line ends and 0x alone")]
     NotHex,
+    /// The encoder stream has a fault.
+    #[error("the encoder stream has a fault: {0} (QPACK_ENCODER_STREAM_ERROR, 0x201)")]
+    Encoder(EncoderStreamError),
     /// Writing failed.
     #[error("the output cannot be written")]
     Output,
+    /// Nobody reads the output.
+    #[error("the output is closed")]
+    Closed,
     /// Allocation failed.
     #[error("out of memory")]
     Memory,
@@ -38,7 +45,31 @@ impl Failure {
         match self {
             Failure::Arguments => 1,
             Failure::Memory => 4,
+            Failure::Closed => 141,
             _ => 3,
+        }
+    }
+
+    /// Returns whether nothing is left to say.
+    pub fn is_silent(self) -> bool
+        ensures { result ≡ is_silent self }
+    {
+        match self {
+            Failure::Named | Failure::Closed => true,
+            _ => false,
+        }
+    }
+}
+
+impl From<EncoderStreamError> for Failure {
+    ghost use Rattle.wt_inspect.specs.Statuses.{encoder_failure};
+
+    ghost from_gives = { λ fault failure. failure ≡ encoder_failure fault };
+
+    fn from(fault: EncoderStreamError) -> Self {
+        match fault {
+            EncoderStreamError::Memory => Failure::Memory,
+            _ => Failure::Encoder(fault),
         }
     }
 }

@@ -9,7 +9,7 @@ use Rattle.wtp_wire.proofs.SettingsLemmas.{equal-nat_cmp, less-nat_cmp, greater-
 use Rattle.wtp_wire.specs.SettingId.{is_reserved}
 use Rattle.wt_inspection.proofs.SettingLemmas.{settings_with}
 use Rattle.wtp_wire.specs.Settings.{pair_at}
-use Rattle.wt_inspection.specs.SettingLines.{StartsSettings, AreFlagged, flag_of}
+use Rattle.wt_inspection.specs.SettingLines.{StartsSettings, AreFlagged, flag_of, is_bad_value}
 use Rattle.wt_inspection_model.specs.declared.item.settings.SettingLine.{SettingLine}
 
 -- the identifiers of these lines, the last one first, and those before them
@@ -51,7 +51,7 @@ has_more old new ids id h u q =
 
 -- ---- one more setting
 
-flagged_with : (lines : List SettingLine) (before : List ℕ) (line : SettingLine) → AreFlagged before lines → line.flag ≡ flag_of (is_reserved line.id) (list_any (nat_eq line.id) (ids_of before lines)) → AreFlagged before (lines ++ line ∷ [])
+flagged_with : (lines : List SettingLine) (before : List ℕ) (line : SettingLine) → AreFlagged before lines → line.flag ≡ flag_of (is_reserved line.id) (list_any (nat_eq line.id) (ids_of before lines)) (is_bad_value line.id line.value) → AreFlagged before (lines ++ line ∷ [])
 flagged_with [] before line are e = (e, tt)
 flagged_with (first ∷ lines) before line (one, are) e = (one, flagged_with lines (first.id ∷ before) line are e)
 
@@ -59,11 +59,11 @@ ids_with : (lines : List SettingLine) (before : List ℕ) (line : SettingLine) �
 ids_with [] before line = refl
 ids_with (first ∷ lines) before line = ids_with lines (first.id ∷ before) line
 
-pub so_far_with : (bytes rest behind : List ℕ) (lines more : List SettingLine) (seen next : BTreeSet ℕ) (line : SettingLine) (number value : ℕ) (added : Bool) → SoFar bytes lines rest seen → pair_at rest ≡ Some ((number, value), behind) → line.id ≡ number → line.value ≡ value → line.flag ≡ flag_of (is_reserved number) (not added) → added ≡ not (contains nat_cmp seen number) → Updates nat_cmp seen next number true → more ≡ lines ++ line ∷ [] → SoFar bytes more behind next
+pub so_far_with : (bytes rest behind : List ℕ) (lines more : List SettingLine) (seen next : BTreeSet ℕ) (line : SettingLine) (number value : ℕ) (added : Bool) → SoFar bytes lines rest seen → pair_at rest ≡ Some ((number, value), behind) → line.id ≡ number → line.value ≡ value → line.flag ≡ flag_of (is_reserved number) (not added) (is_bad_value number value) → added ≡ not (contains nat_cmp seen number) → Updates nat_cmp seen next number true → more ≡ lines ++ line ∷ [] → SoFar bytes more behind next
 so_far_with bytes rest behind lines more seen next line number value added (are, flagged, has) pair id is flag new updates all =
     let one : pair_at rest ≡ Some ((line.id, line.value), behind) = rw (id, is) pair in
     let seen_it : not added ≡ list_any (nat_eq number) (ids_of [] lines) = ap not new ∙ not_not (contains nat_cmp seen number) ∙ has number in
-    let says : line.flag ≡ flag_of (is_reserved line.id) (list_any (nat_eq line.id) (ids_of [] lines)) = rw id (flag ∙ ap (λ (b : Bool). flag_of (is_reserved number) b) seen_it) in
+    let says : line.flag ≡ flag_of (is_reserved line.id) (list_any (nat_eq line.id) (ids_of [] lines)) (is_bad_value line.id line.value) = rw (id, is) (flag ∙ ap (λ (b : Bool). flag_of (is_reserved number) b (is_bad_value number value)) seen_it) in
     rw all (
       settings_with lines bytes rest behind line are one,
       flagged_with lines [] line flagged says,

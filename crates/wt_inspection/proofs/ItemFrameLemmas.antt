@@ -29,6 +29,8 @@ use Rattle.wt_inspection_model.specs.declared.item.Parts.TheVariants as parts-is
 use Rattle.wt_inspection_model.specs.declared.item.ending.End.{End}
 use Rattle.wt_inspection_model.specs.declared.item.fields.SectionFault.{SectionFault}
 use Rattle.wt_inspection_model.specs.declared.item.fields.SectionFault.TheVariants as fault-is
+use Rattle.wt_inspection_model.specs.declared.item.Signal.{Signal}
+use Rattle.wt_inspection_model.specs.declared.item.Signal.TheVariants as signal-is
 use Rattle.wt_inspection_model.specs.declared.item.names.FrameName.{FrameName}
 use Rattle.wt_inspection_model.specs.declared.item.names.FrameName.TheVariants as name-is
 use Rattle.wt_inspection.specs.declared.reading.Next.{Next}
@@ -37,7 +39,7 @@ use Rattle.wt_inspection.specs.DataCapsules.{Stage}
 use Rattle.wt_inspection.specs.ItemFrames.{frame_of, frames_at, frames_in, IsWithin, IsReadable, AreReadable}
 use Rattle.wt_inspection_model.specs.Names.{frame_name_of, named, other_name, is_http2}
 use Rattle.wtp_wire.specs.Settings.{pair_at}
-use Rattle.wt_inspection.specs.Recording.{Then, AfterSection, AfterSettings, HasParts, IsCut, IsCutPart, Judged, IsFrameAt, IsNext, IsNoFrame, IsRefused, Reads, is_session, name_fault, still_first}
+use Rattle.wt_inspection.specs.Recording.{Then, AfterSection, AfterSettings, HasParts, HasSignal, IsCut, IsCutPart, Judged, JudgedCut, IsFrameAt, IsNext, IsNoFrame, IsRefused, Reads, is_session, name_fault, still_first}
 
 -- ---- where the reading goes on, it goes on as after a frame that is allowed
 
@@ -50,66 +52,112 @@ cut_on name (parts-is.Capsules capsules) on next place missing item stops (is, i
 cut_on name (parts-is.Capsules capsules) on next place missing item stops (is, inr faults) = absurd faults
 cut_on name (parts-is.Fields section) on next place missing item stops h = absurd h
 cut_on name (parts-is.Settings lines) on next place missing item stops h = absurd h
+cut_on name (parts-is.Signal signal) on next place missing item stops h = absurd h
+
+-- a frame that is cut is the last one
+judged_cut_on : (fault : Option ErrorCode) (name : FrameName) (place missing : ℕ) (parts : Parts) (next : Next) → JudgedCut fault name place missing parts (Ok next) → ⊥
+judged_cut_on (Some c) name place missing parts next h = h.1
+judged_cut_on None name place missing parts next (on, stops, part) = cut_on name parts on next place missing (codes "frame") stops part
 
 section_on : (place : ℕ) (fault : Option SectionFault) (on : Then) (next : Next) → AfterSection place fault on (Ok next) → Ok next ≡ on
 section_on place None on next h = h
 section_on place (Some fault-is.NeedsDynamicTable) on next h = h
+section_on place (Some (fault-is.NeedsInsertions required inserted)) on next h = h
 section_on place (Some (fault-is.Malformed cause)) on next h = absurd h
 
 settings_on : {A : Type 0} (place : ℕ) (r : Result A ErrorCode) (on : Then) (next : Next) → AfterSettings place r on (Ok next) → Ok next ≡ on
 settings_on place (Ok settings) on next h = h
 settings_on place (Err c) on next h = absurd h
 
+-- what a frame says of requests and pushes
+signal_on : (name : FrameName) (place : ℕ) (payload : List ℕ) (signal : Signal) (on : Then) (next : Next) → HasSignal name place payload signal on (Ok next) → Ok next ≡ on
+signal_on (name-is.Read kind) place payload (signal-is.Id id) on next h = absurd h
+signal_on (name-is.Read kind) place payload (signal-is.Priority id value) on next h = absurd h
+signal_on (name-is.Read kind) place payload (signal-is.Promise id section) on next h = absurd h
+signal_on name-is.CancelPush place payload (signal-is.Id id) on next h = h.1
+signal_on name-is.CancelPush place payload (signal-is.Priority id value) on next h = absurd h
+signal_on name-is.CancelPush place payload (signal-is.Promise id section) on next h = absurd h
+signal_on name-is.PushPromise place payload (signal-is.Id id) on next h = absurd h
+signal_on name-is.PushPromise place payload (signal-is.Priority id value) on next h = absurd h
+signal_on name-is.PushPromise place payload (signal-is.Promise id section) on next h = section_on place section.fault on next h.1
+signal_on name-is.Goaway place payload (signal-is.Id id) on next h = h.1
+signal_on name-is.Goaway place payload (signal-is.Priority id value) on next h = absurd h
+signal_on name-is.Goaway place payload (signal-is.Promise id section) on next h = absurd h
+signal_on name-is.MaxPushId place payload (signal-is.Id id) on next h = h.1
+signal_on name-is.MaxPushId place payload (signal-is.Priority id value) on next h = absurd h
+signal_on name-is.MaxPushId place payload (signal-is.Promise id section) on next h = absurd h
+signal_on name-is.PriorityUpdate place payload (signal-is.Id id) on next h = absurd h
+signal_on name-is.PriorityUpdate place payload (signal-is.Priority id value) on next h = h.1
+signal_on name-is.PriorityUpdate place payload (signal-is.Promise id section) on next h = absurd h
+signal_on name-is.Http2 place payload (signal-is.Id id) on next h = absurd h
+signal_on name-is.Http2 place payload (signal-is.Priority id value) on next h = absurd h
+signal_on name-is.Http2 place payload (signal-is.Promise id section) on next h = absurd h
+signal_on name-is.Unknown place payload (signal-is.Id id) on next h = absurd h
+signal_on name-is.Unknown place payload (signal-is.Priority id value) on next h = absurd h
+signal_on name-is.Unknown place payload (signal-is.Promise id section) on next h = absurd h
+
 parts_on : (name : FrameName) (place : ℕ) (payload : List ℕ) (parts : Parts) (on : Then) (next : Next) → HasParts name place payload parts on (Ok next) → Ok next ≡ on
-parts_on (name-is.Read kind-is.Data) place payload parts-is.Opaque on next h = h
+parts_on (name-is.Read kind-is.Data) place payload parts-is.Opaque on next h = h.1
 parts_on (name-is.Read kind-is.Data) place payload (parts-is.Fields section) on next h = absurd h
 parts_on (name-is.Read kind-is.Data) place payload (parts-is.Settings lines) on next h = absurd h
 parts_on (name-is.Read kind-is.Data) place payload (parts-is.Capsules capsules) on next (inl e) = e
 parts_on (name-is.Read kind-is.Data) place payload (parts-is.Capsules capsules) on next (inr stops) = absurd stops
+parts_on (name-is.Read kind-is.Data) place payload (parts-is.Signal signal) on next h = signal_on (name-is.Read kind-is.Data) place payload signal on next h
 parts_on (name-is.Read kind-is.Headers) place payload parts-is.Opaque on next h = absurd h
 parts_on (name-is.Read kind-is.Headers) place payload (parts-is.Fields section) on next h = section_on place section.fault on next h.1
 parts_on (name-is.Read kind-is.Headers) place payload (parts-is.Settings lines) on next h = absurd h
 parts_on (name-is.Read kind-is.Headers) place payload (parts-is.Capsules capsules) on next h = absurd h
+parts_on (name-is.Read kind-is.Headers) place payload (parts-is.Signal signal) on next h = signal_on (name-is.Read kind-is.Headers) place payload signal on next h
 parts_on (name-is.Read kind-is.Settings) place payload parts-is.Opaque on next h = absurd h
 parts_on (name-is.Read kind-is.Settings) place payload (parts-is.Fields section) on next h = absurd h
 parts_on (name-is.Read kind-is.Settings) place payload (parts-is.Settings lines) on next h = settings_on place (settings_in payload) on next h.1
 parts_on (name-is.Read kind-is.Settings) place payload (parts-is.Capsules capsules) on next h = absurd h
-parts_on (name-is.Read kind-is.WebTransport) place payload parts-is.Opaque on next h = h
+parts_on (name-is.Read kind-is.Settings) place payload (parts-is.Signal signal) on next h = signal_on (name-is.Read kind-is.Settings) place payload signal on next h
+parts_on (name-is.Read kind-is.WebTransport) place payload parts-is.Opaque on next h = h.1
 parts_on (name-is.Read kind-is.WebTransport) place payload (parts-is.Fields section) on next h = absurd h
 parts_on (name-is.Read kind-is.WebTransport) place payload (parts-is.Settings lines) on next h = absurd h
 parts_on (name-is.Read kind-is.WebTransport) place payload (parts-is.Capsules capsules) on next h = absurd h
-parts_on (name-is.Read (kind-is.Exercise number)) place payload parts-is.Opaque on next h = h
+parts_on (name-is.Read kind-is.WebTransport) place payload (parts-is.Signal signal) on next h = signal_on (name-is.Read kind-is.WebTransport) place payload signal on next h
+parts_on (name-is.Read (kind-is.Exercise number)) place payload parts-is.Opaque on next h = h.1
 parts_on (name-is.Read (kind-is.Exercise number)) place payload (parts-is.Fields section) on next h = absurd h
 parts_on (name-is.Read (kind-is.Exercise number)) place payload (parts-is.Settings lines) on next h = absurd h
 parts_on (name-is.Read (kind-is.Exercise number)) place payload (parts-is.Capsules capsules) on next h = absurd h
-parts_on name-is.CancelPush place payload parts-is.Opaque on next h = h
+parts_on (name-is.Read (kind-is.Exercise number)) place payload (parts-is.Signal signal) on next h = signal_on (name-is.Read (kind-is.Exercise number)) place payload signal on next h
+parts_on name-is.CancelPush place payload parts-is.Opaque on next h = h.1
 parts_on name-is.CancelPush place payload (parts-is.Fields section) on next h = absurd h
 parts_on name-is.CancelPush place payload (parts-is.Settings lines) on next h = absurd h
 parts_on name-is.CancelPush place payload (parts-is.Capsules capsules) on next h = absurd h
-parts_on name-is.PushPromise place payload parts-is.Opaque on next h = h
+parts_on name-is.CancelPush place payload (parts-is.Signal signal) on next h = signal_on name-is.CancelPush place payload signal on next h
+parts_on name-is.PushPromise place payload parts-is.Opaque on next h = h.1
 parts_on name-is.PushPromise place payload (parts-is.Fields section) on next h = absurd h
 parts_on name-is.PushPromise place payload (parts-is.Settings lines) on next h = absurd h
 parts_on name-is.PushPromise place payload (parts-is.Capsules capsules) on next h = absurd h
-parts_on name-is.Goaway place payload parts-is.Opaque on next h = h
+parts_on name-is.PushPromise place payload (parts-is.Signal signal) on next h = signal_on name-is.PushPromise place payload signal on next h
+parts_on name-is.Goaway place payload parts-is.Opaque on next h = h.1
 parts_on name-is.Goaway place payload (parts-is.Fields section) on next h = absurd h
 parts_on name-is.Goaway place payload (parts-is.Settings lines) on next h = absurd h
 parts_on name-is.Goaway place payload (parts-is.Capsules capsules) on next h = absurd h
-parts_on name-is.MaxPushId place payload parts-is.Opaque on next h = h
+parts_on name-is.Goaway place payload (parts-is.Signal signal) on next h = signal_on name-is.Goaway place payload signal on next h
+parts_on name-is.MaxPushId place payload parts-is.Opaque on next h = h.1
 parts_on name-is.MaxPushId place payload (parts-is.Fields section) on next h = absurd h
 parts_on name-is.MaxPushId place payload (parts-is.Settings lines) on next h = absurd h
 parts_on name-is.MaxPushId place payload (parts-is.Capsules capsules) on next h = absurd h
-parts_on name-is.PriorityUpdate place payload parts-is.Opaque on next h = h
+parts_on name-is.MaxPushId place payload (parts-is.Signal signal) on next h = signal_on name-is.MaxPushId place payload signal on next h
+parts_on name-is.PriorityUpdate place payload parts-is.Opaque on next h = h.1
 parts_on name-is.PriorityUpdate place payload (parts-is.Fields section) on next h = absurd h
 parts_on name-is.PriorityUpdate place payload (parts-is.Settings lines) on next h = absurd h
 parts_on name-is.PriorityUpdate place payload (parts-is.Capsules capsules) on next h = absurd h
-parts_on name-is.Http2 place payload parts-is.Opaque on next h = h
+parts_on name-is.PriorityUpdate place payload (parts-is.Signal signal) on next h = signal_on name-is.PriorityUpdate place payload signal on next h
+parts_on name-is.Http2 place payload parts-is.Opaque on next h = h.1
 parts_on name-is.Http2 place payload (parts-is.Fields section) on next h = absurd h
 parts_on name-is.Http2 place payload (parts-is.Settings lines) on next h = absurd h
 parts_on name-is.Http2 place payload (parts-is.Capsules capsules) on next h = absurd h
-parts_on name-is.Unknown place payload parts-is.Opaque on next h = h
+parts_on name-is.Http2 place payload (parts-is.Signal signal) on next h = signal_on name-is.Http2 place payload signal on next h
+parts_on name-is.Unknown place payload parts-is.Opaque on next h = h.1
 parts_on name-is.Unknown place payload (parts-is.Fields section) on next h = absurd h
 parts_on name-is.Unknown place payload (parts-is.Settings lines) on next h = absurd h
 parts_on name-is.Unknown place payload (parts-is.Capsules capsules) on next h = absurd h
+parts_on name-is.Unknown place payload (parts-is.Signal signal) on next h = signal_on name-is.Unknown place payload signal on next h
 
 -- a frame that is not refused
 judged_on : (fault : Option ErrorCode) (name : FrameName) (place : ℕ) (payload : List ℕ) (parts : Parts) (on : Then) (next : Next) → Judged fault name place payload parts on (Ok next) → (fault ≡ None) × (Ok next ≡ on)
@@ -237,7 +285,7 @@ no_frame_on role first place bytes (Some ((number, id), rest)) next h = refused_
 
 one_item : (content : Content) (role : StreamRole) (first : Bool) (place : ℕ) (bytes : List ℕ) (len : ℕ) (next : Next) (tail : Tail) → len ≤ length bytes → IsNext (next-is.Frames role first) place bytes len content (Ok next) → IsReadable content → (next ≡ next-is.Payload) ⊎ Goes role first bytes len content next tail
 one_item (content-is.Frame f) role first place bytes len next tail within r readable = elim (cases_lt f.present f.announced) [
-  | inl cut ↦ let (all, on, stops, part) = r.cut cut in absurd (cut_on f.name f.parts on next place (f.announced - f.present) (codes "frame") stops part)
+  | inl cut ↦ absurd (judged_cut_on (name_fault role first f.name) f.name place (f.announced - f.present) f.parts next (r.cut cut).1)
   | inr full ↦
       let whole : f.present ≡ f.announced = omega (arith, r.most, full) in
       let (allowed, on) = judged_on (name_fault role first f.name) f.name place (take f.present (drop f.head bytes)) f.parts (Ok (next-is.Frames role (still_first first f.name))) next (r.whole whole) in

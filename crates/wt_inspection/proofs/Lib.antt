@@ -1,5 +1,7 @@
+pub mod InsertionLemmas
 pub mod TilesLemmas
 pub mod SectionLemmas
+pub mod ResolvedLemmas
 pub mod SettingLemmas
 pub mod PairLemmas
 pub mod RecordingLemmas

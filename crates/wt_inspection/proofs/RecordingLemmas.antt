@@ -1,5 +1,5 @@
 -- Items of a recording, one more at a time; and bytes of which none can be read.
-use Rattle.std.proofs.Common.{◌≡◌, ℕ, ◌+◌, ◌%◌, Bool, true, List, [], ◌∷◌, ◌++◌, Option, Some, None, Ok, drop, refl, sym, ap, ◌∙◌}
+use Rattle.std.proofs.Common.{◌≡◌, ℕ, ◌+◌, ◌%◌, Bool, true, false, List, [], ◌∷◌, ◌++◌, Option, Some, None, Ok, drop, refl, sym, ap, ◌∙◌}
 use Rattle.std.specs.Prelude.{◌==◌, ◌-◌, codes, length}
 use Rattle.std.proofs.lemmas.List.{drop-drop}
 use Rattle.wtp_core.specs.Varint.{number_at}
@@ -22,7 +22,7 @@ use Rattle.wtp_wire.proofs.HeadPairLemmas.{two_at}
 use Rattle.wt_inspection.proofs.PairLemmas.{some_is}
 use Rattle.wt_inspection.specs.DataCapsules.{Stage}
 use Rattle.wtp_wire.specs.Settings.{pair_at}
-use Rattle.wt_inspection.specs.Recording.{Then, IsPart, IsCut, IsStep, IsNext, IsNoFrame, IsNoHead, IsNoSession, IsRefused, IsSessionHead, Moves, Reads, after_head, has_session, is_session, pair_lacks}
+use Rattle.wt_inspection.specs.Recording.{Then, IsPart, IsCut, IsStep, IsNext, IsNoFrame, IsNoHead, IsNoSession, IsRefused, IsPushHead, IsSessionHead, Moves, Reads, has_session, is_push, is_session, pair_lacks}
 
 -- no item yet
 pub reads_none : (items : List Item) (before last : Then) (stage : Stage) (bytes : List ℕ) (at : ℕ) → items ≡ [] → at ≡ 0 → last ≡ before → Reads before stage bytes items last stage (drop at bytes)
@@ -73,26 +73,18 @@ no_session_id place bytes rest number id after e s = rw e s
 pub no_head_cut : (place : ℕ) (bytes : List ℕ) (after : Then) → number_at bytes ≡ None → IsCut place (codes "stream type") (varint_len_needed bytes - length bytes) after → IsNoHead place bytes (number_at bytes) after
 no_head_cut place bytes after e s = rw e s
 
-payload_after : (k : Option StreamKind) → has_session k ≡ true → after_head k ≡ next-is.Payload
-payload_after None e = cc e
-payload_after (Some stream-is.WebTransport) e = refl
-payload_after (Some stream-is.Control) e = cc e
-payload_after (Some stream-is.QPackEncoder) e = cc e
-payload_after (Some stream-is.QPackDecoder) e = cc e
-payload_after (Some (stream-is.Exercise number)) e = cc e
-
 same_number : (bytes mid other : List ℕ) (a b : ℕ) → number_at bytes ≡ Some (a, mid) → number_at bytes ≡ Some (b, other) → a ≡ b
 same_number bytes mid other a b e f =
     ap (λ (t : ℕ × List ℕ). t.0) (some_is {A = ℕ × List ℕ} (a, mid) (b, other) (sym e ∙ f))
 
 -- a head with a session ID is the head of a unidirectional stream whose type has one
 pub head_session : (place : ℕ) (bytes mid : List ℕ) (len number : ℕ) (content : Content) (after : Then) → number_at bytes ≡ Some (number, mid) → has_session (stream_kind_of number) ≡ true → IsSessionHead place bytes len content after → IsNext next-is.Head place bytes len content after
-head_session place bytes mid len number (content-is.Stream head) after e k ((id, p, m, s, named), a) =
+head_session place bytes mid len number (content-is.Stream head) after e k ((id, p, m, s, q), named, a) =
     let n = two_at bytes (drop len bytes) head.number id p in
     let same : head.number ≡ number = same_number bytes n.mid mid head.number number n.first e in
     let kind : has_session (stream_kind_of head.number) ≡ true = rw same k in
-    (rw kind (id, p, m, s, named), a ∙ ap (λ (x : Next). Ok x) (sym (payload_after (stream_kind_of head.number) kind)))
-head_session place bytes mid len number content-is.Unread after e k (all, none) = (all, rw e (k, none))
+    rw kind ((id, p, m, s, q), named, a)
+head_session place bytes mid len number content-is.Unread after e k (all, none) = (all, rw (e, k) none)
 head_session place bytes mid len number content-is.Payload after e k none = absurd none
 head_session place bytes mid len number (content-is.Frame f) after e k none = absurd none
 head_session place bytes mid len number (content-is.Session id) after e k none = absurd none
@@ -100,3 +92,20 @@ head_session place bytes mid len number (content-is.Capsule c) after e k none = 
 head_session place bytes mid len number (content-is.Datagram d) after e k none = absurd none
 head_session place bytes mid len number (content-is.Section x) after e k none = absurd none
 head_session place bytes mid len number (content-is.Settings lines) after e k none = absurd none
+
+-- a head with a push ID is that of a unidirectional stream whose type is that of a push stream
+pub head_push : (place : ℕ) (bytes mid : List ℕ) (len number : ℕ) (content : Content) (after : Then) → number_at bytes ≡ Some (number, mid) → has_session (stream_kind_of number) ≡ false → is_push number ≡ true → IsPushHead place bytes len content after → IsNext next-is.Head place bytes len content after
+head_push place bytes mid len number (content-is.Stream head) after e k push ((id, p, pushed, goes), none, named) =
+    let n = two_at bytes (drop len bytes) head.number id p in
+    let same : head.number ≡ number = same_number bytes n.mid mid head.number number n.first e in
+    let kind : has_session (stream_kind_of head.number) ≡ false = rw same k in
+    let pushes : is_push head.number ≡ true = rw same push in
+    rw (kind, pushes) ((id, p, pushed, goes), none, named)
+head_push place bytes mid len number content-is.Unread after e k push (all, none) = (all, rw (e, k) (push, none))
+head_push place bytes mid len number content-is.Payload after e k push none = absurd none
+head_push place bytes mid len number (content-is.Frame f) after e k push none = absurd none
+head_push place bytes mid len number (content-is.Session id) after e k push none = absurd none
+head_push place bytes mid len number (content-is.Capsule c) after e k push none = absurd none
+head_push place bytes mid len number (content-is.Datagram d) after e k push none = absurd none
+head_push place bytes mid len number (content-is.Section x) after e k push none = absurd none
+head_push place bytes mid len number (content-is.Settings lines) after e k push none = absurd none

@@ -1,10 +1,14 @@
 pub mod SettingLines
+pub mod Insertions
 pub mod Sections
+pub mod Resolved
 pub mod Heads
 pub mod Tiles
 pub mod CapsuleNames
 pub mod DataCapsules
 pub mod SessionSections
+pub mod Stops
+pub mod UniHeads
 pub mod Recording
 pub mod Walks
 pub mod Warnings

@@ -1,12 +1,11 @@
 -- What the items of a recording are: each is what the bytes at its place are, after the items
 -- before it (RFC 9114, sections 4.1, 6.2 and 7; RFC 9297, sections 2.1 and 3.2).
 use Rattle.std.specs.Prelude.{◌≡◌, ℕ, ◌++◌, ◌+◌, ◌-◌, ◌<◌, ◌≤◌, ◌%◌, ◌^◌, ◌⊎◌, ◌==◌, Bool, true}
-use Rattle.std.specs.Prelude.{false, not, List, [], ◌∷◌, length, take, drop, codes, string_bytes}
+use Rattle.std.specs.Prelude.{◌&&◌, false, not, List, [], ◌∷◌, length, take, drop, codes, string_bytes}
 use Rattle.std.specs.Prelude.{Option, Some, None, Result, Ok, Err}
+use Rattle.std.specs.Str.{bytes_eq}
 use Rattle.wtp_core.specs.Varint.{number_at}
-use Rattle.wtp_core.specs.VarintLenNeeded.{varint_len_needed}
 use Rattle.wtp_wire.specs.AnyCapsule.{missing_of}
-use Rattle.wtp_wire.specs.FrameNeed.{frame_need}
 use Rattle.wtp_wire.specs.Kind.{kind_of}
 use Rattle.wtp_wire.specs.StreamKind.{stream_kind_of}
 use Rattle.wtp_wire.specs.Settings.{settings_in}
@@ -22,17 +21,16 @@ use Rattle.wtp_wire.specs.declared.frame.kind.FrameKind.{FrameKind}
 use Rattle.wtp_wire.specs.declared.frame.kind.FrameKind.TheVariants as kind-is
 use Rattle.wtp_wire.specs.declared.capsule.CapsuleKind.{CapsuleKind}
 use Rattle.wtp_wire.specs.declared.capsule.CapsuleKind.TheVariants.{CloseWebTransportSession}
-use Rattle.wtp_wire.specs.declared.stream_header.StreamKind.{StreamKind}
-use Rattle.wtp_wire.specs.declared.stream_header.StreamKind.TheVariants as stream-is
 use Rattle.wtp_wire.specs.declared.rules.StreamRole.{StreamRole}
 use Rattle.wtp_wire.specs.declared.rules.StreamRole.TheVariants as role-is
 use Rattle.wt_inspection_model.specs.declared.item.Content.{Content}
 use Rattle.wt_inspection_model.specs.declared.item.Content.TheVariants as content-is
 use Rattle.wt_inspection_model.specs.declared.item.Item.{Item}
 use Rattle.wt_inspection_model.specs.declared.item.FrameItem.{FrameItem}
-use Rattle.wt_inspection_model.specs.declared.item.StreamHead.{StreamHead}
 use Rattle.wt_inspection_model.specs.declared.item.Parts.{Parts}
 use Rattle.wt_inspection_model.specs.declared.item.Parts.TheVariants as parts-is
+use Rattle.wt_inspection_model.specs.declared.item.Signal.{Signal}
+use Rattle.wt_inspection_model.specs.declared.item.Signal.TheVariants as signal-is
 use Rattle.wt_inspection_model.specs.declared.item.capsule.CapsuleItem.{CapsuleItem}
 use Rattle.wt_inspection_model.specs.declared.item.capsule.CloseReason.{CloseReason}
 use Rattle.wt_inspection_model.specs.declared.item.ending.End.{End}
@@ -46,45 +44,20 @@ use Rattle.wt_inspection.specs.declared.reading.Next.{Next}
 use Rattle.wt_inspection.specs.declared.reading.Next.TheVariants as next-is
 use Rattle.wt_inspection.specs.declared.reading.Recorded.{Recorded}
 use Rattle.wt_inspection.specs.declared.reading.Recorded.TheVariants as recorded-is
+pub use Rattle.wt_inspection.specs.Stops.{Then, IsCutAt, IsFaultAt, IsCut, Faults, StopsWith}
+pub use Rattle.wt_inspection.specs.Stops.{pair_lacks}
+pub use Rattle.wt_inspection.specs.UniHeads.{after_head, has_session, is_push, IsPlainHead, IsHead}
+pub use Rattle.wt_inspection.specs.UniHeads.{IsNoSession, IsNoPush, IsNoId, IsNoHead, IsSessionHead}
+pub use Rattle.wt_inspection.specs.UniHeads.{IsPushHead}
 use Rattle.wt_inspection.specs.CapsuleNames.{capsule_name}
 use Rattle.wt_inspection.specs.DataCapsules.{Stage, Opening, Plain, Session, StartsCapsules}
 use Rattle.wt_inspection.specs.DataCapsules.{EndsWith, place_of}
 use Rattle.wt_inspection.specs.Heads.{IsSessionItem, IsDatagramItem}
-use Rattle.wt_inspection_model.specs.Names.{frame_name_of, stream_name_of}
+use Rattle.wt_inspection_model.specs.Names.{frame_name_of}
 use Rattle.wtp_wire.specs.Settings.{pair_at}
 use Rattle.wt_inspection.specs.Sections.{IsSection}
 use Rattle.wt_inspection.specs.SessionSections.{stage_after}
 use Rattle.wt_inspection.specs.SettingLines.{AreSettings}
-
--- What follows an item: the next bytes, or the end of the reading. No byte after that is read.
-abbrev pub Then : Type 0
-Then = Result Next End
-
--- the end within an item of this kind at this place, of which at least so many bytes are missing
-abbrev pub IsCutAt : ℕ → List ℕ → ℕ → End → Type 0
-IsCutAt at item missing (end-is.Cut cut) =
-    (cut.at ≡ at) × (cut.item.now ≡ item) × (cut.missing ≡ missing)
-IsCutAt at item missing other = ⊥
-
--- the end at a fault of this code, of an item at this place of which no byte is missing
-abbrev pub IsFaultAt : ℕ → ErrorCode → End → Type 0
-IsFaultAt at c (end-is.Fault fault) = (fault.at ≡ at) × (fault.code ≡ c) × (fault.missing ≡ 0)
-IsFaultAt at c other = ⊥
-
--- the reading ends here, within an item of this kind at this place
-abbrev pub IsCut : ℕ → List ℕ → ℕ → Then → Type 0
-IsCut at item missing (Ok next) = ⊥
-IsCut at item missing (Err end) = IsCutAt at item missing end
-
--- the reading ends here with a fault
-abbrev pub Faults : Then → Type 0
-Faults (Err (end-is.Fault fault)) = Unit {0}
-Faults other = ⊥
-
--- the reading ends here with a fault of this code, of the item at this place
-abbrev pub StopsWith : ℕ → ErrorCode → Then → Type 0
-StopsWith at c (Ok next) = ⊥
-StopsWith at c (Err end) = IsFaultAt at c end
 
 -- ---- frames
 
@@ -115,6 +88,37 @@ abbrev pub HasFault : {A : Type 0} → Result A ErrorCode → Option ErrorCode �
 HasFault (Ok settings) found = found ≡ None
 HasFault (Err c) found = found ≡ Some c
 
+-- the payload is not one number alone, as it should be
+abbrev pub IsNotAlone : Option (ℕ × List ℕ) → Type 0
+IsNotAlone (Some (number, [])) = ⊥
+IsNotAlone other = Unit {0}
+
+-- what the payload of a frame of this name says of requests and pushes: an ID alone (RFC 9114,
+-- sections 7.2.3, 7.2.6 and 7.2.7), an ID and a priority (RFC 9218, section 7.2), or a push ID and
+-- a field section (RFC 9114, section 7.2.5)
+abbrev pub HasSignal : FrameName → ℕ → List ℕ → Signal → Then → Then → Type 0
+HasSignal name-is.CancelPush at payload (signal-is.Id id) on after =
+    (number_at payload ≡ Some (id, [])) × (after ≡ on)
+HasSignal name-is.Goaway at payload (signal-is.Id id) on after =
+    (number_at payload ≡ Some (id, [])) × (after ≡ on)
+HasSignal name-is.MaxPushId at payload (signal-is.Id id) on after =
+    (number_at payload ≡ Some (id, [])) × (after ≡ on)
+HasSignal name-is.PriorityUpdate at payload (signal-is.Priority id value) on after =
+    (number_at payload ≡ Some (id, value.items)) × (after ≡ on)
+HasSignal name-is.PushPromise at payload (signal-is.Promise id section) on after =
+    ((rest : List ℕ) × (number_at payload ≡ Some (id, rest)) × IsSection rest section)
+    × AfterSection at section.fault on after
+HasSignal name at payload signal on after = ⊥
+
+-- the payload of a frame of this name says nothing, as it has not what it should have
+abbrev pub HasNoSignal : FrameName → List ℕ → Type 0
+HasNoSignal name-is.CancelPush payload = IsNotAlone (number_at payload)
+HasNoSignal name-is.Goaway payload = IsNotAlone (number_at payload)
+HasNoSignal name-is.MaxPushId payload = IsNotAlone (number_at payload)
+HasNoSignal name-is.PriorityUpdate payload = number_at payload ≡ None
+HasNoSignal name-is.PushPromise payload = number_at payload ≡ None
+HasNoSignal name payload = Unit {0}
+
 -- what a frame of this name at this place with this payload contains, and whether the reading goes
 -- on after it
 abbrev pub HasParts : FrameName → ℕ → List ℕ → Parts → Then → Then → Type 0
@@ -126,7 +130,8 @@ HasParts (name-is.Read kind-is.Settings) at payload (parts-is.Settings lines) on
 HasParts (name-is.Read kind-is.Settings) at payload other on after = ⊥
 HasParts (name-is.Read kind-is.Data) at payload (parts-is.Capsules capsules) on after =
     (after ≡ on) ⊎ Faults after
-HasParts name at payload parts-is.Opaque on after = after ≡ on
+HasParts name at payload (parts-is.Signal signal) on after = HasSignal name at payload signal on after
+HasParts name at payload parts-is.Opaque on after = HasNoSignal name payload × (after ≡ on)
 HasParts name at payload other on after = ⊥
 
 -- a complete frame is refused, or it has these parts
@@ -152,6 +157,12 @@ IsCutPart name (parts-is.Capsules capsules) on after =
     (is_data name ≡ true) × ((after ≡ on) ⊎ Faults after)
 IsCutPart name other on after = ⊥
 
+-- a frame that lacks so many bytes is refused, or it has these parts
+abbrev pub JudgedCut : Option ErrorCode → FrameName → ℕ → ℕ → Parts → Then → Type 0
+JudgedCut (Some c) name at missing parts after = (parts ≡ parts-is.Opaque) × StopsWith at c after
+JudgedCut None name at missing parts after =
+    (on : Then) × IsCut at (codes "frame") missing on × IsCutPart name parts on after
+
 -- a frame at this place, of which len bytes are there
 pub record IsFrameAt (role : StreamRole) (first : Bool) (at : ℕ) (bytes : List ℕ) (len : ℕ)
     (f : FrameItem) (after : Then) : Type 0 where
@@ -161,8 +172,7 @@ pub record IsFrameAt (role : StreamRole) (first : Bool) (at : ℕ) (bytes : List
   pub size : f.head + f.present ≡ len
   pub most : f.present ≤ f.announced
   pub cut : f.present < f.announced → (len ≡ length bytes)
-      × (on : Then) × IsCut at (codes "frame") (f.announced - f.present) on
-      × IsCutPart f.name f.parts on after
+      × JudgedCut (name_fault role first f.name) f.name at (f.announced - f.present) f.parts after
   pub whole : f.present ≡ f.announced
       → Judged (name_fault role first f.name) f.name at (take f.present (drop f.head bytes))
       f.parts (Ok (next-is.Frames role (still_first first f.name))) after
@@ -173,10 +183,6 @@ IsRefused at false fault after = StopsWith at code-is.Id after
 IsRefused at true (Some c) after = StopsWith at c after
 IsRefused at true None after = ⊥
 
--- how many bytes are missing of two numbers that start with these bytes, at least
-abbrev pub pair_lacks : List ℕ → ℕ
-pair_lacks bytes = frame_need bytes - length bytes
-
 -- no frame can be read from the two numbers of these bytes, or the bytes are too few for them
 abbrev pub IsNoFrame :
     StreamRole → Bool → ℕ → List ℕ → Option ((ℕ × ℕ) × List ℕ) → Then → Type 0
@@ -184,47 +190,6 @@ IsNoFrame role first at bytes None after = IsCut at (codes "frame") (pair_lacks 
 IsNoFrame role first at bytes (Some ((number, id), rest)) after =
     (is_session (kind_of number) ≡ true)
     × IsRefused at (id % 4 == 0) (rule (role_of role) first kind-is.WebTransport) after
-
--- ---- heads of unidirectional streams
-
-abbrev pub after_head : Option StreamKind → Next
-after_head (Some stream-is.Control) = next-is.Frames role-is.UniRemote true
-after_head other = next-is.Payload
-
--- a session ID follows the type of a stream of this kind
-abbrev pub has_session : Option StreamKind → Bool
-has_session (Some stream-is.WebTransport) = true
-has_session other = false
-
--- the type, and the session ID if one follows
-abbrev pub IsHead : Bool → List ℕ → ℕ → StreamHead → Type 0
-IsHead true bytes len head =
-    (id : ℕ) × (pair_at bytes ≡ Some ((head.number, id), drop len bytes)) × (id % 4 ≡ 0)
-    × (head.session ≡ Some id) × (head.name ≡ stream_name_of head.number)
-IsHead false bytes len head =
-    (number_at bytes ≡ Some (head.number, drop len bytes)) × (head.session ≡ None)
-    × (head.name ≡ stream_name_of head.number)
-
--- no session ID can be read from the two numbers of these bytes, or the bytes are too few for them
-abbrev pub IsNoSession : ℕ → List ℕ → Option ((ℕ × ℕ) × List ℕ) → Then → Type 0
-IsNoSession at bytes None after = IsCut at (codes "stream type") (pair_lacks bytes) after
-IsNoSession at bytes (Some ((number, id), rest)) after =
-    ((id % 4 == 0) ≡ false) × StopsWith at code-is.Id after
-
--- no head can be read from the type of these bytes, or the bytes are too few for it
-abbrev pub IsNoHead : ℕ → List ℕ → Option (ℕ × List ℕ) → Then → Type 0
-IsNoHead at bytes None after =
-    IsCut at (codes "stream type") (varint_len_needed bytes - length bytes) after
-IsNoHead at bytes (Some (number, rest)) after =
-    (has_session (stream_kind_of number) ≡ true) × IsNoSession at bytes (pair_at bytes) after
-
--- a head with a session ID, or none
-abbrev pub IsSessionHead : ℕ → List ℕ → ℕ → Content → Then → Type 0
-IsSessionHead at bytes len (content-is.Stream head) after =
-    IsHead true bytes len head × (after ≡ Ok next-is.Payload)
-IsSessionHead at bytes len content-is.Unread after =
-    (len ≡ length bytes) × IsNoSession at bytes (pair_at bytes) after
-IsSessionHead at bytes len other after = ⊥
 
 -- ---- capsules
 
@@ -263,8 +228,7 @@ pub record IsCapsuleAt (at : ℕ) (bytes : List ℕ) (len : ℕ) (c : CapsuleIte
 -- the first len of the next bytes, which begin at this place, are this
 abbrev pub IsNext : Next → ℕ → List ℕ → ℕ → Content → Then → Type 0
 IsNext next-is.Head at bytes len (content-is.Stream head) after =
-    IsHead (has_session (stream_kind_of head.number)) bytes len head
-    × (after ≡ Ok (after_head (stream_kind_of head.number)))
+    IsHead (has_session (stream_kind_of head.number)) bytes len head after
 IsNext next-is.Head at bytes len content-is.Unread after =
     (len ≡ length bytes) × IsNoHead at bytes (number_at bytes) after
 IsNext (next-is.Frames role first) at bytes len (content-is.Frame f) after =
@@ -355,6 +319,14 @@ TakesWhole (Some c) role name at payload parts on after stage next = next ≡ st
 TakesWhole None role name at payload parts on after stage next =
     Takes role name at payload parts on after stage next
 
+-- the same of a frame that lacks so many bytes, which may be refused
+abbrev pub TakesCut : Option ErrorCode
+    → StreamRole → FrameName → ℕ → ℕ → ℕ → List ℕ → Parts → Then → Stage → Stage → Type 0
+TakesCut (Some c) role name at missing start payload parts after stage next = next ≡ stage
+TakesCut None role name at missing start payload parts after stage next =
+    (on : Then) × IsCut at (codes "frame") missing on
+    × Takes role name start payload parts on after stage next
+
 -- how far the message is after a frame at this place, of which some bytes may be missing
 pub record TakesFrame (role : StreamRole) (first : Bool) (at : ℕ) (bytes : List ℕ) (f : FrameItem)
     (after : Then) (stage next : Stage) : Type 0 where
@@ -363,9 +335,8 @@ pub record TakesFrame (role : StreamRole) (first : Bool) (at : ℕ) (bytes : Lis
       (take f.present (drop f.head bytes)) f.parts
       (Ok (next-is.Frames role (still_first first f.name))) after stage next
   pub cut : f.present < f.announced
-      → (on : Then) × IsCut at (codes "frame") (f.announced - f.present) on
-      × Takes role f.name (at + f.head) (take f.present (drop f.head bytes)) f.parts on after
-      stage next
+      → TakesCut (name_fault role first f.name) role f.name at (f.announced - f.present)
+      (at + f.head) (take f.present (drop f.head bytes)) f.parts after stage next
 
 abbrev pub HasNoFrame : Content → Type 0
 HasNoFrame (content-is.Frame f) = ⊥
@@ -405,6 +376,7 @@ Reads before stage bytes (item ∷ items) last final rest =
 abbrev pub start_of : Recorded → Next
 start_of recorded-is.Bi = next-is.Frames role-is.BiRemote true
 start_of recorded-is.Response = next-is.Frames role-is.BiLocal true
+start_of recorded-is.SessionResponse = next-is.Frames role-is.Session true
 start_of recorded-is.Uni = next-is.Head
 start_of recorded-is.Datagram = next-is.Datagram
 start_of recorded-is.Capsules = next-is.Capsules
@@ -428,27 +400,40 @@ EndsStage (Session (byte ∷ held) start) end =
     IsCutAt start (codes "capsule") (missing_of (pair_at (byte ∷ held)) (byte ∷ held)) end
 EndsStage other end = end ≡ end-is.Complete
 
--- a stream of frames, no bytes of which follow, may not end within one (RFC 9114, section 7.1)
-abbrev pub may_not_be_cut : Recorded → Bool → Bool
-may_not_be_cut recorded-is.Bi more = not more
-may_not_be_cut recorded-is.Response more = not more
-may_not_be_cut other more = false
+-- the bytes are cut within a frame
+abbrev pub is_cut_frame : End → Bool
+is_cut_frame (end-is.Cut cut) = bytes_eq cut.item.now (codes "frame")
+is_cut_frame other = false
+
+-- a stream of frames, no bytes of which follow, may not end so: within a frame (RFC 9114, section
+-- 7.1), or within a capsule (RFC 9297, section 3.3); a unidirectional one may end within its type
+-- (RFC 9114, section 6.2)
+abbrev pub may_not_be_cut : Recorded → Bool → End → Bool
+may_not_be_cut recorded-is.Bi more stop = not more
+may_not_be_cut recorded-is.Response more stop = not more
+may_not_be_cut recorded-is.SessionResponse more stop = not more
+may_not_be_cut recorded-is.Uni more stop = not more && is_cut_frame stop
+may_not_be_cut other more stop = false
 
 -- how bytes end whose reading stops so: where it stops, or, if they are cut and may not be, with
--- the fault of a frame that is cut at this place
-abbrev pub EndsStopped : Bool → End → End → Type 0
-EndsStopped false stop end = end ≡ stop
-EndsStopped true (end-is.Cut cut) (end-is.Fault fault) =
-    (fault.code ≡ code-is.Frame) × (fault.at ≡ cut.at) × (fault.missing ≡ cut.missing)
-EndsStopped true (end-is.Cut cut) other = ⊥
-EndsStopped true stop end = end ≡ stop
+-- a fault of this code of what is cut at this place
+abbrev pub EndsStopped : ErrorCode → Bool → End → End → Type 0
+EndsStopped c false stop end = end ≡ stop
+EndsStopped c true (end-is.Cut cut) (end-is.Fault fault) =
+    (fault.code ≡ c) × (fault.at ≡ cut.at) × (fault.missing ≡ cut.missing)
+EndsStopped c true (end-is.Cut cut) other = ⊥
+EndsStopped c true stop end = end ≡ stop
 
 -- the end of an inspection, if more bytes may follow or not: where the reading stopped, if it did;
--- otherwise no fault, unless there are no bytes
+-- otherwise no fault, unless there are no bytes, or they end within a capsule, which makes the
+-- message malformed (RFC 9297, section 3.3)
 abbrev pub EndsInspection : Recorded → Bool → Bool → Then → Stage → End → Type 0
-EndsInspection kind more empty (Err stop) stage end = EndsStopped (may_not_be_cut kind more) stop end
+EndsInspection kind more empty (Err stop) stage end =
+    EndsStopped code-is.Frame (may_not_be_cut kind more stop) stop end
 EndsInspection kind more true (Ok next) stage end = EndsEmpty (code_of_nothing kind) end
-EndsInspection kind more false (Ok next) stage end = EndsStage stage end
+EndsInspection kind more false (Ok next) stage end =
+    (stop : End) × EndsStage stage stop
+    × EndsStopped code-is.Message (may_not_be_cut kind more stop) stop end
 
 -- the items of a recording, after which more bytes may follow or not
 abbrev pub IsRecording : Recorded → Bool → List ℕ → List Item → End → Type 0

@@ -2,6 +2,8 @@
 use Rattle.std.specs.Prelude.{Bool, true, false}
 pub use Rattle.wt_inspection_model.specs.declared.item.Inspection.{Inspection}
 pub use Rattle.wt_inspection_model.specs.declared.item.ending.End.{End}
+pub use Rattle.wt_inspection_model.specs.declared.item.ending.Warning.{Warning}
+pub use Rattle.wt_inspection_model.specs.Rules.{is_hint}
 use Rattle.wt_inspection_model.specs.declared.item.ending.End.TheVariants as end-is
 
 -- the input has a fault

@@ -1,10 +1,11 @@
 -- Settings, one by one, as a payload has them (RFC 9114, section 7.2.4).
-use Rattle.std.specs.Prelude.{◌≡◌, ℕ, Bool, true, false, List, [], ◌∷◌, Option, Some, None, nat_eq}
+use Rattle.std.specs.Prelude.{◌≡◌, ◌==◌, ◌&&◌, ◌||◌, ℕ, Bool, true, false, List, [], ◌∷◌, Option, Some}
+use Rattle.std.specs.Prelude.{None, nat_eq, nat_lt}
 use Rattle.std.specs.List.{list_any}
 use Rattle.wtp_wire.specs.SettingId.{is_reserved}
 use Rattle.wt_inspection_model.specs.declared.item.settings.SettingIssue.{SettingIssue}
 use Rattle.wt_inspection_model.specs.declared.item.settings.SettingIssue.TheVariants.{Reserved}
-use Rattle.wt_inspection_model.specs.declared.item.settings.SettingIssue.TheVariants.{Repeated}
+use Rattle.wt_inspection_model.specs.declared.item.settings.SettingIssue.TheVariants.{Repeated, Value}
 use Rattle.wt_inspection_model.specs.declared.item.settings.SettingLine.{SettingLine}
 use Rattle.wtp_wire.specs.Settings.{pair_at}
 
@@ -16,17 +17,30 @@ StartsSettings bytes (line ∷ lines) rest =
     × (pair_at bytes ≡ Some ((line.id, line.value), behind))
     × StartsSettings behind lines rest
 
--- what is wrong with a setting whose identifier is reserved, or repeated
-abbrev pub flag_of : Bool → Bool → Option SettingIssue
-flag_of true repeated = Some Reserved
-flag_of false true = Some Repeated
-flag_of false false = None
+-- a setting that has no values but 0 and 1: SETTINGS_ENABLE_CONNECT_PROTOCOL (RFC 8441, section 3;
+-- RFC 9220, section 3), SETTINGS_H3_DATAGRAM (RFC 9297, section 2.1.1), and
+-- SETTINGS_ENABLE_WEBTRANSPORT (draft-ietf-webtrans-http3-02, section 3.1)
+abbrev pub is_flag : ℕ → Bool
+is_flag id = (id == 0x08) || ((id == 0x33) || (id == 0x2b603742))
+
+-- the value is not allowed for this setting
+abbrev pub is_bad_value : ℕ → ℕ → Bool
+is_bad_value id value = is_flag id && nat_lt 1 value
+
+-- what is wrong with a setting whose identifier is reserved, or repeated, or whose value is bad
+abbrev pub flag_of : Bool → Bool → Bool → Option SettingIssue
+flag_of true repeated bad = Some Reserved
+flag_of false true bad = Some Repeated
+flag_of false false true = Some Value
+flag_of false false false = None
 
 -- each of these settings, after settings of these identifiers, says what is wrong with it
 abbrev pub AreFlagged : List ℕ → List SettingLine → Type 0
 AreFlagged before [] = Unit {0}
 AreFlagged before (line ∷ lines) =
-    (line.flag ≡ flag_of (is_reserved line.id) (list_any (nat_eq line.id) before))
+    (line.flag
+    ≡ flag_of (is_reserved line.id) (list_any (nat_eq line.id) before)
+    (is_bad_value line.id line.value))
     × AreFlagged (line.id ∷ before) lines
 
 -- these are all settings of the bytes that are complete, up to one that is not

@@ -7,10 +7,11 @@ ghost use Rattle.wtp_wire.specs.CapsuleCursor.{capsule_value};
 ghost use Rattle.wtp_wire.specs.CapsuleFront.{IsCapsule};
 ghost use Rattle.wtp_wire.specs.CloseSession.{close_in};
 ghost use Rattle.wt_inspection.specs.Recording.{Closes, IsNext};
-ghost use Rattle.wt_inspection.specs.CapsuleNames.{capsule_name};
+ghost use Rattle.wt_inspection.specs.CapsuleNames.{capsule_name, other_name as other_name_of};
 ghost use Rattle.wt_inspection.specs.DataCapsules.{place_of};
 ghost use Rattle.wt_inspection.specs.Walks.{Fits, Holds, HoldsAt, IsFaultOf, JudgesBy, JudgesClose};
 ghost use Rattle.wt_inspection.specs.Walks.{Judges, LacksOf, TakesPiece, Stepped, begins_at};
+ghost use Rattle.wt_inspection.specs.Resolved.{HasNoSection};
 
 use crate::reading::{Next, Reading, Step, Then, cut, fault, fault_at};
 use std::alloc::{AllocError, Global};
@@ -279,10 +280,53 @@ fn name_of(number: VarInt) -> &'static str
 {
     match CapsuleKind::parse(number) {
         Some(CapsuleKind::CloseWebTransportSession) => "CLOSE_WEBTRANSPORT_SESSION",
-        None if number.into_inner() == 0 => "DATAGRAM",
-        None if is_reserved(number) => "reserved",
-        None => "unknown",
+        None => other_name(number),
     }
+}
+
+/// Returns the name of a capsule's type that the library does not read.
+#[tactic(auto, unfolding(crate::specs::CapsuleNames::other_name))]
+fn other_name(number: VarInt) -> &'static str
+    ensures { result.now ≡ other_name_of number }
+{
+    match number.into_inner() {
+        0x00 => "DATAGRAM",
+        0x78ae => "DRAIN_WEBTRANSPORT_SESSION",
+        0x190b_4d3d => "WT_MAX_DATA",
+        0x190b_4d3e => "WT_MAX_STREAM_DATA",
+        0x190b_4d3f => "WT_MAX_STREAMS_BIDI",
+        0x190b_4d40 => "WT_MAX_STREAMS_UNI",
+        0x190b_4d41 => "WT_DATA_BLOCKED",
+        0x190b_4d42 => "WT_STREAM_DATA_BLOCKED",
+        0x190b_4d43 => "WT_STREAMS_BLOCKED_BIDI",
+        0x190b_4d44 => "WT_STREAMS_BLOCKED_UNI",
+        _ if is_reserved(number) => "reserved",
+        _ => "unknown",
+    }
+}
+
+/// Returns whether these bytes are complete capsules, at least one, the first of which has a type
+/// with a name of its own.
+pub(crate) fn reads_as_capsules(bytes: &[u8]) -> bool {
+    let Some(first) = first_pair(bytes) else {
+        return false;
+    };
+    if matches!(name_of(first.first), "reserved" | "unknown") {
+        return false;
+    }
+    let mut rest = bytes;
+    'capsules: while !rest.is_empty() {
+        let Some(pair) = first_pair(rest) else {
+            return false;
+        };
+        let (_, value) = rest.split_at(pair.size);
+        let announced = pair.second.into_inner();
+        if announced > value.len() as u64 {
+            return false;
+        }
+        rest = value.split_at(announced as usize).1;
+    }
+    true
 }
 
 /// Returns whether a capsule's type is `0x29 * n + 0x17` for a number `n`. Those are reserved to
@@ -299,6 +343,7 @@ pub(crate) fn next_capsule(reading: &Reading, at: usize, rest: &[u8]) -> Result<
     ensures within { IfOk result (λ s. s.length ≤ length rest.now) }
     ensures some { IfOk result (λ s. 0 < s.length) }
     ensures read { IfOk result (λ s. IsNext Next.Capsules at rest.now s.length s.content s.after) }
+    ensures sections { IfOk result (λ s. HasNoSection s.content) }
 {
     let Some(pair) = first_pair(rest) else {
         let end = cut(at, "capsule", missing_bytes(rest) as u64);

@@ -1,26 +1,32 @@
 //! Frames (RFC 9114, section 7).
 ghost use Rattle.std.specs.Prelude.{◌≡◌, ◌≤◌, ◌<◌, ◌+◌, ◌^◌, ℕ, true, false, Some, Ok, Err};
-ghost use Rattle.std.specs.Prelude.{IfOk, length, drop};
+ghost use Rattle.std.specs.Prelude.{IfOk, length, drop, option_map};
 ghost use Rattle.wtp_wire.specs.Kind.{kind_of};
 ghost use Rattle.wt_inspection_model.specs.Names.{frame_name_of};
+ghost use Rattle.wt_inspection.specs.Resolved.{ContentWith, HasNoFields, HasNoSection, PartsWith};
 ghost use Rattle.wt_inspection.specs.Walks.{Leads};
 ghost use Rattle.wtp_wire.specs.Settings.{pair_at};
 ghost use Rattle.wt_inspection.specs.Recording.{HasNoFrame, HasParts, IsCutPart, IsNext, Judged};
-ghost use Rattle.wt_inspection.specs.Recording.{Moves, Takes, TakesDataFrame, TakesWhole};
+ghost use Rattle.wt_inspection.specs.Recording.{JudgedCut, Moves, StopsWith, Takes, TakesCut};
+ghost use Rattle.wt_inspection.specs.Recording.{TakesDataFrame, TakesWhole};
 ghost use Rattle.wt_inspection.specs.Recording.{is_data, is_session, name_fault, still_first};
 
+mod session;
+mod signals;
 mod warnings;
 
 use crate::capsules::CapsuleBatch;
 use crate::fields::{read_section, section_then};
-use crate::frames::warnings::warn_of_frame;
+use crate::frames::session::session_item;
+use crate::frames::signals::{id_parts, priority_parts, promise_parts};
+use crate::frames::warnings::{late_data, warn_of_frame};
+use crate::insertions::Insertions;
 use crate::message::take_section;
-use crate::reading::{Next, Phase, Reading, Step, Then, cut, fault};
-use crate::settings::{read_settings, settings_then};
+use crate::reading::{Next, Phase, Reading, Step, Then, add_warning, cut, fault};
+use crate::settings::{read_settings, settings_then, warn_of_settings};
 use std::alloc::AllocError;
 use wt_inspection_model::item::{Content, End, FrameItem, FrameName, Parts};
 use wtp_core::error::ErrorCode;
-use wtp_core::ids::SessionId;
 use wtp_core::varint::VarInt;
 use wtp_wire::frame::FrameKind;
 use wtp_wire::head::{FirstPair, first_pair, missing_bytes};
@@ -41,9 +47,10 @@ struct Place {
 }
 
 /// Returns the next frame.
-#[tactic(auto, using(crate::proofs::RecordingLemmas::no_frame_cut))]
+#[tactic(auto, using(crate::proofs::ResolvedLemmas::plain_content, crate::proofs::RecordingLemmas::no_frame_cut))]
 pub(crate) fn next_frame(
     reading: &mut Reading,
+    sent: Option<&Insertions<'_>>,
     role: StreamRole,
     first: bool,
     at: usize,
@@ -57,19 +64,21 @@ pub(crate) fn next_frame(
         s.after) }
     ensures stage { IfOk result (λ s. Leads reading.old.phase reading.new.phase
         (Moves (Ok (Next.Frames role first)) at rest.now s.content s.after) s.after) }
+    ensures sections { IfOk result (λ s. ContentWith (option_map (λ i. i.now) sent.entry) rest.now
+        s.content) }
 {
     let Some(pair) = first_pair(rest) else {
         let end = cut(at, "frame", missing_bytes(rest) as u64);
         return Ok(Step::last(rest.len(), Content::Unread, end));
     };
     if is_session(pair.first) {
-        return Ok(session_frame(role, first, at, pair, rest));
+        return session_item(reading, role, first, at, pair, rest);
     }
     let left = rest.len() - pair.size;
     if pair.second.into_inner() > left as u64 {
         return cut_frame(reading, role, first, at, pair, rest);
     }
-    whole_frame(reading, role, first, at, pair, rest)
+    whole_frame(reading, sent, role, first, at, pair, rest)
 }
 
 /// Returns whether a session ID follows the type of a frame, in place of a length.
@@ -84,36 +93,6 @@ fn is_session(number: VarInt) -> bool
         Some(FrameKind::Exercise(_)) => false,
         None => false,
     }
-}
-
-/// Returns the head of a WebTransport stream (draft-ietf-webtrans-http3-02, section 4.2).
-#[tactic(auto, using(crate::proofs::RecordingLemmas::no_frame_refused, crate::proofs::RecordingLemmas::session_kind))]
-fn session_frame(role: StreamRole, first: bool, at: usize, pair: FirstPair, rest: &[u8]) -> Step
-    requires nonempty { 0 < length rest.now }
-    requires within { pair.size ≤ length rest.now }
-    requires some { 0 < pair.size }
-    requires pair { pair_at rest.now ≡ Some ((pair.first, pair.second), drop pair.size rest.now) }
-    requires kind { is_session (kind_of pair.first) ≡ true }
-    ensures within { result.length ≤ length rest.now }
-    ensures some { 0 < result.length }
-    ensures read { IsNext (Next.Frames role first) at rest.now result.length result.content
-        result.after }
-    ensures plain { HasNoFrame result.content }
-{
-    let Ok(session) = SessionId::try_from_varint(pair.second) else {
-        let why = "a session ID is a multiple of 4 (draft-ietf-webtrans-http3-02, section 4)";
-        return Step::last(rest.len(), Content::Unread, fault(at, ErrorCode::Id, why));
-    };
-    if let Some(code) = fault_of(role, first, FrameKind::WebTransport) {
-        let why =
-            "only the first frame may begin a WebTransport stream (draft-ietf-webtrans-http3-02, 4.2)";
-        return Step::last(rest.len(), Content::Unread, fault(at, code, why));
-    }
-    Step::go_on(
-        pair.size,
-        Content::Session(session.into_u64()),
-        Next::Payload,
-    )
 }
 
 /// Returns a frame whose payload the bytes cut.
@@ -137,16 +116,16 @@ fn cut_frame(
         s.after) }
     ensures stage { IfOk result (λ s. Leads reading.old.phase reading.new.phase
         (Moves (Ok (Next.Frames role first)) at rest.now s.content s.after) s.after) }
+    ensures sections { IfOk result (λ s. HasNoSection s.content) }
 {
     let present = rest.split_at(pair.size).1;
-    let end = cut(at, "frame", pair.second.into_inner() - present.len() as u64);
-    let Found { parts, after } = cut_parts(
-        reading,
-        role,
-        at + pair.size,
-        pair.first,
-        present,
-        end,
+    let missing = pair.second.into_inner() - present.len() as u64;
+    let place = Place {
+        at,
+        head: pair.size,
+    };
+    let Found { parts, after } = judged_cut(
+        reading, role, first, place, pair.first, present, missing,
     )?;
     Ok(Step {
         length: rest.len(),
@@ -158,6 +137,7 @@ fn cut_frame(
 /// Returns a complete frame.
 fn whole_frame(
     reading: &mut Reading,
+    sent: Option<&Insertions<'_>>,
     role: StreamRole,
     first: bool,
     at: usize,
@@ -175,6 +155,8 @@ fn whole_frame(
         s.after) }
     ensures stage { IfOk result (λ s. Leads reading.old.phase reading.new.phase
         (Moves (Ok (Next.Frames role first)) at rest.now s.content s.after) s.after) }
+    ensures sections { IfOk result (λ s. ContentWith (option_map (λ i. i.now) sent.entry) rest.now
+        s.content) }
 {
     let present = pair.second.into_inner() as usize;
     let (_, body) = rest.split_at(pair.size);
@@ -183,7 +165,9 @@ fn whole_frame(
         at,
         head: pair.size,
     };
-    let Found { parts, after } = judged_parts(reading, role, first, place, pair.first, payload)?;
+    let Found { parts, after } = judged_parts(
+        reading, sent, role, first, place, pair.first, payload,
+    )?;
     Ok(Step {
         length: pair.size + present,
         content: Content::Frame(frame_of(pair, present, parts)),
@@ -212,6 +196,45 @@ fn frame_of(pair: FirstPair, present: usize, parts: Parts) -> FrameItem
     }
 }
 
+/// Returns what a frame contains that lacks so many bytes. One that is not allowed here is not read.
+fn judged_cut(
+    reading: &mut Reading,
+    role: StreamRole,
+    first: bool,
+    place: Place,
+    number: VarInt,
+    present: &[u8],
+    missing: u64,
+) -> Result<Found, AllocError>
+    requires { place.at + place.head + length present.now < 2 ^ 64 }
+    ensures parts { IfOk result (λ f. let name = frame_name_of number in
+        JudgedCut (name_fault role first name) name place.at missing f.parts f.after) }
+    ensures stage { IfOk result (λ f. let name = frame_name_of number in
+        Leads reading.old.phase reading.new.phase
+        (TakesCut (name_fault role first name) role name place.at missing
+        (place.at + place.head) present.now f.parts f.after) f.after) }
+    ensures plain { IfOk result (λ f. HasNoFields f.parts) }
+{
+    let at = place.at;
+    if let Some(code) = name_fault(role, first, number) {
+        return Ok(refused(at, code, number));
+    }
+    let end = cut(at, "frame", missing);
+    cut_parts(reading, role, at + place.head, number, present, end)
+}
+
+/// Returns what a frame contains that is not allowed here: nothing that is read.
+fn refused(at: usize, code: ErrorCode, number: VarInt) -> Found
+    ensures parts { result.parts ≡ Parts.Opaque }
+    ensures after { StopsWith at code result.after }
+{
+    let end = fault(at, code, describe(number));
+    Found {
+        parts: Parts::Opaque,
+        after: Err(end),
+    }
+}
+
 /// Returns what the present payload of a cut frame contains, which begins at this place. The
 /// reading ends so, unless there is a fault before.
 #[tactic(auto, using(crate::proofs::MessageLemmas::data_leads, crate::proofs::MessageLemmas::data_has, crate::proofs::MessageLemmas::opaque_leads, crate::proofs::MessageLemmas::cut_part))]
@@ -227,6 +250,7 @@ fn cut_parts(
     ensures parts { IfOk result (λ f. IsCutPart (frame_name_of number) f.parts (Err end) f.after) }
     ensures stage { IfOk result (λ f. Leads reading.old.phase reading.new.phase
         (Takes role (frame_name_of number) at present.now f.parts (Err end) f.after) f.after) }
+    ensures plain { IfOk result (λ f. HasNoFields f.parts) }
 {
     if is_data(number) {
         return data_parts(reading, at, present, Err(end));
@@ -261,6 +285,7 @@ fn is_data(number: VarInt) -> bool
 /// is not allowed here is not read.
 fn judged_parts(
     reading: &mut Reading,
+    sent: Option<&Insertions<'_>>,
     role: StreamRole,
     first: bool,
     place: Place,
@@ -276,18 +301,16 @@ fn judged_parts(
         Leads reading.old.phase reading.new.phase
         (TakesWhole (name_fault role first name) role name (place.at + place.head) payload.now
         f.parts (Ok (Next.Frames role (still_first first name))) f.after) f.after) }
+    ensures sections { IfOk result (λ f. PartsWith (option_map (λ i. i.now) sent.entry) payload.now
+        f.parts) }
 {
     let at = place.at;
     if let Some(code) = name_fault(role, first, number) {
-        let end = fault(at, code, describe(number));
-        return Ok(Found {
-            parts: Parts::Opaque,
-            after: Err(end),
-        });
+        return Ok(refused(at, code, number));
     }
     let next = Next::Frames(role, still_first(first, number));
-    warn_of_frame(reading, role, at, number)?;
-    parts_of(reading, role, place, number, payload, next)
+    warn_of_frame(reading, role, at, number, payload)?;
+    parts_of(reading, sent, role, place, number, payload, next)
 }
 
 /// Returns the fault of a frame of this type, if it may not be here.
@@ -332,9 +355,10 @@ fn still_first(first: bool, number: VarInt) -> bool
 }
 
 /// Returns what the payload of a complete frame contains. A fault in it ends the reading.
-#[tactic(auto, using(crate::proofs::MessageLemmas::data_leads, crate::proofs::MessageLemmas::data_has, crate::proofs::MessageLemmas::opaque_leads))]
+#[tactic(auto, using(crate::proofs::ResolvedLemmas::plain_parts, crate::proofs::MessageLemmas::data_leads, crate::proofs::MessageLemmas::data_has, crate::proofs::MessageLemmas::opaque_leads))]
 fn parts_of(
     reading: &mut Reading,
+    sent: Option<&Insertions<'_>>,
     role: StreamRole,
     place: Place,
     number: VarInt,
@@ -348,17 +372,20 @@ fn parts_of(
     ensures stage { IfOk result (λ f. Leads reading.old.phase reading.new.phase
         (Takes role (frame_name_of number) (place.at + place.head) payload.now f.parts
         (Ok next) f.after) f.after) }
+    ensures sections { IfOk result (λ f. PartsWith (option_map (λ i. i.now) sent.entry) payload.now
+        f.parts) }
 {
     if is_data(number) {
         return data_parts(reading, place.at + place.head, payload, Ok(next));
     }
-    other_parts(reading, role, place.at, number, payload, next)
+    other_parts(reading, sent, role, place.at, number, payload, next)
 }
 
 /// Returns what the payload of a complete frame contains, if it is not a DATA frame.
-#[tactic(auto, using(crate::proofs::MessageLemmas::opaque_leads))]
+#[tactic(auto, using(crate::proofs::ResolvedLemmas::plain_parts, crate::proofs::MessageLemmas::opaque_leads))]
 fn other_parts(
     reading: &mut Reading,
+    sent: Option<&Insertions<'_>>,
     role: StreamRole,
     at: usize,
     number: VarInt,
@@ -371,18 +398,22 @@ fn other_parts(
         (Ok next) f.after) }
     ensures stage { IfOk result (λ f. (start : ℕ) → Leads reading.old.phase reading.new.phase
         (Takes role (frame_name_of number) start payload.now f.parts (Ok next) f.after) f.after) }
+    ensures sections { IfOk result (λ f. PartsWith (option_map (λ i. i.now) sent.entry) payload.now
+        f.parts) }
 {
     match FrameName::of(number) {
-        FrameName::Read(FrameKind::Headers) => headers_parts(reading, role, at, payload, next),
+        FrameName::Read(FrameKind::Headers) => headers_parts(
+            reading, sent, role, at, payload, next,
+        ),
         FrameName::Read(FrameKind::Settings) => settings_parts(reading, at, payload, next),
+        FrameName::CancelPush => Ok(id_parts(payload, next)),
+        FrameName::Goaway => Ok(id_parts(payload, next)),
+        FrameName::MaxPushId => Ok(id_parts(payload, next)),
+        FrameName::PriorityUpdate => priority_parts(reading.alloc, payload, next),
+        FrameName::PushPromise => promise_parts(reading, sent, at, payload, next),
         FrameName::Read(FrameKind::Data)
         | FrameName::Read(FrameKind::WebTransport)
         | FrameName::Read(FrameKind::Exercise(_))
-        | FrameName::CancelPush
-        | FrameName::PushPromise
-        | FrameName::Goaway
-        | FrameName::MaxPushId
-        | FrameName::PriorityUpdate
         | FrameName::Http2
         | FrameName::Unknown => Ok(Found {
             parts: Parts::Opaque,
@@ -394,6 +425,7 @@ fn other_parts(
 /// Returns the field section of a HEADERS frame. It ends the reading if it is malformed.
 fn headers_parts(
     reading: &mut Reading,
+    sent: Option<&Insertions<'_>>,
     role: StreamRole,
     at: usize,
     payload: &[u8],
@@ -404,9 +436,11 @@ fn headers_parts(
     ensures stage { IfOk result (λ f. (start : ℕ) → Leads reading.old.phase reading.new.phase
         (Takes role (FrameName.Read FrameKind.Headers) start payload.now f.parts (Ok next) f.after)
         f.after) }
+    ensures sections { IfOk result (λ f. PartsWith (option_map (λ i. i.now) sent.entry) payload.now
+        f.parts) }
 {
-    let section = read_section(reading.alloc, payload)?;
-    take_section(reading, role, at, &section)?;
+    let section = read_section(reading.alloc, sent, payload)?;
+    take_section(reading, role, at, &section, payload)?;
     let after = section_then(at, &section, next);
     Ok(Found {
         parts: Parts::Fields(section),
@@ -416,17 +450,22 @@ fn headers_parts(
 
 /// Returns the settings of a SETTINGS frame. Their first fault ends the reading.
 fn settings_parts(
-    reading: &Reading,
+    reading: &mut Reading,
     at: usize,
     payload: &[u8],
     next: Next,
 ) -> Result<Found, AllocError>
     requires { length payload.now < 2 ^ 62 }
-    ensures { IfOk result (λ f. HasParts (FrameName.Read FrameKind.Settings) at payload.now f.parts
-        (Ok next) f.after) }
+    ensures parts { IfOk result (λ f. HasParts (FrameName.Read FrameKind.Settings) at payload.now
+        f.parts (Ok next) f.after) }
+    ensures phase { IfOk result (λ _. reading.new.phase ≡ reading.old.phase) }
+    ensures plain { IfOk result (λ f. HasNoFields f.parts) }
 {
     let settings = read_settings(reading.alloc, payload)?;
     let after = settings_then(at, reading.alloc, payload, next)?;
+    if after.is_ok() {
+        warn_of_settings(reading, at, settings.as_slice())?;
+    }
     Ok(Found {
         parts: Parts::Settings(settings),
         after,
@@ -446,6 +485,7 @@ fn data_parts(
         payload.now f.parts on f.after) }
     ensures stage { IfOk result (λ f. Leads reading.old.phase reading.new.phase
         (TakesDataFrame at payload.now f.parts on f.after) f.after) }
+    ensures plain { IfOk result (λ f. HasNoFields f.parts) }
 {
     let Phase::Session(walk) = &mut reading.phase else {
         return Ok(Found {
@@ -454,6 +494,9 @@ fn data_parts(
         });
     };
     let CapsuleBatch { items, fault } = walk.add(at, payload)?;
+    let is_cut = walk.pending().is_some();
+    let late = late_data(&mut reading.past, payload, items.as_slice(), is_cut);
+    add_warning(&mut reading.warnings, at, None, late)?;
     let after = match fault {
         Some(fault) => Err(End::Fault(fault)),
         None => on,

@@ -9,14 +9,17 @@
 mod capsules;
 mod fields;
 mod frames;
+mod insertions;
 pub mod laws;
 mod message;
+mod past;
 mod reading;
 mod recording;
 mod settings;
 mod tiling;
 
+pub use insertions::{Insertions, instructions_in};
 pub use reading::Recorded;
-pub use recording::inspect;
+pub use recording::{inspect, inspect_with};
 pub use wt_inspection_model::item;
 pub use wt_inspection_model::item::{Content, End, Inspection, Item};

@@ -1,25 +1,25 @@
 //! What is wrong with the field sections of a message (RFC 9114, sections 4.2 to 4.4).
 
-ghost use Rattle.std.specs.List.{list_any};
-ghost use Rattle.std.specs.Prelude.{◌≡◌, ◌≢◌, ◌++◌, IfOk, Ok};
+ghost use Rattle.std.specs.Prelude.{◌≡◌, ◌≢◌, IfOk, Ok};
 ghost use Rattle.std.specs.Str.{bytes_eq};
 ghost use Rattle.wt_inspection.specs.Recording.{TakesSection};
-ghost use Rattle.wt_inspection.specs.SessionSections.{has_field, is_connect, is_interim};
-ghost use Rattle.wt_inspection.specs.SessionSections.{is_interim_status, opens_session};
-ghost use Rattle.wt_inspection.specs.SessionSections.{request_opens, response_opens};
-ghost use Rattle.wt_inspection.specs.SessionSections.{starts_with_one};
+ghost use Rattle.wt_inspection.specs.SessionSections.{has_field};
 ghost use Rattle.wt_inspection.specs.Walks.{Leads};
-ghost use Rattle.wt_inspection.specs.Warnings.{warning_of};
 
+pub(crate) mod judge;
 mod lines;
 mod pseudo;
+mod sessions;
 
 use crate::capsules::CapsuleWalk;
+use crate::message::judge::Judge;
 use crate::message::lines::warning_of_line;
 use crate::message::pseudo::{Pseudo, warning_of_pseudo};
-use crate::reading::{Next, Phase, Reading};
+use crate::message::sessions::{accepts, connects, is_interim, opens_session};
+use crate::past::Past;
+use crate::reading::{Next, Phase, Reading, add_warning};
 use std::alloc::{AllocError, Global};
-use wt_inspection_model::item::{FieldSection, Line, Warning};
+use wt_inspection_model::item::{FieldSection, Line, Rule, Warning};
 use wtp_wire::rules::StreamRole;
 
 /// What a field section belongs to.
@@ -42,16 +42,74 @@ pub(crate) fn take_section(
     role: StreamRole,
     at: usize,
     section: &FieldSection,
+    payload: &[u8],
 ) -> Result<(), AllocError>
     ensures { IfOk result (λ _. Leads reading.old.phase reading.new.phase
         (TakesSection role section.now) (Ok Next.Head)) }
 {
     let purpose = purpose_of(reading, role);
+    let before = reading.warnings.len();
     warn_by(&mut reading.warnings, at, section, purpose)?;
-    if purpose != Purpose::Trailers {
-        reading.phase = phase_after(reading.alloc, role, section);
+    let is_judged = reading.warnings.len() > before;
+    judge_section(reading, role, at, payload, is_judged)?;
+    let hint = kind_hint(section, purpose);
+    reading.warn(at, hint)?;
+    if purpose == Purpose::Trailers {
+        reading.past.saw_trailers = true;
+        return Ok(());
     }
+    note_section(&mut reading.past, role, section);
+    reading.phase = phase_after(reading.alloc, role, section);
     Ok(())
+}
+
+/// Returns a hint that a section is of another kind of message.
+fn kind_hint(section: &FieldSection, purpose: Purpose) -> Option<Rule> {
+    match purpose {
+        Purpose::Request if has_field(section, b":status") => Some(Rule::LikeResponse),
+        Purpose::Response if has_field(section, b":method") => Some(Rule::LikeRequest),
+        _ => None,
+    }
+}
+
+/// Warns of what makes a section malformed, unless that `is_judged` already.
+fn judge_section(
+    reading: &mut Reading,
+    role: StreamRole,
+    at: usize,
+    payload: &[u8],
+    is_judged: bool,
+) -> Result<(), AllocError>
+    ensures { IfOk result (λ _. reading.new.phase ≡ reading.old.phase) }
+{
+    let mut judge = reading.past.judge.unwrap_or(Judge::new(role));
+    if is_judged {
+        judge.stop();
+    }
+    let broken = judge.section(reading.alloc, payload)?;
+    reading.past.judge = Some(judge);
+    reading.warn(at, broken)
+}
+
+/// Notes what a header section says of the frames after it.
+fn note_section(past: &mut Past, role: StreamRole, section: &FieldSection) {
+    if is_interim(role, section) {
+        return;
+    }
+    let is_session = opens_session(role, section);
+    past.is_tunnel = is_session || connects(section);
+    past.may_have_capsules = !is_session && role == StreamRole::BiLocal && accepts(section);
+}
+
+/// Warns of what is wrong with the section of a promised request.
+pub(crate) fn warn_of_promise(
+    reading: &mut Reading,
+    at: usize,
+    section: &FieldSection,
+) -> Result<(), AllocError>
+    ensures { IfOk result (λ _. reading.new.phase ≡ reading.old.phase) }
+{
+    warn_by(&mut reading.warnings, at, section, Purpose::Request)
 }
 
 /// Returns how far a message is after its header section, or after the section of an interim
@@ -95,8 +153,8 @@ fn purpose_at_start(role: StreamRole) -> Purpose
     ensures { result ≢ Purpose.Trailers }
 {
     match role {
-        StreamRole::BiLocal => Purpose::Response,
-        StreamRole::BiRemote | StreamRole::UniRemote | StreamRole::Session => Purpose::Request,
+        StreamRole::BiLocal | StreamRole::Session => Purpose::Response,
+        StreamRole::BiRemote | StreamRole::UniRemote => Purpose::Request,
     }
 }
 
@@ -109,6 +167,9 @@ fn warn_by(
 ) -> Result<(), AllocError> {
     let mut seen = Pseudo::new();
     for (k, line) in section.lines.iter().enumerate() {
+        if line.unknown.is_some() {
+            continue;
+        }
         let why = warning_of_pseudo(&mut seen, line, purpose).or(warning_of_line(line));
         add_warning(warnings, at, Some(k), why)?;
     }
@@ -116,106 +177,6 @@ fn warn_by(
         return Ok(());
     }
     add_warning(warnings, at, None, seen.missing(purpose))
-}
-
-/// Adds a warning, if there is one.
-fn add_warning(
-    warnings: &mut Vec<Warning>,
-    at: usize,
-    line: Option<usize>,
-    why: Option<&'static str>,
-) -> Result<(), AllocError>
-    ensures { IfOk result (λ _. warnings.new.items ≡ warnings.old.items
-        ++ warning_of at line why.entry) }
-{
-    if let Some(why) = why {
-        warnings.push(Warning { at, line, why })?;
-    }
-    Ok(())
-}
-
-/// Returns whether a section is that of an interim response, with a status that begins with 1 (RFC
-/// 9114, section 4.1).
-fn is_interim(role: StreamRole, section: &FieldSection) -> bool
-    ensures { result ≡ is_interim role section.now }
-{
-    match role {
-        StreamRole::BiLocal => has_interim_status(section),
-        StreamRole::BiRemote | StreamRole::UniRemote | StreamRole::Session => false,
-    }
-}
-
-/// Returns whether a section has the status of an interim response.
-fn has_interim_status(section: &FieldSection) -> bool
-    ensures { result ≡ list_any is_interim_status section.now.lines.items }
-{
-    section.lines.iter().any(|line| is_interim_status(line))
-}
-
-/// Returns whether a line is the status of an interim response: its first digit is 1 (RFC 9110,
-/// section 15.2).
-fn is_interim_status(line: &Line) -> bool
-    ensures { result ≡ is_interim_status line.now }
-{
-    is_named(line, b":status") && starts_with_one(line.value.as_slice())
-}
-
-/// Returns whether the first byte is the digit 1.
-fn starts_with_one(value: &[u8]) -> bool
-    ensures { result ≡ starts_with_one value.now }
-{
-    match value.first() {
-        Some(&first) => first == b'1',
-        None => false,
-    }
-}
-
-/// Returns whether the DATA frames after a header section contain capsules: a request has
-/// `:protocol` (RFC 8441, section 4; RFC 9220, section 3), a response one of the fields of
-/// sessions. A CONNECT whose section cannot be read to its end counts as one with `:protocol`.
-fn opens_session(role: StreamRole, section: &FieldSection) -> bool
-    ensures { result ≡ opens_session role section.now }
-{
-    match role {
-        StreamRole::BiLocal => response_opens(section),
-        StreamRole::BiRemote | StreamRole::UniRemote | StreamRole::Session => {
-            request_opens(section)
-        }
-    }
-}
-
-/// Returns whether a response has one of the fields of sessions.
-fn response_opens(section: &FieldSection) -> bool
-    ensures { result ≡ response_opens section.now.lines.items }
-{
-    has_field(section, b"capsule-protocol")
-        || has_field(section, b"sec-webtransport-http3-draft")
-        || has_field(section, b"wt-protocol")
-}
-
-/// Returns whether a request has `:protocol`, or is a CONNECT whose section cannot be read to its
-/// end.
-fn request_opens(section: &FieldSection) -> bool
-    ensures { result ≡ request_opens section.now.fault section.now.lines.items }
-{
-    match section.fault {
-        None => has_field(section, b":protocol"),
-        Some(_) => has_field(section, b":protocol") || connects(section),
-    }
-}
-
-/// Returns whether a request has the method CONNECT.
-fn connects(section: &FieldSection) -> bool
-    ensures { result ≡ list_any is_connect section.now.lines.items }
-{
-    section.lines.iter().any(|line| is_connect(line))
-}
-
-/// Returns whether a line is the method CONNECT.
-fn is_connect(line: &Line) -> bool
-    ensures { result ≡ is_connect line.now }
-{
-    is_named(line, b":method") && line.value.as_slice() == b"CONNECT".as_slice()
 }
 
 /// Returns whether a section has a line of this name.

@@ -1,15 +1,19 @@
 //! What reading remembers from item to item.
-ghost use Rattle.std.specs.Prelude.{◌≡◌, ◌++◌, ◌∷◌, [], None, Ok, Err, IfOk};
+ghost use Rattle.std.specs.Prelude.{◌≡◌, ◌++◌, None, Ok, Err, IfOk};
 ghost use Rattle.wt_inspection.specs.DataCapsules.{Stage};
 ghost use Rattle.wt_inspection.specs.Walks.{IsStage};
-ghost use Rattle.wt_inspection.specs.Recording.{EndsEmpty, EndsStage, IsCutAt, IsFaultAt, EndsStopped};
+ghost use Rattle.wt_inspection.specs.Warnings.{warning_of};
+ghost use Rattle.wt_inspection.specs.Recording.{EndsEmpty, EndsStage, EndsStopped, IsCutAt};
+ghost use Rattle.wt_inspection.specs.Recording.{IsFaultAt, is_cut_frame};
 ghost use Rattle.wt_inspection.specs.Recording.{code_of_nothing, may_not_be_cut, start_of};
 
 use crate::capsules::CapsuleWalk;
+use crate::past::Past;
 use std::alloc::{AllocError, Global};
-use wt_inspection_model::item::{Content, Cut, End, Fault, Warning};
+use wt_inspection_model::item::{Content, Cut, End, Fault, Rule, Warning};
 use wtp_core::error::ErrorCode;
 use wtp_wire::rules::StreamRole;
+use wtp_wire::stream_header::StreamKind;
 
 /// What was recorded, from its first byte.
 #[derive(Clone, Copy, Debug, PartialEq, Eq)]
@@ -19,6 +23,8 @@ pub enum Recorded {
     Bi,
     /// The other direction of a request: a response.
     Response,
+    /// The response to a request for a session. Once it accepts, its DATA frames contain capsules.
+    SessionResponse,
     /// A unidirectional stream.
     Uni,
     /// The payload of a QUIC datagram.
@@ -58,6 +64,7 @@ pub(crate) fn start_of(kind: Recorded) -> Next
     match kind {
         Recorded::Bi => Next::Frames(StreamRole::BiRemote, true),
         Recorded::Response => Next::Frames(StreamRole::BiLocal, true),
+        Recorded::SessionResponse => Next::Frames(StreamRole::Session, true),
         Recorded::Uni => Next::Head,
         Recorded::Datagram => Next::Datagram,
         Recorded::Capsules => Next::Capsules,
@@ -81,10 +88,25 @@ pub(crate) enum Phase {
 #[derive(Drop)]
 pub(crate) struct Reading {
     pub(crate) alloc: Global,
-    /// Whether a frame of a control stream was read.
-    pub(crate) saw_control_frame: bool,
+    pub(crate) past: Past,
     pub(crate) phase: Phase,
     pub(crate) warnings: Vec<Warning>,
+}
+
+/// Adds a warning of an item and of this line of it, if there is one.
+pub(crate) fn add_warning(
+    warnings: &mut Vec<Warning>,
+    at: usize,
+    line: Option<usize>,
+    rule: Option<Rule>,
+) -> Result<(), AllocError>
+    ensures { IfOk result (λ _. warnings.new.items ≡ warnings.old.items
+        ++ warning_of at line rule) }
+{
+    if let Some(rule) = rule {
+        warnings.push(Warning { at, line, rule })?;
+    }
+    Ok(())
 }
 
 /// What follows an item: the next bytes, or the end of the reading.
@@ -105,24 +127,39 @@ impl Reading {
     {
         Reading {
             alloc,
-            saw_control_frame: false,
+            past: Past::new(),
             phase: Phase::Opening,
             warnings: Vec::new(alloc),
         }
     }
 
-    /// Adds a warning.
-    pub(crate) fn warn(&mut self, at: usize, why: &'static str) -> Result<(), AllocError>
+    /// Adds a warning, if there is one.
+    pub(crate) fn warn(&mut self, at: usize, rule: Option<Rule>) -> Result<(), AllocError>
         ensures phase { IfOk result (λ _. self.new.phase ≡ self.old.phase) }
-        ensures warnings { IfOk result (λ _. self.new.warnings.items ≡ self.old.warnings.items
-            ++ record { at = at; line = None; why = why.entry } ∷ []) }
+        ensures warnings { IfOk result (λ _. self.new.warnings.items
+            ≡ self.old.warnings.items ++ warning_of at None rule) }
     {
-        self.warnings.push(Warning {
-            at,
-            line: None,
-            why,
-        })?;
-        Ok(())
+        add_warning(&mut self.warnings, at, None, rule)
+    }
+
+    /// Warns of what is wrong with the end of a stream at this place, after which no more bytes
+    /// follow.
+    pub(crate) fn warn_at_end(&mut self, at: usize) -> Result<(), AllocError>
+        ensures { IfOk result (λ _. self.new.phase ≡ self.old.phase) }
+    {
+        let closed = match self.past.stream {
+            Some(StreamKind::Control) => Some(Rule::ClosedControlStream),
+            Some(StreamKind::QPackEncoder) | Some(StreamKind::QPackDecoder) => {
+                Some(Rule::ClosedQpackStream)
+            }
+            _ => None,
+        };
+        self.warn(at, closed)?;
+        let unfinished = match self.past.judge {
+            Some(judge) => judge.finish(),
+            None => None,
+        };
+        self.warn(at, unfinished)
     }
 
     /// Returns how the reading ends after the last byte of the last item.
@@ -157,6 +194,7 @@ pub(crate) fn end_of_nothing(kind: Recorded) -> End
         ),
         Recorded::Bi
         | Recorded::Response
+        | Recorded::SessionResponse
         | Recorded::Uni
         | Recorded::Capsules
         | Recorded::Settings => End::Complete,
@@ -201,33 +239,68 @@ pub(crate) fn cut(at: usize, item: &'static str, missing: u64) -> End
 /// Returns how bytes end whose reading stops at this end. If they are cut though the stream ends
 /// after them, that is a fault of the frame.
 pub(crate) fn end_at(kind: Recorded, open: bool, stop: End) -> End
-    ensures { EndsStopped (may_not_be_cut kind «open») stop result }
+    ensures { EndsStopped ErrorCode.Frame (may_not_be_cut kind «open» stop) stop result }
 {
-    if !may_not_be_cut(kind, open) {
+    let why = "the stream ends within a frame (RFC 9114, section 7.1)";
+    closed(
+        may_not_be_cut(kind, open, stop),
+        stop,
+        ErrorCode::Frame,
+        why,
+    )
+}
+
+/// Returns how bytes end that are read to the last. If they end within a capsule though the stream
+/// ends after them, the message is malformed.
+pub(crate) fn end_after(kind: Recorded, open: bool, stop: End) -> End
+    ensures { EndsStopped ErrorCode.Message (may_not_be_cut kind «open» stop) stop result }
+{
+    let why = "the stream ends within a capsule (RFC 9297, section 3.3)";
+    closed(
+        may_not_be_cut(kind, open, stop),
+        stop,
+        ErrorCode::Message,
+        why,
+    )
+}
+
+/// Returns how bytes end whose reading stops at this end. If they are cut and may not be, that is a
+/// fault of this code.
+fn closed(may_not: bool, stop: End, code: ErrorCode, why: &'static str) -> End
+    ensures { EndsStopped code «may_not» stop result }
+{
+    if !may_not {
         return stop;
     }
     match stop {
         End::Cut(Cut { at, missing, .. }) => End::Fault(Fault {
             at,
-            code: ErrorCode::Frame,
-            why: "the stream ends within a frame (RFC 9114, section 7.1)",
+            code,
+            why,
             missing,
         }),
         End::Fault(_) | End::Complete => stop,
     }
 }
 
-/// Returns whether bytes may not end within an item, if no more follow them unless `open`.
-fn may_not_be_cut(kind: Recorded, open: bool) -> bool
-    ensures { result ≡ may_not_be_cut kind «open» }
+/// Returns whether bytes may not end so, if no more follow them unless `open`.
+fn may_not_be_cut(kind: Recorded, open: bool, stop: End) -> bool
+    ensures { result ≡ may_not_be_cut kind «open» stop }
 {
     match kind {
-        Recorded::Bi | Recorded::Response => !open,
-        Recorded::Uni
-        | Recorded::Datagram
-        | Recorded::Capsules
-        | Recorded::Section
-        | Recorded::Settings => false,
+        Recorded::Bi | Recorded::Response | Recorded::SessionResponse => !open,
+        Recorded::Uni => !open && is_cut_frame(stop),
+        Recorded::Datagram | Recorded::Capsules | Recorded::Section | Recorded::Settings => false,
+    }
+}
+
+/// Returns whether bytes are cut within a frame.
+fn is_cut_frame(stop: End) -> bool
+    ensures { result ≡ is_cut_frame stop }
+{
+    match stop {
+        End::Cut(cut) => cut.item == "frame",
+        End::Fault(_) | End::Complete => false,
     }
 }
 

@@ -1,9 +1,10 @@
 //! The items of a recording.
-ghost use Rattle.std.specs.Prelude.{◌≡◌, ◌+◌, ◌^◌, ◌≤◌, ◌<◌, ◌==◌, IfOk, Ok, codes, length};
+ghost use Rattle.std.specs.Prelude.{◌≡◌, ◌+◌, ◌^◌, ◌≤◌, ◌<◌, ◌==◌, IfOk, Ok, codes, length, option_map, None};
 ghost use Rattle.wt_inspection.specs.Recording.{EndsInspection, IsCutAt, IsNext, IsRecording};
-ghost use Rattle.wt_inspection.specs.Recording.{IsSessionHead};
+ghost use Rattle.wt_inspection.specs.Recording.{IsPushHead, IsSessionHead, is_push};
 ghost use Rattle.wt_inspection.specs.Recording.{IsStep, Moves, after_head, has_session};
 ghost use Rattle.wt_inspection.specs.DataCapsules.{Stage};
+ghost use Rattle.wt_inspection.specs.Resolved.{ContentWith, HasNoSection, ItemsWith};
 ghost use Rattle.wt_inspection.specs.Tiles.{Tiles};
 ghost use Rattle.wt_inspection.specs.Walks.{IsStageAt, LeadsAt};
 ghost use Rattle.wtp_wire.specs.StreamKind.{stream_kind_of};
@@ -11,14 +12,17 @@ ghost use Rattle.wtp_wire.specs.StreamKind.{stream_kind_of};
 use crate::capsules::next_capsule;
 use crate::fields::{read_section, section_then};
 use crate::frames::next_frame;
+use crate::insertions::Insertions;
 use crate::message::warn_of_section;
 use crate::reading::{
-    Next, Reading, Recorded, Step, Then, cut, end_at, end_of_nothing, fault, start_of,
+    Next, Reading, Recorded, Step, Then, cut, end_after, end_at, end_of_nothing, fault, start_of,
 };
-use crate::settings::{read_settings, settings_then};
+use crate::settings::{read_settings, settings_then, warn_of_settings};
 use crate::tiling::Tiling;
 use std::alloc::{AllocError, Global};
-use wt_inspection_model::item::{Content, DatagramHead, End, Inspection, StreamHead, StreamName};
+use wt_inspection_model::item::{
+    Content, DatagramHead, End, Inspection, Rule, StreamHead, StreamName,
+};
 use wtp_core::bytes::get::varint_len_needed;
 use wtp_core::error::ErrorCode;
 use wtp_core::ids::SessionId;
@@ -35,15 +39,19 @@ use wtp_wire::stream_header::StreamKind;
 /// Each is what the bytes at its place are after the items before it. The bytes after the item with
 /// the first fault, and too few bytes for the head of an item, are one item that is not read. The
 /// end is then that fault, or where the bytes are cut: [`End::Cut`], unless `kind` is
-/// [`Recorded::Bi`] or [`Recorded::Response`] and they are not `open`. A stream may not end within
-/// a frame, so that is the fault [`ErrorCode::Frame`] (RFC 9114, section 7.1). DATA frames that end
-/// within a capsule are cut in that capsule, whether `open` or not.
+/// that of a stream and they are not `open`. A stream may not end within a frame, so that is the fault
+/// [`ErrorCode::Frame`] (RFC 9114, section 7.1), nor its DATA frames within a capsule, which is the
+/// fault [`ErrorCode::Message`] (RFC 9297, section 3.3).
 ///
 /// DATA frames contain capsules if the first header section, or the first that is not of an interim
-/// response, is that of a session: a request with `:protocol` (RFC 8441, section 4; RFC 9220,
-/// section 3), or a response with `capsule-protocol`, `sec-webtransport-http3-draft` or
-/// `wt-protocol`. A CONNECT whose lines end early counts as a request with `:protocol`. Other DATA
-/// frames are not read.
+/// response, is that of a session: a request whose `:protocol` is one of WebTransport, `connect-udp`
+/// or `connect-ip`, or any with a true `capsule-protocol`; or a response with the status 2xx and a
+/// true `capsule-protocol`, `sec-webtransport-http3-draft` or `wt-protocol`. A CONNECT whose lines
+/// end before `:protocol` counts as the request of a session. With [`Recorded::SessionResponse`] each
+/// response that accepts is one. Other DATA frames are not read.
+///
+/// A field section that needs the dynamic table has lines of which the name, or the name and the
+/// value, are unknown: [`inspect_with`] knows them.
 ///
 /// Returns [`AllocError`] if allocation fails.
 pub fn inspect(
@@ -54,6 +62,31 @@ pub fn inspect(
 ) -> Result<Inspection, AllocError>
     ensures tiles { IfOk result (λ i. Tiles 0 i.items.items (length bytes.now)) }
     ensures read { IfOk result (λ i. IsRecording kind «open» bytes.now i.items.items i.end) }
+    ensures sections { IfOk result (λ i. ItemsWith None bytes.now i.items.items) }
+{
+    inspect_with(alloc, kind, bytes, open, None)
+}
+
+/// Does the same as [`inspect`], with the encoder stream of the end that sent the bytes.
+///
+/// A field section is read with the dynamic table as it is when all insertions that the section
+/// needs have just been made. Its Required Insert Count is what the encoded number means once all
+/// insertions were read, or the one before if these are too few for that (RFC 9204, section
+/// 4.5.1.1). So the count is the right one of each section if the encoder stream has at most twice
+/// as many insertions as the table can have entries; and of the later sections otherwise.
+///
+/// Returns [`AllocError`] if allocation fails.
+pub fn inspect_with(
+    alloc: Global,
+    kind: Recorded,
+    bytes: &[u8],
+    open: bool,
+    sent: Option<&Insertions<'_>>,
+) -> Result<Inspection, AllocError>
+    ensures tiles { IfOk result (λ i. Tiles 0 i.items.items (length bytes.now)) }
+    ensures read { IfOk result (λ i. IsRecording kind «open» bytes.now i.items.items i.end) }
+    ensures sections { IfOk result
+        (λ i. ItemsWith (option_map (λ i. i.now) sent.entry) bytes.now i.items.items) }
 {
     let mut tiling = Tiling::new(alloc, bytes);
     let mut reading = Reading::new(alloc);
@@ -67,11 +100,15 @@ pub fn inspect(
             length,
             content,
             after,
-        } = next_step(&mut reading, state, tiling.at(), rest)?;
+        } = next_step(&mut reading, sent, state, tiling.at(), rest)?;
         tiling.push(length, content)?;
         state = after;
     }
+    let is_read = state.is_ok();
     let end = end_of(&reading, kind, open, state, bytes);
+    if !open && is_read {
+        reading.warn_at_end(bytes.len())?;
+    }
     Ok(Inspection {
         items: tiling.into_items(),
         warnings: reading.warnings,
@@ -90,14 +127,20 @@ fn end_of(reading: &Reading, kind: Recorded, open: bool, state: Then, bytes: &[u
             if bytes.is_empty() {
                 end_of_nothing(kind)
             } else {
-                reading.finish()
+                end_after(kind, open, reading.finish())
             }
         }
     }
 }
 
 /// Returns the next item. After the end of the reading it is all bytes that are left.
-fn next_step(reading: &mut Reading, state: Then, at: usize, rest: &[u8]) -> Result<Step, AllocError>
+fn next_step(
+    reading: &mut Reading,
+    sent: Option<&Insertions<'_>>,
+    state: Then,
+    at: usize,
+    rest: &[u8],
+) -> Result<Step, AllocError>
     requires some { 0 < length rest.now }
     requires place { at + length rest.now < 2 ^ 64 }
     ensures within { IfOk result (λ s. s.length ≤ length rest.now) }
@@ -105,15 +148,24 @@ fn next_step(reading: &mut Reading, state: Then, at: usize, rest: &[u8]) -> Resu
     ensures read { IfOk result (λ s. IsStep state at rest.now s.length s.content s.after) }
     ensures stage { IfOk result (λ s. LeadsAt state reading.old.phase reading.new.phase
         (Moves state at rest.now s.content s.after) s.after) }
+    ensures sections { IfOk result (λ s. ContentWith (option_map (λ i. i.now) sent.entry) rest.now
+        s.content) }
 {
     match state {
-        Ok(next) => next_item(reading, next, at, rest),
+        Ok(next) => next_item(reading, sent, next, at, rest),
         Err(end) => Ok(Step::last(rest.len(), Content::Unread, end)),
     }
 }
 
 /// Returns the next item, as long as the reading goes on.
-fn next_item(reading: &mut Reading, next: Next, at: usize, rest: &[u8]) -> Result<Step, AllocError>
+#[tactic(auto, using(crate::proofs::ResolvedLemmas::plain_content))]
+fn next_item(
+    reading: &mut Reading,
+    sent: Option<&Insertions<'_>>,
+    next: Next,
+    at: usize,
+    rest: &[u8],
+) -> Result<Step, AllocError>
     requires some { 0 < length rest.now }
     requires place { at + length rest.now < 2 ^ 64 }
     ensures within { IfOk result (λ s. s.length ≤ length rest.now) }
@@ -121,16 +173,69 @@ fn next_item(reading: &mut Reading, next: Next, at: usize, rest: &[u8]) -> Resul
     ensures read { IfOk result (λ s. IsNext next at rest.now s.length s.content s.after) }
     ensures stage { IfOk result (λ s. LeadsAt (Ok next) reading.old.phase reading.new.phase
         (Moves (Ok next) at rest.now s.content s.after) s.after) }
+    ensures sections { IfOk result (λ s. ContentWith (option_map (λ i. i.now) sent.entry) rest.now
+        s.content) }
 {
     match next {
-        Next::Head => Ok(head_step(at, rest)),
-        Next::Frames(role, first) => next_frame(reading, role, first, at, rest),
+        Next::Head => head_item(reading, at, rest),
+        Next::Frames(role, first) => next_frame(reading, sent, role, first, at, rest),
         Next::Payload => Ok(Step::go_on(rest.len(), Content::Payload, Next::Payload)),
         Next::Capsules => next_capsule(reading, at, rest),
         Next::Datagram => Ok(datagram_step(at, rest)),
-        Next::Section => section_step(reading, at, rest),
+        Next::Section => section_step(reading, sent, at, rest),
         Next::Settings => settings_step(reading, at, rest),
     }
+}
+
+/// Returns the head of a unidirectional stream, and notes its type.
+fn head_item(reading: &mut Reading, at: usize, rest: &[u8]) -> Result<Step, AllocError>
+    requires { 0 < length rest.now }
+    ensures within { IfOk result (λ s. s.length ≤ length rest.now) }
+    ensures some { IfOk result (λ s. 0 < s.length) }
+    ensures read { IfOk result (λ s. IsNext Next.Head at rest.now s.length s.content s.after) }
+    ensures phase { IfOk result (λ _. reading.new.phase ≡ reading.old.phase) }
+    ensures sections { IfOk result (λ s. HasNoSection s.content) }
+{
+    note_head(reading, at, rest)?;
+    Ok(head_step(at, rest))
+}
+
+/// Notes the type of a unidirectional stream. Hints that the bytes may be those of a bidirectional
+/// one: the first byte of HEADERS is that of a push stream too.
+fn note_head(reading: &mut Reading, at: usize, rest: &[u8]) -> Result<(), AllocError>
+    ensures { IfOk result (λ _. reading.new.phase ≡ reading.old.phase) }
+{
+    let Some((number, _)) = first_varint(rest) else {
+        return Ok(());
+    };
+    reading.past.stream = StreamKind::parse(number);
+    let hint = if StreamName::of(number) == StreamName::Push
+        && reads_as_headers(reading.alloc, rest)?
+    {
+        Some(Rule::LikeMessage)
+    } else {
+        None
+    };
+    reading.warn(at, hint)
+}
+
+/// Returns whether the first frame of these bytes is complete, and a field section that begins with
+/// a pseudo-header field.
+fn reads_as_headers(alloc: Global, bytes: &[u8]) -> Result<bool, AllocError> {
+    let Some(pair) = first_pair(bytes) else {
+        return Ok(false);
+    };
+    let (_, rest) = bytes.split_at(pair.size);
+    let announced = pair.second.into_inner();
+    if announced > rest.len() as u64 {
+        return Ok(false);
+    }
+    let (payload, _) = rest.split_at(announced as usize);
+    let section = read_section(alloc, None, payload)?;
+    Ok(match section.lines.first() {
+        Some(line) => line.name.first() == Some(&b':'),
+        None => false,
+    })
 }
 
 /// Returns the head of a unidirectional stream (RFC 9114, section 6.2).
@@ -140,6 +245,7 @@ fn head_step(at: usize, rest: &[u8]) -> Step
     ensures within { result.length ≤ length rest.now }
     ensures some { 0 < result.length }
     ensures read { IsNext Next.Head at rest.now result.length result.content result.after }
+    ensures sections { HasNoSection result.content }
 {
     let Some((number, size)) = first_varint(rest) else {
         let missing = varint_len_needed(rest).saturating_sub(rest.len());
@@ -148,10 +254,14 @@ fn head_step(at: usize, rest: &[u8]) -> Step
     if has_session(number) {
         return session_head(at, rest);
     }
+    if is_push(number) {
+        return push_head(at, rest);
+    }
     let head = StreamHead {
         number: number.into_inner(),
         name: StreamName::of(number),
         session: None,
+        push: None,
     };
     Step::go_on(size, Content::Stream(head), after_head(number))
 }
@@ -184,6 +294,38 @@ fn after_head(number: VarInt) -> Next
     }
 }
 
+/// Returns whether a push ID follows the type of a unidirectional stream.
+fn is_push(number: VarInt) -> bool
+    ensures { result ≡ is_push number }
+{
+    number.into_inner() == 1
+}
+
+/// Returns the head of a push stream, after which a response follows (RFC 9114, section 4.6).
+fn push_head(at: usize, rest: &[u8]) -> Step
+    requires nonempty { 0 < length rest.now }
+    ensures within { result.length ≤ length rest.now }
+    ensures some { 0 < result.length }
+    ensures read { IsPushHead at rest.now result.length result.content result.after }
+    ensures sections { HasNoSection result.content }
+{
+    let Some(pair) = first_pair(rest) else {
+        return Step::last(
+            rest.len(),
+            Content::Unread,
+            cut_head(at, missing_bytes(rest)),
+        );
+    };
+    let head = StreamHead {
+        number: pair.first.into_inner(),
+        name: StreamName::of(pair.first),
+        session: None,
+        push: Some(pair.second.into_inner()),
+    };
+    let next = Next::Frames(StreamRole::BiLocal, true);
+    Step::go_on(pair.size, Content::Stream(head), next)
+}
+
 /// Returns the head of a WebTransport stream (draft-ietf-webtrans-http3-02, section 4.1).
 #[tactic(auto, using(crate::proofs::RecordingLemmas::no_session_cut, crate::proofs::RecordingLemmas::no_session_id))]
 fn session_head(at: usize, rest: &[u8]) -> Step
@@ -191,6 +333,7 @@ fn session_head(at: usize, rest: &[u8]) -> Step
     ensures within { result.length ≤ length rest.now }
     ensures some { 0 < result.length }
     ensures read { IsSessionHead at rest.now result.length result.content result.after }
+    ensures sections { HasNoSection result.content }
 {
     let Some(pair) = first_pair(rest) else {
         return Step::last(
@@ -207,6 +350,7 @@ fn session_head(at: usize, rest: &[u8]) -> Step
         number: pair.first.into_inner(),
         name: StreamName::of(pair.first),
         session: Some(session.into_u64()),
+        push: None,
     };
     Step::go_on(pair.size, Content::Stream(head), Next::Payload)
 }
@@ -223,6 +367,7 @@ fn cut_head(at: usize, missing: usize) -> End
 fn datagram_step(at: usize, rest: &[u8]) -> Step
     ensures length { result.length ≡ length rest.now }
     ensures read { IsNext Next.Datagram at rest.now result.length result.content result.after }
+    ensures sections { HasNoSection result.content }
 {
     match Datagram::read(rest) {
         Ok(datagram) => {
@@ -241,12 +386,19 @@ fn datagram_step(at: usize, rest: &[u8]) -> Step
 }
 
 /// Returns the only item of a field section.
-fn section_step(reading: &mut Reading, at: usize, rest: &[u8]) -> Result<Step, AllocError>
+fn section_step(
+    reading: &mut Reading,
+    sent: Option<&Insertions<'_>>,
+    at: usize,
+    rest: &[u8],
+) -> Result<Step, AllocError>
     ensures length { IfOk result (λ s. s.length ≡ length rest.now) }
     ensures read { IfOk result (λ s. IsNext Next.Section at rest.now s.length s.content s.after) }
     ensures phase { IfOk result (λ _. reading.new.phase ≡ reading.old.phase) }
+    ensures sections { IfOk result (λ s. ContentWith (option_map (λ i. i.now) sent.entry) rest.now
+        s.content) }
 {
-    let section = read_section(reading.alloc, rest)?;
+    let section = read_section(reading.alloc, sent, rest)?;
     warn_of_section(reading, at, &section)?;
     let after = section_then(at, &section, Next::Section);
     Ok(Step {
@@ -257,12 +409,17 @@ fn section_step(reading: &mut Reading, at: usize, rest: &[u8]) -> Result<Step, A
 }
 
 /// Returns the only item of settings.
-fn settings_step(reading: &Reading, at: usize, rest: &[u8]) -> Result<Step, AllocError>
+fn settings_step(reading: &mut Reading, at: usize, rest: &[u8]) -> Result<Step, AllocError>
     ensures length { IfOk result (λ s. s.length ≡ length rest.now) }
     ensures read { IfOk result (λ s. IsNext Next.Settings at rest.now s.length s.content s.after) }
+    ensures phase { IfOk result (λ _. reading.new.phase ≡ reading.old.phase) }
+    ensures sections { IfOk result (λ s. HasNoSection s.content) }
 {
     let settings = read_settings(reading.alloc, rest)?;
     let after = settings_then(at, reading.alloc, rest, Next::Settings)?;
+    if after.is_ok() {
+        warn_of_settings(reading, at, settings.as_slice())?;
+    }
     Ok(Step {
         length: rest.len(),
         content: Content::Settings(settings),

@@ -3,13 +3,13 @@ ghost use Rattle.std.specs.Prelude.{◌≡◌, ◌<◌, ◌^◌, length, not, Ok
 ghost use Rattle.wtp_wire.specs.SettingId.{is_reserved};
 ghost use Rattle.wtp_wire.specs.Settings.{AnswersSettings, settings_in};
 ghost use Rattle.wt_inspection.specs.Recording.{AfterSettings, HasFault};
-ghost use Rattle.wt_inspection.specs.SettingLines.{AreSettings, flag_of};
+ghost use Rattle.wt_inspection.specs.SettingLines.{AreSettings, flag_of, is_bad_value};
 
-use crate::reading::{Next, Then, fault};
+use crate::reading::{Next, Reading, Then, fault};
 use std::alloc::{AllocError, Global};
 use std::borrow::CowSlice;
 use std::collections::BTreeSet;
-use wt_inspection_model::item::{SettingIssue, SettingLine};
+use wt_inspection_model::item::{Rule, SettingIssue, SettingLine};
 use wtp_core::error::{ErrorCode, Refused};
 use wtp_core::varint::VarInt;
 use wtp_wire::frame::Frame;
@@ -38,20 +38,56 @@ pub(crate) fn read_settings(alloc: Global, bytes: &[u8]) -> Result<Vec<SettingLi
 fn line_of(pair: FirstPair, is_new: bool) -> SettingLine
     ensures id { result.id ≡ pair.first }
     ensures value { result.value ≡ pair.second }
-    ensures flag { result.flag ≡ flag_of (is_reserved pair.first) (not is_new) }
+    ensures flag { result.flag ≡ flag_of (is_reserved pair.first) (not is_new)
+        (is_bad_value pair.first pair.second) }
 {
     let flag = if SettingId::is_reserved(pair.first) {
         Some(SettingIssue::Reserved)
-    } else if is_new {
-        None
-    } else {
+    } else if !is_new {
         Some(SettingIssue::Repeated)
+    } else if is_bad_value(pair.first, pair.second) {
+        Some(SettingIssue::Value)
+    } else {
+        None
     };
     SettingLine {
         id: pair.first.into_inner(),
         value: pair.second.into_inner(),
         flag,
     }
+}
+
+/// Returns whether a setting has a value other than 0 and 1, though it has no others (RFC 8441,
+/// section 3; RFC 9220, section 3; RFC 9297, section 2.1.1; draft-ietf-webtrans-http3-02, section
+/// 3.1).
+fn is_bad_value(id: VarInt, value: VarInt) -> bool
+    ensures { result ≡ is_bad_value id value }
+{
+    let is_flag = matches!(id.into_inner(), 0x08 | 0x33 | 0x2b60_3742);
+    is_flag && value.into_inner() > 1
+}
+
+/// Warns of what is wrong with settings that does not end the reading.
+pub(crate) fn warn_of_settings(
+    reading: &mut Reading,
+    at: usize,
+    lines: &[SettingLine],
+) -> Result<(), AllocError>
+    ensures { IfOk result (λ _. reading.new.phase ≡ reading.old.phase) }
+{
+    let repeated = lines
+        .iter()
+        .any(|line| line.flag == Some(SettingIssue::Repeated));
+    if repeated {
+        reading.warn(at, Some(Rule::RepeatedSetting))?;
+    }
+    let bad = lines
+        .iter()
+        .any(|line| line.flag == Some(SettingIssue::Value));
+    if bad {
+        reading.warn(at, Some(Rule::BadSetting))?;
+    }
+    Ok(())
 }
 
 /// Returns what follows settings: these bytes, or the end of the reading if they have a fault.

@@ -4,12 +4,14 @@ pub mod capsule;
 pub mod ending;
 pub mod fields;
 pub mod names;
+pub mod rule;
 pub mod settings;
 
 pub use capsule::{CapsuleItem, CloseReason};
 pub use ending::{Cut, End, Fault, Warning};
-pub use fields::{FieldSection, Line, SectionFault};
+pub use fields::{FieldSection, Index, Line, SectionFault, Unknown};
 pub use names::{FrameName, StreamName};
+pub use rule::Rule;
 pub use settings::{SettingIssue, SettingLine};
 
 /// The contents of the input: its items, and how it ends.
@@ -17,7 +19,7 @@ pub use settings::{SettingIssue, SettingLine};
 pub struct Inspection {
     /// The items in order. Each byte of the input belongs to exactly one item.
     pub items: Vec<Item>,
-    /// Protocol violations that do not stop reading. No contract says which they are.
+    /// Protocol violations that do not stop reading, and hints. No contract says which they are.
     pub warnings: Vec<Warning>,
     /// How the input ends.
     pub end: End,
@@ -37,8 +39,8 @@ pub struct Item {
 /// The meaning of the bytes of an item.
 #[derive(Drop)]
 pub enum Content {
-    /// The stream type of a unidirectional stream and, on a WebTransport stream, the session ID
-    /// after it (RFC 9114, section 6.2).
+    /// The stream type of a unidirectional stream and the ID after it: the session ID of a
+    /// WebTransport stream, or the push ID of a push stream (RFC 9114, section 6.2).
     Stream(StreamHead),
     /// A frame: its header, and the part of its payload that is present (RFC 9114, section 7.1).
     Frame(FrameItem),
@@ -68,6 +70,8 @@ pub struct StreamHead {
     pub name: StreamName,
     /// The session ID, on a WebTransport stream.
     pub session: Option<u64>,
+    /// The push ID, on a push stream (RFC 9114, section 4.6).
+    pub push: Option<u64>,
 }
 
 /// A frame, other than the one that starts a WebTransport stream.
@@ -98,6 +102,22 @@ pub enum Parts {
     Settings(Vec<SettingLine>),
     /// The capsules that end in this DATA frame.
     Capsules(Vec<CapsuleItem>),
+    /// The contents of a frame about requests and pushes.
+    Signal(Signal),
+}
+
+/// The contents of a frame about requests and pushes.
+#[derive(Drop)]
+pub enum Signal {
+    /// The ID of a request stream or of a push, which is all that GOAWAY, MAX_PUSH_ID and
+    /// CANCEL_PUSH contain (RFC 9114, sections 7.2.3, 7.2.6 and 7.2.7).
+    Id(u64),
+    /// The ID of the stream or push that PRIORITY_UPDATE is about, and its priority (RFC 9218,
+    /// section 7.2). The priority need not be UTF-8.
+    Priority(u64, Vec<u8>),
+    /// The push ID of PUSH_PROMISE, and the header section of the promised request (RFC 9114,
+    /// section 7.2.5).
+    Promise(u64, FieldSection),
 }
 
 /// The header of a datagram. The payload follows it in the same item.

@@ -4,3 +4,4 @@ pub mod JsonLemmas
 pub mod PageLemmas
 pub mod ShownLemmas
 pub mod LineLemmas
+pub mod DigitLemmas

@@ -1,12 +1,12 @@
 -- The number of lines in a text.
 use Rattle.std.proofs.Common.{arith, suc, ◌≡◌, ℕ, ◌+◌, ◌<◌, ◌^◌, Bool, true, false, cond, nat_eq, List, [], ◌∷◌, ◌++◌, get_or, length, Result, Ok, Err, is_ok, IfOk, refl, ap, ap₂, ◌∙◌}
-use Rattle.std.specs.Char.{is_control}
+use Rattle.wt_inspection_views.specs.Characters.{needs_escape}
 use Rattle.std.specs.Str.{NoCharPasses}
 use Rattle.std.proofs.lemmas.List.Sums.{sum_by-append}
 use Rattle.std.proofs.lemmas.Str.{NoCharPasses-byte}
-use Rattle.wt_inspection_views.specs.Escaped.{IsLine}
+use Rattle.wt_inspection_views.specs.Escaped.{IsLine, line_mark}
 use Rattle.wt_inspection_views.specs.Escaped.{line_count}
-use Rattle.wt_inspection_views.proofs.CleanLemmas.{no_control-plain}
+use Rattle.wt_inspection_views.proofs.CleanLemmas.{no_escape-plain}
 use Rattle.std.proofs.lemmas.List.Sums.{sum_by-cons}
 
 no_feeds : (bytes : List ℕ) → ((i : ℕ) → i < length bytes → nat_eq (get_or bytes i 0) 10 ≡ false) → line_count bytes ≡ 0
@@ -15,16 +15,20 @@ no_feeds (b ∷ bytes) f =
     let first : nat_eq b 10 ≡ false = f 0 (omega arith) in
     sum_by-cons (λ (c : ℕ). cond (nat_eq c 10) 1 0) b bytes ∙ ap₂ (λ (x y : ℕ). x + y) (ap (λ (t : Bool). cond t 1 0) first) (no_feeds bytes (λ i l. f (suc i) (omega (arith, l))))
 
-not_feed : (b : ℕ) (t : Bool) → nat_eq b 10 ≡ t → (b < 128 → is_control b ≡ false) → t ≡ false
+not_feed : (b : ℕ) (t : Bool) → nat_eq b 10 ≡ t → (b < 128 → needs_escape b ≡ false) → t ≡ false
 not_feed b false e n = refl
 not_feed b true e n = grind arith
 
-no_feeds-no_control : (bytes : List ℕ) → NoCharPasses is_control bytes → line_count bytes ≡ 0
-no_feeds-no_control bytes n = no_feeds bytes (λ i l. not_feed (get_or bytes i 0) (nat_eq (get_or bytes i 0) 10) refl (λ low. NoCharPasses-byte is_control bytes i n l low))
+no_feeds-no_escape : (bytes : List ℕ) → NoCharPasses needs_escape bytes → line_count bytes ≡ 0
+no_feeds-no_escape bytes n = no_feeds bytes (λ i l. not_feed (get_or bytes i 0) (nat_eq (get_or bytes i 0) 10) refl (λ low. NoCharPasses-byte needs_escape bytes i n l low))
 
 pub line_count-line : (words line : List ℕ) → ((k : ℕ) → get_or words k 0 < 2 ^ 8) → IsLine words line → line_count line ≡ 1
 line_count-line words line fits l =
-    ap line_count l.2 ∙ (sum_by-append (λ (c : ℕ). cond (nat_eq c 10) 1 0) l.0 (10 ∷ []) ∙ ap (λ (x : ℕ). x + 1) (no_feeds-no_control l.0 (no_control-plain words l.0 fits l.1)))
+    let is_feed = λ (c : ℕ). cond (nat_eq c 10) 1 0 in
+    let more = sum_by-append is_feed l.0 (10 ∷ []) in
+    let free = no_feeds-no_escape l.0 (no_escape-plain words l.0 fits l.1) in
+    let one : line_count (l.0 ++ 10 ∷ []) ≡ 1 = more ∙ ap (λ (x : ℕ). x + 1) free in
+    ap line_count l.2 ∙ (sum_by-append is_feed line_mark (l.0 ++ 10 ∷ []) ∙ ap (λ (x : ℕ). line_count line_mark + x) one)
 
 pub line_count-pushed : {A E : Type 0} (old new line : List ℕ) (r : Result A E) → line_count line ≡ 1 → new ≡ cond (is_ok r) (old ++ line) old → IfOk r (λ _. line_count new ≡ line_count old + 1)
 line_count-pushed old new line (Ok a) one e =

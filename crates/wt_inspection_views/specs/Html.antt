@@ -3,7 +3,7 @@ use Rattle.std.specs.Prelude.{◌≡◌, ℕ, Bool, true, ◌&&◌, ◌||◌, Li
 use Rattle.std.specs.List.{flat_map, list_all}
 use Rattle.wt_inspection_views.specs.declared.html.page.Markup.{Markup}
 use Rattle.wt_inspection_views.specs.declared.html.page.Markup.TheVariants as markup-is
-use Rattle.wt_inspection_views.specs.declared.html.page.TheConstants.{HEAD, TAIL}
+use Rattle.wt_inspection_views.specs.declared.html.page.TheConstants.{BYTES, HEAD, TAIL}
 
 -- the HTML form of a byte of text: a character reference for the characters & < > " and ',
 -- otherwise the byte itself (HTML, section "Character references")
@@ -22,13 +22,20 @@ html_text = flat_map html_byte
 -- the fixed markup that a page may contain
 abbrev pub markup_bytes : Markup → List ℕ
 markup_bytes markup-is.Head = HEAD.now
+markup_bytes markup-is.Bytes = BYTES.now
 markup_bytes markup-is.RowsOf = codes "<span tabindex=\"0\" data-item=\""
-markup_bytes markup-is.ItemOf = codes "<pre tabindex=\"0\" data-item=\""
+markup_bytes markup-is.PartOf = codes "<span data-item=\""
 markup_bytes markup-is.TagEnd = codes "\">"
-markup_bytes markup-is.RowsEnd = codes "</span>"
+markup_bytes markup-is.HeadOf = codes "<i>"
+markup_bytes markup-is.HeadEnd = codes "</i>"
+markup_bytes markup-is.SpanEnd = codes "</span>"
 markup_bytes markup-is.Items = codes "</pre><div class=\"items\">"
-markup_bytes markup-is.Warnings = codes "<b>"
-markup_bytes markup-is.ItemEnd = codes "</b></pre>"
+markup_bytes markup-is.ItemOf = codes "<div data-item=\""
+markup_bytes markup-is.First = codes "<details open><summary>"
+markup_bytes markup-is.FirstEnd = codes "</summary>"
+markup_bytes markup-is.Line = codes "<span>"
+markup_bytes markup-is.Warnings = codes "</details><b>"
+markup_bytes markup-is.ItemEnd = codes "</b></div>"
 markup_bytes markup-is.Ending = codes "<pre>"
 markup_bytes markup-is.Fault = codes "<pre class=\"fault\">"
 markup_bytes markup-is.Tail = TAIL.now

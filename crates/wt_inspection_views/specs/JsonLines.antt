@@ -1,12 +1,30 @@
 -- Lines of JSON, one object per line.
-use Rattle.std.specs.Prelude.{◌≡◌, ℕ, ◌+◌, Bool, true, false, List, [], ◌∷◌, ◌++◌, ◌&&◌, nat_le, fold}
-use Rattle.std.specs.Prelude.{length}
-use Rattle.std.specs.List.{flat_map}
-use Rattle.std.specs.Str.{IsUtf8}
+use Rattle.std.specs.Prelude.{◌≡◌, ℕ, ◌+◌, Bool, true, false, List, [], ◌∷◌, ◌++◌, ◌&&◌, ◌||◌, nat_le, fold}
+use Rattle.std.specs.Prelude.{length, if◌then◌else◌}
+use Rattle.std.specs.List.{flat_map, list_any}
+use Rattle.std.specs.Str.{IsUtf8, chars}
 use Rattle.json.specs.Token.{Token}
 use Rattle.json.specs.Lex.{tokens}
 use Rattle.json.specs.Print.{print}
 use Rattle.wt_inspection_model.specs.declared.item.Inspection.{Inspection}
+use Rattle.wt_inspection_views.specs.Characters.{is_invisible}
+
+-- a control character that JSON does not escape: DEL, or U+0080 to U+009F
+abbrev pub is_late_control : ℕ → Bool
+is_late_control c = nat_le 127 c && nat_le c 159
+
+-- a character that no string has, since JSON shows it as it is and it is not seen, or changes the
+-- direction of text
+abbrev pub is_unseen : ℕ → Bool
+is_unseen c = is_late_control c || is_invisible c
+
+-- the byte is DEL or not ASCII
+abbrev pub is_late_byte : ℕ → Bool
+is_late_byte b = nat_le 127 b
+
+-- the text has such a character
+abbrev pub has_unseen : List ℕ → Bool
+has_unseen text = list_any is_unseen (chars text)
 
 -- the state of a JSON text after some tokens: before its object; in an object, before a member or
 -- the end; after the name of a member; in an array; after the object; or not valid JSON. The list
@@ -26,11 +44,12 @@ after_value (true ∷ outer) = in_object outer
 after_value (false ∷ outer) = in_array outer
 
 -- the state after the first token of a value, which is the value of a member or an element of an
--- array, within these enclosing brackets
+-- array, within these enclosing brackets. A string has no unseen character
 abbrev pub value_place : Bool → List Bool → Token → Place
 value_place is_member outer Token.begin_object = in_object (is_member ∷ outer)
 value_place is_member outer Token.begin_array = in_array (is_member ∷ outer)
-value_place is_member outer (Token.string s) = after_value (is_member ∷ outer)
+value_place is_member outer (Token.string s) =
+    if has_unseen s then wrong else after_value (is_member ∷ outer)
 value_place is_member outer (Token.number s) = after_value (is_member ∷ outer)
 value_place is_member outer (Token.boolean b) = after_value (is_member ∷ outer)
 value_place is_member outer Token.null = after_value (is_member ∷ outer)
@@ -97,7 +116,3 @@ AreJsonLines n bytes =
 abbrev pub object_lines : Inspection → ℕ
 object_lines inspection =
     length inspection.items.items + length inspection.warnings.items + 1
-
--- a control character that JSON does not escape: DEL, or U+0080 to U+009F
-abbrev pub is_late_control : ℕ → Bool
-is_late_control c = nat_le 127 c && nat_le c 159

@@ -1,3 +1,4 @@
+pub mod Characters
 pub mod Escaped
 pub mod Html
 pub mod JsonLines

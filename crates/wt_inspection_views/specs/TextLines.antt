@@ -1,7 +1,8 @@
 -- The number of lines in the text of an inspection, and what the lines of a field and of a reason
 -- have.
 use Rattle.std.specs.Prelude.{◌≡◌, ℕ, ◌+◌, ◌-◌, ◌/◌, Bool, if◌then◌else◌, List, [], length}
-use Rattle.std.specs.Prelude.{◌++◌, take, drop, nat_le, sum_by, Option, Some, None, codes, string_bytes}
+use Rattle.std.specs.Prelude.{◌++◌, take, drop, nat_le, sum_by, Option, Some, None, codes, decimal}
+use Rattle.std.specs.Prelude.{string_bytes}
 use Rattle.wtp_wire.specs.declared.frame.kind.FrameKind.TheVariants as kind-is
 use Rattle.wt_inspection_model.specs.declared.item.Content.{Content}
 use Rattle.wt_inspection_model.specs.declared.item.Content.TheVariants as content-is
@@ -11,12 +12,19 @@ use Rattle.wt_inspection_model.specs.declared.item.Inspection.{Inspection}
 use Rattle.wt_inspection_model.specs.declared.item.Item.{Item}
 use Rattle.wt_inspection_model.specs.declared.item.Parts.{Parts}
 use Rattle.wt_inspection_model.specs.declared.item.Parts.TheVariants as parts-is
+use Rattle.wt_inspection_model.specs.declared.item.Signal.{Signal}
+use Rattle.wt_inspection_model.specs.declared.item.Signal.TheVariants as signal-is
 use Rattle.wt_inspection_model.specs.declared.item.capsule.CapsuleItem.{CapsuleItem}
 use Rattle.wt_inspection_model.specs.declared.item.capsule.CloseReason.{CloseReason}
 use Rattle.wt_inspection_model.specs.declared.item.fields.FieldSection.{FieldSection}
+use Rattle.wt_inspection_model.specs.declared.item.fields.Index.{Index}
+use Rattle.wt_inspection_model.specs.declared.item.fields.Index.TheVariants.{Relative, PostBase}
 use Rattle.wt_inspection_model.specs.declared.item.fields.Line.{Line}
+use Rattle.wt_inspection_model.specs.declared.item.fields.Unknown.{Unknown}
+use Rattle.wt_inspection_model.specs.declared.item.fields.Unknown.TheVariants as unknown-is
 use Rattle.wt_inspection_model.specs.declared.item.fields.SectionFault.{SectionFault}
-use Rattle.wt_inspection_views.specs.Escaped.{IsShown}
+use Rattle.std.specs.List.{flat_map}
+use Rattle.wt_inspection_views.specs.Escaped.{IsShown, name_byte}
 use Rattle.wt_inspection_model.specs.declared.item.names.FrameName.{FrameName}
 use Rattle.wt_inspection_model.specs.declared.item.names.FrameName.TheVariants as name-is
 
@@ -38,12 +46,19 @@ close_lines (Some close) = 2
 abbrev pub capsule_lines : CapsuleItem → ℕ
 capsule_lines capsule = 1 + close_lines capsule.close
 
+-- the number of lines for what a frame says of requests and pushes
+abbrev pub signal_lines : Signal → ℕ
+signal_lines (signal-is.Id id) = 1
+signal_lines (signal-is.Priority id value) = 2
+signal_lines (signal-is.Promise id section) = 1 + field_lines section
+
 -- the number of lines for the contents of a frame payload
 abbrev pub parts_lines : Parts → ℕ
 parts_lines parts-is.Opaque = 0
 parts_lines (parts-is.Fields section) = field_lines section
 parts_lines (parts-is.Settings settings) = length settings.items
 parts_lines (parts-is.Capsules capsules) = sum_by capsule_lines capsules.items
+parts_lines (parts-is.Signal signal) = signal_lines signal
 
 -- the number of lines for an item without its payload bytes
 abbrev pub content_lines : Content → ℕ
@@ -95,12 +110,36 @@ inspection_lines payload bytes inspection =
     sum_by (item_lines payload bytes) inspection.items.items
     + length inspection.warnings.items + 1
 
--- the line of a field has the displayed forms of its name and its value
+-- the line of a priority has its displayed form
+abbrev pub IsPriorityLine : List ℕ → List ℕ → Type 0
+IsPriorityLine value words =
+    (shown : List ℕ) × IsShown value shown × (words ≡ codes "        priority = " ++ shown)
+
+-- the line of a field that is known has its name in ASCII and without blanks, and the displayed form of its value
+abbrev pub IsKnownLine : Line → List ℕ → Type 0
+IsKnownLine field words =
+    (value : List ℕ) × IsShown field.value.items value
+    × (words ≡ codes "        " ++ flat_map name_byte field.name.items ++ codes " = " ++ value)
+
+-- the line of an entry of the dynamic table that is not known has its index
+abbrev pub entry_words : Index → List ℕ
+entry_words (Relative index) = codes "        (dynamic " ++ decimal index ++ codes ")"
+entry_words (PostBase index) = codes "        (dynamic post-base " ++ decimal index ++ codes ")"
+
+-- the line of the name of such an entry has the displayed form of the value too
+abbrev pub IsNamedLine : Index → List ℕ → List ℕ → Type 0
+IsNamedLine index text words =
+    (value : List ℕ) × IsShown text value × (words ≡ entry_words index ++ codes " = " ++ value)
+
+-- by what is unknown of a field
+abbrev pub IsLineBy : Option Unknown → Line → List ℕ → Type 0
+IsLineBy None field words = IsKnownLine field words
+IsLineBy (Some (unknown-is.Field index)) field words = words ≡ entry_words index
+IsLineBy (Some (unknown-is.Name index)) field words = IsNamedLine index field.value.items words
+
+-- the line of a field
 abbrev pub IsFieldLine : Line → List ℕ → Type 0
-IsFieldLine field words =
-    (name : List ℕ) × (value : List ℕ)
-    × IsShown field.name.items name × IsShown field.value.items value
-    × (words ≡ codes "        " ++ name ++ codes " = " ++ value)
+IsFieldLine field words = IsLineBy field.unknown field words
 
 -- the line of the reason of a close has the displayed form of its text
 abbrev pub IsReasonLine : CloseReason → List ℕ → Type 0

@@ -1,17 +1,19 @@
 //! Displays bytes within a line.
 ghost use Rattle.std.specs.Prelude.{◌≡◌, ◌<◌, ◌++◌, IfNone, IfOk, IfSome, IsTrue, OnErr, false, string_bytes};
-ghost use Rattle.std.specs.Char.{is_control};
 ghost use Rattle.std.specs.Str.{NoCharPasses};
-ghost use Rattle.std.specs.List.{flat_map};
+ghost use Rattle.std.specs.List.{flat_map, list_any};
+ghost use Rattle.wt_inspection_views.specs.Characters.{needs_escape};
 ghost use Rattle.wt_inspection_views.specs.Escaped.{AddsFront, AddsShown, AppendsFront, HasNoBackslash, IsPlainText, digit_of};
-ghost use Rattle.wt_inspection_views.specs.Escaped.{escaped_byte, hex_byte, is_plain_byte};
+ghost use Rattle.wt_inspection_views.specs.Escaped.{escaped_byte, hex_byte, is_other_byte, is_plain_byte, name_byte};
 
+use crate::characters::needs_escape;
 use std::alloc::AllocError;
 
-/// Appends bytes to a line. They are appended unchanged if they are UTF-8 without control
-/// characters and backslashes. Otherwise each byte other than printable ASCII, and each
-/// backslash, is appended as `\xNN`. No control character is ever appended, and different bytes
-/// have different displayed forms
+/// Appends bytes to a line. They are appended unchanged if they are UTF-8 without backslashes and
+/// without characters that need an escape: control characters, invisible ones, those that change
+/// the direction of text, and the mark of lines. Otherwise each byte other than printable ASCII,
+/// and each backslash, is appended as `\xNN`. No character that needs an escape is ever appended,
+/// and different bytes have different displayed forms
 /// ([`shown_bytes_are_told_apart`](crate::laws::shown_bytes_are_told_apart)).
 ///
 /// Returns [`AllocError`] if allocation fails. Of the displayed form only the first bytes, or none,
@@ -28,7 +30,22 @@ pub fn add_escaped(line: &mut String, bytes: &[u8]) -> Result<(), AllocError>
     }
 }
 
-/// Returns bytes as text if they are UTF-8 without control characters and backslashes.
+/// Appends a name: each byte other than printable ASCII, each blank and each backslash as `\xNN`. So
+/// a name is never written from right to left, and the first blank after it ends it.
+pub(crate) fn add_name(line: &mut String, name: &[u8]) -> Result<(), AllocError>
+    ensures { IfOk result (λ _. string_bytes line.new
+        ≡ string_bytes line.old ++ flat_map name_byte name.now) }
+{
+    for byte in name {
+        match *byte {
+            b' ' => line.push_str("\\x20")?,
+            byte => add_byte(line, byte)?,
+        }
+    }
+    Ok(())
+}
+
+/// Returns bytes as text if they are UTF-8 without backslashes and characters that need an escape.
 fn plain_text(bytes: &[u8]) -> Option<&str>
     ensures plain { IfSome result (λ t. (t.now ≡ bytes.now) × IsPlainText bytes.now) }
     ensures other { IfNone result (¬ (IsPlainText bytes.now)) }
@@ -39,22 +56,49 @@ fn plain_text(bytes: &[u8]) -> Option<&str>
     }
 }
 
-/// Returns whether a text contains no control characters and no backslashes.
+/// Returns whether a text contains no characters that need an escape, and no backslashes.
 fn is_plain(text: &str) -> bool
     ensures plain { IsTrue result
-        → NoCharPasses is_control text.now × HasNoBackslash text.now }
-    ensures other { NoCharPasses is_control text.now → HasNoBackslash text.now
+        → NoCharPasses needs_escape text.now × HasNoBackslash text.now }
+    ensures other { NoCharPasses needs_escape text.now → HasNoBackslash text.now
         → IsTrue result }
 {
-    has_no_control(text) && !text.as_bytes().contains(&b'\\')
+    needs_no_escape(text) && !text.as_bytes().contains(&b'\\')
 }
 
-/// Returns whether a text contains no control characters.
-pub(crate) fn has_no_control(text: &str) -> bool
-    ensures none { IsTrue result → NoCharPasses is_control text.now }
-    ensures some { NoCharPasses is_control text.now → IsTrue result }
+/// Returns whether a text contains no characters that need an escape.
+#[tactic(auto, using(crate::proofs::CleanLemmas::ascii_needs_none))]
+pub(crate) fn needs_no_escape(text: &str) -> bool
+    ensures none { IsTrue result → NoCharPasses needs_escape text.now }
+    ensures some { NoCharPasses needs_escape text.now → IsTrue result }
 {
-    !text.chars().any(|c| c.is_control())
+    if has_other_byte(text.as_bytes()) {
+        chars_need_none(text)
+    } else {
+        true
+    }
+}
+
+/// Returns whether no character of a text needs an escape.
+fn chars_need_none(text: &str) -> bool
+    ensures none { IsTrue result → NoCharPasses needs_escape text.now }
+    ensures some { NoCharPasses needs_escape text.now → IsTrue result }
+{
+    !text.chars().any(|c| needs_escape(c))
+}
+
+/// Returns whether a byte is not printable ASCII.
+fn has_other_byte(bytes: &[u8]) -> bool
+    ensures { result ≡ list_any is_other_byte bytes.now }
+{
+    bytes.iter().any(|byte| is_other_byte(*byte))
+}
+
+/// Returns whether a byte is not printable ASCII.
+fn is_other_byte(byte: u8) -> bool
+    ensures { result ≡ is_other_byte byte }
+{
+    byte < 0x20 || byte >= 0x7f
 }
 
 /// Appends each byte, escaped unless it is plain.

@@ -9,18 +9,22 @@ mod parts;
 use crate::split_warnings;
 use crate::text::shown_of;
 use object::{Lines, Object};
-use parts::{add_capsule, add_capsules, add_section, add_settings};
+use parts::{add_capsule, add_capsules, add_section, add_settings, add_signal};
 use std::alloc::{AllocError, Global};
 use wt_inspection_model::item::{
     CapsuleItem, Content, Cut, DatagramHead, End, Fault, FieldSection, FrameItem, Inspection, Item,
     Parts, SettingLine, StreamHead, Warning,
 };
+use wtp_core::error::Code;
 
 /// Formats an inspection of `bytes` as JSON: one object for each item, one for each warning, and
 /// one for the end, each on its own line that ends with a line feed.
 ///
 /// - Each object has `at`, its offset in bytes, and `item`, one of `stream`, `frame`, `session`,
-///   `payload`, `capsule`, `datagram`, `section`, `settings`, `unread`, `warning` and `end`.
+///   `payload`, `capsule`, `datagram`, `section`, `settings`, `unread`, `warning`, `hint` and
+///   `end`.
+/// - A number above 2^53 - 1 is a string of its decimal digits, so that each reader of JSON has it
+///   exactly (RFC 8259, section 6).
 ///   Items have their number of bytes as `length`; together they cover the whole input.
 /// - `end` has `state`: `whole`, `cut` with `missing`, or `fault` with `code` and `name`.
 /// - If `payload` is set, items with application data have its hexadecimal digits as `hex`.
@@ -146,6 +150,10 @@ fn add_stream(object: &mut Object, head: StreamHead)
         Some(id) => object.add_number("session", id),
         None => {}
     }
+    match head.push {
+        Some(id) => object.add_number("push", id),
+        None => {}
+    }
 }
 
 /// Appends a frame.
@@ -178,6 +186,7 @@ fn add_parts(object: &mut Object, parts: &Parts)
         Parts::Fields(section) => add_section(object, section),
         Parts::Settings(settings) => add_settings(object, settings.as_slice()),
         Parts::Capsules(capsules) => add_capsules(object, capsules.as_slice()),
+        Parts::Signal(signal) => add_signal(object, signal),
     }
 }
 
@@ -206,18 +215,39 @@ fn write_warning(lines: &mut Lines, warning: &Warning)
 {
     let mut object = Object::new(lines.alloc);
     object.add_number("at", warning.at as u64);
-    object.add_text("item", "warning");
-    add_place(&mut object, warning.line);
-    object.add_text("why", warning.why);
+    add_rule(&mut object, warning);
+    object.add_text("why", warning.rule.why());
     lines.add(object)
 }
 
-/// Appends the index of the field line that a warning is about, if there is one.
+/// Appends whether a rule is a hint, and otherwise the field line and the error code.
+fn add_rule(object: &mut Object, warning: &Warning)
+    ensures { AddsMembers object.old object.new }
+{
+    match warning.rule.code() {
+        Some(code) => {
+            object.add_text("item", "warning");
+            add_place(object, warning.line);
+            add_code(object, code);
+        }
+        None => object.add_text("item", "hint"),
+    }
+}
+
+/// Appends the number and the name of an error code.
+fn add_code(object: &mut Object, code: Code)
+    ensures { AddsMembers object.old object.new }
+{
+    object.add_number("code", code.number().into_inner());
+    object.add_formatted("name", format!(in object.alloc; "{code}"))
+}
+
+/// Appends the number of the field line that a warning is about, from 1, if there is one.
 fn add_place(object: &mut Object, line: Option<usize>)
     ensures { AddsMembers object.old object.new }
 {
     match line {
-        Some(line) => object.add_number("line", line as u64),
+        Some(line) => object.add_number("line", line.saturating_add(1) as u64),
         None => {}
     }
 }
@@ -266,11 +296,9 @@ fn add_cut(object: &mut Object, cut: Cut)
 fn add_fault(object: &mut Object, fault: Fault)
     ensures { AddsMembers object.old object.new }
 {
-    let code = fault.code;
     object.add_number("at", fault.at as u64);
     object.add_text("item", "end");
     object.add_text("state", "fault");
-    object.add_number("code", code.to_code().into_inner());
-    object.add_formatted("name", format!(in object.alloc; "{code}"));
+    add_code(object, Code::from(fault.code));
     object.add_text("why", fault.why)
 }

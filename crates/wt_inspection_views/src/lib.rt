@@ -9,6 +9,7 @@
 ghost use Rattle.std.specs.Prelude.{◌≡◌, ◌++◌};
 ghost use Rattle.wt_inspection_views.specs.TextLines.{bytes_at};
 
+mod characters;
 pub mod escaped;
 pub mod html;
 pub mod json_lines;

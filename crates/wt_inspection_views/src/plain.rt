@@ -1,12 +1,21 @@
 //! Text for a terminal.
 ghost use Rattle.std.specs.Prelude.{◌≡◌, ◌+◌, ℕ, List, [], IfOk, OnErr, string_bytes};
-ghost use Rattle.wt_inspection_views.specs.Escaped.{AddsLine, EndsLines, IsClean, IsLine, line_count};
+ghost use Rattle.wt_inspection_views.specs.Escaped.{AddsLine, AreLines, IsLine, line_count};
+ghost use Rattle.wt_inspection_views.specs.Escaped.{line_mark};
 
-use crate::escaped::{add_escaped, has_no_control};
+use crate::escaped::{add_escaped, needs_no_escape};
 use std::alloc::{AllocError, Global};
 use std::marker::Model;
 
-/// A text whose only control characters are the line feeds at the ends of its lines.
+/// The start of each line. A value of a peer never has it, so a line that a terminal wraps does not
+/// look like a line of the text.
+pub const LINE_MARK: &str = "\u{258c} ";
+
+/// The length of the mark and of the line feed of a line, in bytes.
+const LINE_OVERHEAD: usize = 5;
+
+/// A text of lines. Each begins with [`LINE_MARK`] and ends with a line feed; nothing else of the
+/// text is a mark, a control character or invisible.
 #[derive(Drop)]
 pub struct PlainText {
     alloc: Global,
@@ -19,8 +28,7 @@ impl Model for PlainText {
 
     ghost view = { λ plain. string_bytes plain.text };
 
-    ghost invariant = { λ plain. IsClean (string_bytes plain.text)
-        × EndsLines (string_bytes plain.text) };
+    ghost invariant = { λ plain. AreLines (string_bytes plain.text) };
 }
 
 impl PlainText {
@@ -34,8 +42,8 @@ impl PlainText {
         }
     }
 
-    /// Appends a line with these words. If they contain control characters, they are appended as
-    /// by [`add_escaped`].
+    /// Appends a line with these words. If a character of them needs an escape, they are appended
+    /// as by [`add_escaped`].
     ///
     /// Returns [`AllocError`] if allocation fails. The text is then unchanged.
     pub fn add_line(&mut self, words: &str) -> Result<(), AllocError>
@@ -50,23 +58,30 @@ impl PlainText {
     /// Returns the text.
     pub fn into_text(self) -> String
         ensures text { string_bytes result ≡ self }
-        ensures clean { IsClean (string_bytes result) }
-        ensures ended { EndsLines (string_bytes result) }
+        ensures lines { AreLines (string_bytes result) }
     {
         self.text
     }
 }
 
-/// Returns a line with these words, ended by a line feed.
+/// Returns a line with these words: the mark, the words, and a line feed.
 fn line_of(alloc: Global, words: &str) -> Result<String, AllocError>
     ensures { IfOk result (λ l. IsLine words.now (string_bytes l)) }
 {
-    let mut line = String::new(alloc);
-    if has_no_control(words) {
+    let mut line = String::with_capacity(alloc, words.len().saturating_add(LINE_OVERHEAD))?;
+    line.push_str(mark_text())?;
+    if needs_no_escape(words) {
         line.push_str(words)?;
     } else {
         add_escaped(&mut line, words.as_bytes())?;
     }
     line.push('\n')?;
     Ok(line)
+}
+
+/// Returns the mark at the start of each line.
+fn mark_text() -> &'static str
+    ensures { result.now ≡ line_mark }
+{
+    LINE_MARK
 }

@@ -1,6 +1,6 @@
 //! Displays inspections as text.
 ghost use Rattle.std.specs.Prelude.{◌≡◌, ◌+◌, IfOk, IsTrue, length, string_bytes, sum_by};
-ghost use Rattle.wt_inspection_views.specs.Escaped.{EndsLines, IsClean, line_count};
+ghost use Rattle.wt_inspection_views.specs.Escaped.{AreLines, line_count};
 ghost use Rattle.wt_inspection_views.specs.Lines.{Gains};
 ghost use Rattle.wt_inspection_views.specs.TextLines.{capsule_lines, content_lines, hex_lines};
 ghost use Rattle.wt_inspection_views.specs.TextLines.{inspection_lines, parts_lines};
@@ -12,25 +12,29 @@ pub(crate) mod parts;
 
 use crate::{bytes_of, split_warnings};
 use lines::Lines;
-use parts::{add_capsule, add_fields, add_hex, add_settings, add_warnings, count_bytes};
+use parts::{
+    add_capsule, add_fields, add_hex, add_settings, add_signal, add_warnings, count_bytes,
+};
 use std::alloc::{AllocError, Global};
 use wt_inspection_model::item::{
     CapsuleItem, Content, Cut, DatagramHead, End, Fault, FieldSection, FrameItem, FrameName,
     Inspection, Item, Parts, StreamHead, Warning,
 };
+use wtp_core::error::Code;
 use wtp_wire::frame::FrameKind;
 
 /// Formats an inspection of `bytes` as text.
 ///
-/// Each item has a line with its offset, its kind and, but for stream heads and sessions, its size.
-/// Its contents follow on further, indented lines. The last line says how the input ends. If
-/// `payload` is set, payload bytes are shown in hexadecimal.
+/// Each line begins with [`LINE_MARK`](crate::plain::LINE_MARK). Each item has a line with its
+/// offset, its kind and, but for stream heads and sessions, its size. Its contents follow on
+/// further, indented lines. The last line says how the input ends. If `payload` is set, payload
+/// bytes are shown in hexadecimal.
 ///
-/// Bytes from a peer are shown unchanged if they are UTF-8 without control characters and
-/// backslashes. Otherwise each byte other than printable ASCII, and each backslash, is shown as
-/// `\xNN`. The only control characters of the text are therefore the line feeds at the ends of
-/// lines. The number of lines is that of the items, the lines of their contents, the warnings,
-/// and one.
+/// Bytes from a peer are shown unchanged if they are UTF-8 without backslashes, control
+/// characters, invisible ones, and those that look like the mark. Otherwise each byte other than
+/// printable ASCII, and each backslash, is shown as `\xNN`. So nothing that a peer sent looks like
+/// the start of a line, also where a terminal wraps. The number of lines is that of the items, the
+/// lines of their contents, the warnings, and one.
 ///
 /// Returns [`AllocError`] if allocation fails.
 pub fn write_text(
@@ -39,9 +43,8 @@ pub fn write_text(
     bytes: &[u8],
     payload: bool,
 ) -> Result<String, AllocError>
-    ensures clean { IfOk result (λ t. IsClean (string_bytes t)) }
-    ensures ended { IfOk result (λ t. EndsLines (string_bytes t)) }
-    ensures lines { IfOk result
+    ensures lines { IfOk result (λ t. AreLines (string_bytes t)) }
+    ensures count { IfOk result
         (λ t. line_count (string_bytes t) ≡ inspection_lines payload bytes.now inspection.now) }
 {
     let mut text = Lines::new(alloc);
@@ -155,9 +158,10 @@ fn add_item(text: &mut Lines, item: &Item)
 fn words_of_stream(alloc: Global, head: StreamHead) -> Result<String, AllocError> {
     let name = head.name.as_str();
     let number = head.number;
-    match head.session {
-        Some(id) => format!(in alloc; "{name}, type {number:#x}, session {id}"),
-        None => format!(in alloc; "{name}, type {number:#x}"),
+    match (head.session, head.push) {
+        (Some(id), _) => format!(in alloc; "{name}, type {number:#x}, session {id}"),
+        (None, Some(id)) => format!(in alloc; "{name}, type {number:#x}, push {id}"),
+        (None, None) => format!(in alloc; "{name}, type {number:#x}"),
     }
 }
 
@@ -249,6 +253,7 @@ fn add_parts(text: &mut Lines, parts: &Parts)
         Parts::Fields(section) => add_fields(text, section),
         Parts::Settings(settings) => add_settings(text, settings.as_slice()),
         Parts::Capsules(capsules) => add_capsules(text, capsules.as_slice()),
+        Parts::Signal(signal) => add_signal(text, signal),
     }
 }
 
@@ -316,7 +321,8 @@ fn words_of_cut(alloc: Global, cut: Cut) -> Result<String, AllocError> {
 
 /// Returns the details of an error.
 fn words_of_fault(alloc: Global, fault: Fault) -> Result<String, AllocError> {
-    let Fault { code, why, .. } = fault;
-    let number = code.to_code().into_inner();
+    let code = Code::from(fault.code);
+    let number = fault.code.to_code().into_inner();
+    let why = fault.why;
     format!(in alloc; "{code} ({number:#x}): {why}")
 }

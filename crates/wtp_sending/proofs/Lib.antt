@@ -5,3 +5,4 @@ pub mod ChainLemmas
 pub mod TakenLemmas
 pub mod ControlLemmas
 pub mod SessionLemmas
+pub mod WordLemmas

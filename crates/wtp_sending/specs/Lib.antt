@@ -3,3 +3,4 @@ pub mod Message
 pub mod Session
 pub mod Control
 pub mod Sent
+pub mod Words

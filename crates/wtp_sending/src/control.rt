@@ -5,6 +5,8 @@ ghost use Rattle.wtp_wire.specs.Wire.{wire};
 ghost use Rattle.wtp_sending.specs.Writing.{WritesAll, Fails, FailsAllocating};
 ghost use Rattle.wtp_sending.specs.Control.{control_to, settings_bytes, after_settings, goaway_bytes, is_named as is_named_is, after_goaway};
 
+pub mod words;
+
 use crate::error::SendError;
 use crate::write::{put_all, put_three};
 use std::alloc::Global;

@@ -11,6 +11,7 @@ ghost use Rattle.wtp_sending.specs.Message.{data_head, data_at, after_data, coun
 ghost use Rattle.wtp_sending.specs.Message.{SendsTrailers, AreTrailers, BreaksTrailers, RefusesTrailers, LacksSection, after_end, opens, placed, Changes};
 
 mod session;
+pub mod words;
 
 use crate::error::SendError;
 use crate::peer::Peer;

@@ -4,3 +4,4 @@ pub mod CountLemmas
 pub mod EndingLemmas
 pub mod OtherLemmas
 pub mod NamedLemmas
+pub mod SendingLemmas

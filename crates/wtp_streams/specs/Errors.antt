@@ -17,6 +17,8 @@ use Rattle.wtp_fields.specs.declared.session.HeadersParseError.TheVariants as pa
 use Rattle.wtp_sending.specs.declared.error.SendError.{SendError}
 use Rattle.wtp_sending.specs.declared.error.SendError.TheVariants as send
 use Rattle.wtp_streams.specs.declared.error.Error.{Error}
+use Rattle.wtp_streams.specs.declared.h3.refused.Refused.{Refused}
+use Rattle.wtp_streams.specs.declared.h3.refused.Refused.TheVariants.{Send}
 use Rattle.wtp_streams.specs.declared.error.Error.TheVariants.{Connection, Stream, Memory}
 
 -- an error of the peer, by its scope and its code
@@ -65,3 +67,8 @@ put_error put.Memory = Memory
 abbrev pub send_error : SendError → Error
 send_error send.Memory = Memory
 send_error other = internal_error
+
+-- what was refused here: the error of sending, or H3_INTERNAL_ERROR
+abbrev pub refused_error : Refused → Error
+refused_error (Send e) = send_error e
+refused_error other = internal_error

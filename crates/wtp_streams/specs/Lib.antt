@@ -1,3 +1,5 @@
 pub mod Table
 pub mod Calls
 pub mod Errors
+pub mod Ends
+pub mod Sends

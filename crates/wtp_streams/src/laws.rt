@@ -8,6 +8,14 @@ ghost use Rattle.wtp_messages.specs.declared.response.Asked.{Asked};
 ghost use Rattle.wtp_streams.specs.declared.entry.Entry.{Entry};
 ghost use Rattle.wtp_streams.specs.declared.limits.Limits.{Limits};
 ghost use Rattle.wtp_streams.specs.Table.{Table, table_for, with_connection, IsCounted, IsLeft, entry_at, first_cut, first_ready, is_cut, is_ready, named_by};
+ghost use Rattle.wtp_qpack.specs.Field.{Field};
+ghost use Rattle.wtp_frames.specs.declared.reader.Reader.{Reader};
+ghost use Rattle.wtp_sending.specs.declared.message.Sending.{Sending};
+ghost use Rattle.wtp_sending.specs.Sent.{Sent, IsAt, IsRead};
+ghost use Rattle.wtp_webtransport.specs.Events.{Told};
+ghost use Rattle.wtp_streams.specs.declared.h3.half.Half.TheVariants.{Message};
+ghost use Rattle.wtp_streams.specs.Ends.{Ends, half_at};
+ghost use Rattle.wtp_streams.specs.Sends.{Sends, HalfSends, Requests, Responds, ClosesAt, ReceivesEnds, session_half};
 ghost use Rattle.wtp_streams.specs.Calls.{accepts_in, opens_in, belongs_in, Result, ReceivesIn, forgets_in, resets_in, stops_in, abandons_in, overflows_in, rejects_in, stopped_in, answers_in, cuts_in};
 
 /// The connection counts exactly the streams of the table that wait for their sessions: none of a table
@@ -62,4 +70,28 @@ pub fn all_streams_are_named()
         → is_ready t e ≡ false }
     ensures reset { (t : Table) → first_cut t ≡ None → (id : ℕ) (e : Entry) → entry_at t id ≡ Some e
         → is_cut t e ≡ false }
+{}
+
+/// A connection that receives and sends counts the streams that wait as exactly: the calls that change the
+/// table of what came keep it so.
+pub fn sending_keeps_counts()
+    ensures receive { (old new : Ends) (id : ℕ) (bytes : List ℕ) (fin : Bool) (r : Option (ℕ × Told))
+        → ReceivesEnds old id bytes fin r new → IsCounted old.table → IsCounted new.table }
+    ensures request { (fields : List Field) (old new : Ends) (id : ℕ) → Requests fields old id new
+        → IsCounted old.table → IsCounted new.table }
+    ensures respond { (fields : List Field) (old new : Ends) (id : ℕ) → Responds fields old id new
+        → IsCounted old.table → IsCounted new.table }
+    ensures close { (code : ℕ) (reason : List ℕ) (old new : Ends) (id : ℕ)
+        → ClosesAt (session_half old id) code reason old id new
+        → IsCounted old.table → IsCounted new.table }
+{}
+
+/// What a call sends on the stream of a message is read by the other end as it was meant, whatever follows, and
+/// the reader of the other end goes on with the message: `wtp_sending::laws::sent_messages_are_read`, for a
+/// stream in the table.
+pub fn sent_calls_are_read()
+    ensures { (e : Endpoint) (x : Sent) (old new : Ends) (id : ℕ) (s : Sending) (r : Reader)
+        → old.over ≡ false → half_at old id ≡ Some (Message s)
+        → Sends (λ h n. HalfSends x h n) old id new → IsAt e s.place s.owed r
+        → (next : Sending) × (half_at new id ≡ Some (Message next)) × IsRead e x next r }
 {}

@@ -5,6 +5,7 @@
 
 mod entry;
 pub mod error;
+pub mod h3;
 pub mod laws;
 pub mod limits;
 pub mod streams;

@@ -5,6 +5,7 @@ ghost use Rattle.wtp_streams.specs.Table.{table_of, table_for, entry_at, known_i
 ghost use Rattle.wtp_streams.specs.Calls.{puts_in, accepts_in, opens_in, belongs_in, join_in, wait_of, NextIn, ReadsIn, ReceivesIn, forgets_in};
 
 mod endings;
+mod sending;
 pub mod sessions;
 
 use crate::entry::{Entry, is_settings, joined_len};

@@ -1,11 +1,11 @@
 -- Parameters that are read are of the grammar.
-use Rattle.std.proofs.Common.{◌≡◌, ◌==◌, ℕ, zero, suc, ◌≤◌, ◌<◌, Bool, true, false, List, [], ◌∷◌, ◌++◌, length, Option, Some, None, refl, sym, ap, subst, ◌∙◌, arith, eqb-true}
+use Rattle.std.proofs.Common.{◌≡◌, ◌==◌, ℕ, zero, suc, ◌≤◌, ◌<◌, Bool, true, false, not, List, [], ◌∷◌, ◌++◌, length, Option, Some, None, refl, sym, ap, subst, ◌∙◌, arith, eqb-true}
 use Rattle.std.proofs.lemmas.Bool.{and_from}
 use Rattle.std.proofs.lemmas.Option.{none-some}
 use Rattle.std.specs.List.{list_all}
 use Rattle.wtp_subprotocols.specs.declared.strings.State.{State}
-use Rattle.wtp_subprotocols.specs.declared.strings.State.TheVariants.{Closed, Key, InKey, Value, InValue, Quoted, QuotedEscape, After}
-use Rattle.wtp_subprotocols.specs.Strings.{Char, Plain, Escaped, Bare, Text, Other, Parameter, is_key_start, is_key_byte, is_value_byte, bare_then, parameters_then, ValidBare, ValidParameter, ValidParameters, is_space, is_escaped, is_string_byte, is_char, chars_then, strings_after}
+use Rattle.wtp_subprotocols.specs.declared.strings.State.TheVariants.{Closed, Key, InKey, Value, InValue, Quoted, QuotedEscape, Percent, InDisplay, After}
+use Rattle.wtp_subprotocols.specs.Strings.{Char, Plain, Escaped, Bare, Text, Display, Other, Parameter, is_key_start, is_key_byte, is_value_byte, is_display_byte, bare_then, parameters_then, ValidBare, ValidParameter, ValidParameters, is_space, is_escaped, is_string_byte, is_char, chars_then, strings_after}
 use Rattle.wtp_subprotocols.proofs.ReadLemmas.{}
 
 -- ---- parameters that are read are of the grammar
@@ -119,12 +119,65 @@ pub record IsBare (list : Bool) (values : List (List ℕ)) (text : List ℕ) (al
   pub goes : strings_after list Closed values [] rest ≡ Some all
   pub shorter : length rest ≤ length text
 
-pub other_bare : (v list : Bool) (values : List (List ℕ)) (byte : ℕ) (rest : List ℕ) (all : List (List ℕ)) → is_value_byte byte ≡ v → (byte == 34) ≡ false
+pub other_bare : (v list : Bool) (values : List (List ℕ)) (byte : ℕ) (rest : List ℕ) (all : List (List ℕ)) → is_value_byte byte ≡ v → (byte == 34) ≡ false → (byte == 37) ≡ false
     → strings_after list Value values [] (byte ∷ rest) ≡ Some all → IsBare list values (61 ∷ byte ∷ rest) all
-other_bare true list values byte rest all e quote h =
-    let r = value_found list values rest all (rw (quote, e) at h) in
-    record { bare = Some (Other byte r.run); rest = r.rest; valid = (e, r.valid); bytes = ap (λ (t : List ℕ). 61 ∷ byte ∷ t) r.bytes; goes = r.goes; shorter = let x = r.shorter in omega (arith, x) }
-other_bare false list values byte rest all e quote h = absurd (none-some all (rw (quote, e) at h))
+other_bare true list values byte rest all e quote percent h =
+    let r = value_found list values rest all (rw (quote, percent, e) at h) in
+    record { bare = Some (Other byte r.run); rest = r.rest; valid = (and_from _ _ e (ap not percent), r.valid); bytes = ap (λ (t : List ℕ). 61 ∷ byte ∷ t) r.bytes; goes = r.goes; shorter = let x = r.shorter in omega (arith, x) }
+other_bare false list values byte rest all e quote percent h = absurd (none-some all (rw (quote, percent, e) at h))
+
+-- the bytes of a display string, and what follows its quote
+pub record IsDisplay (list : Bool) (values : List (List ℕ)) (text : List ℕ) (all : List (List ℕ)) : Type 0 where
+  pub run : List ℕ
+  pub rest : List ℕ
+  pub valid : list_all is_display_byte run ≡ true
+  pub bytes : run ++ 34 ∷ rest ≡ text
+  pub goes : strings_after list Closed values [] rest ≡ Some all
+  pub shorter : length rest ≤ length text
+
+pub display_byte : (v list : Bool) (values : List (List ℕ)) (byte : ℕ) (rest : List ℕ) (all : List (List ℕ)) → is_string_byte byte ≡ v → (byte == 34) ≡ false
+    → (strings_after list InDisplay values [] rest ≡ Some all → IsDisplay list values rest all)
+    → strings_after list InDisplay values [] (byte ∷ rest) ≡ Some all → IsDisplay list values (byte ∷ rest) all
+display_byte true list values byte rest all e quote ih h =
+    let d = ih (rw (quote, e) at h) in
+    record { run = byte ∷ d.run; rest = d.rest; valid = and_from _ _ (and_from _ _ e (ap not quote)) d.valid; bytes = ap (λ (t : List ℕ). byte ∷ t) d.bytes; goes = d.goes; shorter = let x = d.shorter in omega (arith, x) }
+display_byte false list values byte rest all e quote ih h = absurd (none-some all (rw (quote, e) at h))
+
+pub display_by : (v list : Bool) (values : List (List ℕ)) (byte : ℕ) (rest : List ℕ) (all : List (List ℕ)) → (byte == 34) ≡ v
+    → (strings_after list InDisplay values [] rest ≡ Some all → IsDisplay list values rest all)
+    → strings_after list InDisplay values [] (byte ∷ rest) ≡ Some all → IsDisplay list values (byte ∷ rest) all
+display_by true list values byte rest all quote ih h =
+    record { run = []; rest = rest; valid = refl; bytes = ap (λ (x : ℕ). x ∷ rest) (sym (eqb-true byte 34 quote)); goes = rw quote at h; shorter = omega arith }
+display_by false list values byte rest all quote ih h = display_byte (is_string_byte byte) list values byte rest all refl quote ih h
+
+pub display_found : (list : Bool) (values : List (List ℕ)) (text : List ℕ) (all : List (List ℕ)) → strings_after list InDisplay values [] text ≡ Some all → IsDisplay list values text all
+display_found list values [] all h = absurd (none-some all h)
+display_found list values (byte ∷ rest) all h = display_by (byte == 34) list values byte rest all refl (display_found list values rest all) h
+
+pub display_bare : (v list : Bool) (values : List (List ℕ)) (byte : ℕ) (rest : List ℕ) (all : List (List ℕ)) → (byte == 34) ≡ v
+    → strings_after list Percent values [] (byte ∷ rest) ≡ Some all → IsBare list values (61 ∷ 37 ∷ byte ∷ rest) all
+display_bare true list values byte rest all quote h =
+    let d = display_found list values rest all (rw quote at h) in
+    record {
+      bare = Some (Display d.run);
+      rest = d.rest;
+      valid = d.valid;
+      bytes = ap (λ (t : List ℕ). 61 ∷ 37 ∷ 34 ∷ t) d.bytes ∙ ap (λ (x : ℕ). 61 ∷ 37 ∷ x ∷ rest) (sym (eqb-true byte 34 quote));
+      goes = d.goes;
+      shorter = let x = d.shorter in omega (arith, x);
+    }
+display_bare false list values byte rest all quote h = absurd (none-some all (rw quote at h))
+
+pub after_percent : (list : Bool) (values : List (List ℕ)) (rest : List ℕ) (all : List (List ℕ))
+    → strings_after list Percent values [] rest ≡ Some all → IsBare list values (61 ∷ 37 ∷ rest) all
+after_percent list values [] all h = absurd (none-some all h)
+after_percent list values (byte ∷ rest) all h = display_bare (byte == 34) list values byte rest all refl h
+
+pub percent_bare : (v list : Bool) (values : List (List ℕ)) (byte : ℕ) (rest : List ℕ) (all : List (List ℕ)) → (byte == 37) ≡ v → (byte == 34) ≡ false
+    → strings_after list Value values [] (byte ∷ rest) ≡ Some all → IsBare list values (61 ∷ byte ∷ rest) all
+percent_bare true list values byte rest all percent quote h =
+    subst (λ (x : ℕ). IsBare list values (61 ∷ x ∷ rest) all) (sym (eqb-true byte 37 percent)) (after_percent list values rest all (rw (quote, percent) at h))
+percent_bare false list values byte rest all percent quote h = other_bare (is_value_byte byte) list values byte rest all refl quote percent h
 
 pub text_bare : (v list : Bool) (values : List (List ℕ)) (byte : ℕ) (rest : List ℕ) (all : List (List ℕ)) → (byte == 34) ≡ v
     → strings_after list Value values [] (byte ∷ rest) ≡ Some all → IsBare list values (61 ∷ byte ∷ rest) all
@@ -138,7 +191,7 @@ text_bare true list values byte rest all quote h =
       goes = q.goes;
       shorter = let x = q.shorter in omega (arith, x);
     }
-text_bare false list values byte rest all quote h = other_bare (is_value_byte byte) list values byte rest all refl quote h
+text_bare false list values byte rest all quote h = percent_bare (byte == 37) list values byte rest all refl quote h
 
 pub after_equals : (list : Bool) (values : List (List ℕ)) (rest : List ℕ) (all : List (List ℕ))
     → strings_after list Value values [] rest ≡ Some all → IsBare list values (61 ∷ rest) all

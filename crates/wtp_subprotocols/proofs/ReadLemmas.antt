@@ -5,8 +5,8 @@ use mathlib.Core.Logic.{⊎_elim}
 use Rattle.std.proofs.lemmas.List.{append-nil, append_assoc}
 use Rattle.std.specs.List.{list_all}
 use Rattle.wtp_fields.specs.FieldWriting.{is_blank}
-use Rattle.wtp_subprotocols.specs.declared.strings.State.TheVariants.{Start, Before, Inside, Closed, Key, InKey, InValue, Quoted, After}
-use Rattle.wtp_subprotocols.specs.Strings.{Char, Plain, Escaped, Bare, Text, Other, Parameter, Member, is_key_start, is_key_byte, is_value_byte, bare_then, parameters_then, ValidBare, ValidParameters, is_space, is_escaped, is_string_byte, is_char, byte_of, value_of, chars_then, member_then, others_bytes, ValidMember, ValidOthers, IsList, Empty, Members, IsItem, is_after, strings_after, strings_of, string_of, one_string}
+use Rattle.wtp_subprotocols.specs.declared.strings.State.TheVariants.{Start, Before, Inside, Closed, Key, InKey, InValue, Quoted, InDisplay, After}
+use Rattle.wtp_subprotocols.specs.Strings.{Char, Plain, Escaped, Bare, Text, Display, Other, Parameter, Member, is_key_start, is_key_byte, is_value_byte, is_display_byte, bare_then, parameters_then, ValidBare, ValidParameters, is_space, is_escaped, is_string_byte, is_char, byte_of, value_of, chars_then, member_then, others_bytes, ValidMember, ValidOthers, IsList, Empty, Members, IsItem, is_after, strings_after, strings_of, string_of, one_string}
 
 -- ---- bytes
 
@@ -118,6 +118,14 @@ quoted_read list values (Plain b ∷ chars) rest h =
 quoted_read list values (Escaped b ∷ chars) rest h =
     let both = and_parts (is_escaped b) _ h in rw both.0 (quoted_read list values chars rest both.1)
 
+pub display_read : (list : Bool) (values : List (List ℕ)) (bytes rest : List ℕ) → list_all is_display_byte bytes ≡ true
+    → strings_after list InDisplay values [] (bytes ++ 34 ∷ rest) ≡ strings_after list Closed values [] rest
+display_read list values [] rest h = refl
+display_read list values (b ∷ bytes) rest h =
+    let both = and_parts (is_display_byte b) _ h in
+    let parts = and_parts (is_string_byte b) _ both.0 in
+    rw (not_true (b == 34) parts.1, parts.0) (display_read list values bytes rest both.1)
+
 pub others_value_read : (list : Bool) (values : List (List ℕ)) (bytes rest : List ℕ) → list_all is_value_byte bytes ≡ true
     → strings_after list InValue values [] (bytes ++ rest) ≡ strings_after list InValue values [] rest
 others_value_read list values [] rest h = refl
@@ -134,8 +142,10 @@ pub bare_read : (list : Bool) (values : List (List ℕ)) (bare : Option Bare) (r
     → strings_after list InKey values [] (bare_then bare rest) ≡ strings_after list Closed values [] rest
 bare_read list values None rest v e = key_closed list values rest e
 bare_read list values (Some (Text chars)) rest v e = quoted_read list values chars rest v
+bare_read list values (Some (Display bytes)) rest v e = display_read list values bytes rest v
 bare_read list values (Some (Other first others)) rest v e =
-    rw (other is_value_byte 34 first refl v.0, v.0) (others_value_read list values others rest v.1 ∙ value_closed list values rest e)
+    let both = and_parts (is_value_byte first) _ v.0 in
+    rw (other is_value_byte 34 first refl both.0, not_true (first == 37) both.1, both.0) (others_value_read list values others rest v.1 ∙ value_closed list values rest e)
 
 pub key_spaces_read : (list : Bool) (values : List (List ℕ)) (spaces rest : List ℕ) → list_all is_space spaces ≡ true
     → strings_after list Key values [] (spaces ++ rest) ≡ strings_after list Key values [] rest

@@ -1,11 +1,11 @@
--- Lists of strings, and one string, as structured fields (RFC 8941, sections 3.1, 3.3.3 and 4.2).
+-- Lists of strings, and one string, as structured fields (RFC 9651, sections 3.1, 3.3.3 and 4.2).
 -- Parameters (section 3.1.2) have no meaning here. Of a parameter's value that is no string, only its
 -- bytes are checked: see docs/DIFFERENCES.md.
 use Rattle.std.specs.Prelude.{◌≡◌, ◌==◌, ℕ, nat_lt, Bool, true, false, not, ◌&&◌, ◌||◌, if◌then◌else◌, List, [], ◌∷◌, ◌++◌, map, Option, Some, None, codes}
 use Rattle.std.specs.List.{list_all, list_any}
 use Rattle.wtp_fields.specs.FieldWriting.{is_blank}
 use Rattle.wtp_subprotocols.specs.declared.strings.State.{State}
-use Rattle.wtp_subprotocols.specs.declared.strings.State.TheVariants.{Start, Before, Inside, Escape, Closed, Key, InKey, Value, InValue, Quoted, QuotedEscape, After}
+use Rattle.wtp_subprotocols.specs.declared.strings.State.TheVariants.{Start, Before, Inside, Escape, Closed, Key, InKey, Value, InValue, Quoted, QuotedEscape, Percent, InDisplay, After}
 
 -- ---- bytes
 
@@ -34,12 +34,21 @@ abbrev pub is_key_byte : ℕ → Bool
 is_key_byte byte =
     is_lower byte || (nat_lt 47 byte && nat_lt byte 58) || list_any (λ mark. mark == byte) (codes "_-.*")
 
--- The byte may be in a value that is no string: it is one of a number, a token, a byte sequence or a
--- boolean (sections 3.3.1, 3.3.2 and 3.3.4 to 3.3.6), in any order.
+-- The byte may be in a value that is no string: it is one of a number, a token, a byte sequence, a
+-- boolean or a date (sections 3.3.1, 3.3.2 and 3.3.4 to 3.3.7), in any order.
 abbrev pub is_value_byte : ℕ → Bool
 is_value_byte byte =
     is_key_byte byte || (byte == 61
-    || ((nat_lt 64 byte && nat_lt byte 91) || list_any (λ mark. mark == byte) (codes "!#$%&'+^`|~:/?")))
+    || ((nat_lt 64 byte && nat_lt byte 91) || list_any (λ mark. mark == byte) (codes "!#$%&'+^`|~:/?@")))
+
+-- the byte may begin such a value: a percent sign begins a display string
+abbrev pub is_value_start : ℕ → Bool
+is_value_start byte = is_value_byte byte && not (byte == 37)
+
+-- The byte may be in a display string (section 3.3.8). The two digits after a percent sign are not
+-- checked.
+abbrev pub is_display_byte : ℕ → Bool
+is_display_byte byte = is_string_byte byte && not (byte == 34)
 
 -- ---- the grammar
 
@@ -48,9 +57,10 @@ pub data Char : Type 0 where
   Plain : ℕ → Char
   Escaped : ℕ → Char
 
--- the value of a parameter: a string, or another bare item
+-- the value of a parameter: a string, a display string, or another bare item
 pub data Bare : Type 0 where
   Text : List Char → Bare
+  Display : List ℕ → Bare
   Other : ℕ → List ℕ → Bare
 
 -- a parameter, with the spaces before its key
@@ -79,6 +89,7 @@ chars_then (char ∷ chars) rest = char_then char (chars_then chars rest)
 abbrev pub bare_then : Option Bare → List ℕ → List ℕ
 bare_then None rest = rest
 bare_then (Some (Text chars)) rest = 61 ∷ 34 ∷ chars_then chars (34 ∷ rest)
+bare_then (Some (Display bytes)) rest = 61 ∷ 37 ∷ 34 ∷ (bytes ++ 34 ∷ rest)
 bare_then (Some (Other first others)) rest = 61 ∷ first ∷ (others ++ rest)
 
 -- the parameters, each after a semicolon, then more
@@ -111,7 +122,8 @@ is_char (Escaped byte) = is_escaped byte
 abbrev pub ValidBare : Option Bare → Type 0
 ValidBare None = Unit {0}
 ValidBare (Some (Text chars)) = list_all is_char chars ≡ true
-ValidBare (Some (Other first others)) = (is_value_byte first ≡ true) × (list_all is_value_byte others ≡ true)
+ValidBare (Some (Display bytes)) = list_all is_display_byte bytes ≡ true
+ValidBare (Some (Other first others)) = (is_value_start first ≡ true) × (list_all is_value_byte others ≡ true)
 
 pub record ValidParameter (p : Parameter) : Type 0 where
   pub spaces : list_all is_space p.spaces ≡ true
@@ -188,6 +200,7 @@ next_state list InKey byte =
     if byte == 61 then Some Value else state_closed list byte
 next_state list Value byte =
     if byte == 34 then Some Quoted else
+    if byte == 37 then Some Percent else
     if is_value_byte byte then Some InValue else None
 next_state list InValue byte =
     if is_value_byte byte then Some InValue else state_closed list byte
@@ -196,6 +209,10 @@ next_state list Quoted byte =
     if byte == 92 then Some QuotedEscape else
     if is_string_byte byte then Some Quoted else None
 next_state list QuotedEscape byte = if is_escaped byte then Some Quoted else None
+next_state list Percent byte = if byte == 34 then Some InDisplay else None
+next_state list InDisplay byte =
+    if byte == 34 then Some Closed else
+    if is_string_byte byte then Some InDisplay else None
 next_state list After byte = state_after list byte
 
 -- the text may end here
@@ -249,6 +266,16 @@ one_string (Some values) = last_string values
 -- the value of one string
 abbrev pub string_of : List ℕ → Option (List ℕ)
 string_of text = one_string (strings_after false Start [] [] text)
+
+-- the text begins with a string, after spaces alone: before that nothing has to be kept
+abbrev pub begins_string : List ℕ → Bool
+begins_string [] = false
+begins_string (byte ∷ rest) = byte == 34 || (is_space byte && begins_string rest)
+
+-- the place is after the quote that begins the first string
+abbrev pub is_started : State → Bool
+is_started Start = false
+is_started _ = true
 
 -- ---- writing
 

@@ -4,7 +4,7 @@ ghost use Rattle.std.specs.List.{list_all};
 ghost use Rattle.wtp_subprotocols.specs.Strings.{IsList, IsItem, strings_of, string_of};
 ghost use Rattle.wtp_subprotocols.specs.Strings.{is_string, written_list, written_string};
 
-/// The texts of lists of strings, and of one string, that are read are those of the grammar (RFC 8941,
+/// The texts of lists of strings, and of one string, that are read are those of the grammar (RFC 9651,
 /// sections 3.1, 3.1.2, 3.3.3 and 4.2), with these values; of the value of a parameter that is no string
 /// only the bytes are checked. The rows are worked examples.
 pub fn strings_are_those_of_the_grammar()
@@ -25,6 +25,10 @@ pub fn strings_are_those_of_the_grammar()
     ensures control { string_of (codes "\"\t\"") ≡ None }
     ensures two_items { string_of (codes "\"a\", \"b\"") ≡ None }
     ensures parameter { strings_of (codes "\"a\";q=0.5;  *b;c=\"\\\",\" , \"b\"") ≡ Some (codes "a" ∷ codes "b" ∷ []) }
+    ensures date { string_of (codes "\"a\";q=@1659578233;r=@-9") ≡ Some (codes "a") }
+    ensures display { string_of (codes "\"a\";q=%\"f%c3%bc,\\;\";r") ≡ Some (codes "a") }
+    ensures no_display { string_of (codes "\"a\";q=%c3") ≡ None }
+    ensures display_without_end { string_of (codes "\"a\";q=%\"f%c3%bc") ≡ None }
     ensures late_parameter { strings_of (codes "\"a\" ;q=1") ≡ None }
     ensures no_key { strings_of (codes "\"a\";Q=1") ≡ None }
     ensures no_value { string_of (codes "\"a\";q=") ≡ None }

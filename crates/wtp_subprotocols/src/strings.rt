@@ -1,12 +1,12 @@
-//! Lists of strings, and one string, as structured fields (RFC 8941, sections 3.1, 3.3.3 and 4.2).
-ghost use Rattle.std.specs.Prelude.{◌≡◌, ℕ, [], ◌++◌, map, IfOk, OnOk, option_map, true, false};
+//! Lists of strings, and one string, as structured fields (RFC 9651, sections 3.1, 3.3.3 and 4.2).
+ghost use Rattle.std.specs.Prelude.{◌≡◌, ℕ, [], ◌++◌, map, IfOk, OnOk, OnErr, option_map, true, false};
 ghost use Rattle.wtp_subprotocols.specs.Strings.{is_escaped as is_escaped_byte, is_string_byte as is_byte_of_string};
 ghost use Rattle.std.specs.Prelude.{◌==◌, Some, None, codes, if◌then◌else◌};
 ghost use Rattle.std.specs.List.{list_any};
 ghost use Rattle.wtp_subprotocols.specs.Strings.{is_lower as is_lower_byte, is_key_byte as is_byte_of_key};
 ghost use Rattle.wtp_subprotocols.specs.Strings.{is_value_byte as is_byte_of_value, state_after, state_closed};
 ghost use Rattle.wtp_subprotocols.specs.Strings.{next_state, may_end as may_end_in, values_after, current_after};
-ghost use Rattle.wtp_subprotocols.specs.Strings.{strings_after, string_of, written_string};
+ghost use Rattle.wtp_subprotocols.specs.Strings.{strings_after, string_of, written_string, is_started, begins_string};
 ghost use Rattle.wtp_subprotocols.specs.Strings.{is_string as is_string_text};
 
 use std::alloc::{AllocError, Global};
@@ -37,6 +37,10 @@ pub(crate) enum State {
     Quoted,
     /// It is after a backslash in a string of a parameter.
     QuotedEscape,
+    /// It is after the percent sign that begins a display string of a parameter.
+    Percent,
+    /// It is in a display string of a parameter.
+    InDisplay,
     /// It is after a string, its parameters and a space or a tab.
     After,
 }
@@ -66,6 +70,8 @@ impl State {
             State::InValue => next_in_value(byte, list),
             State::Quoted => next_quoted(byte),
             State::QuotedEscape => State::Quoted.if_true(is_escaped(byte)),
+            State::Percent => State::InDisplay.if_true(byte == b'"'),
+            State::InDisplay => next_in_display(byte),
             State::After => next_after(byte, list),
         }
     }
@@ -86,6 +92,7 @@ impl State {
             State::Closed | State::InKey | State::InValue | State::After => true,
             State::Before | State::Inside | State::Escape => false,
             State::Key | State::Value | State::Quoted | State::QuotedEscape => false,
+            State::Percent | State::InDisplay => false,
         }
     }
 }
@@ -146,6 +153,8 @@ fn next_value(byte: u8) -> Option<State>
 {
     if byte == b'"' {
         Some(State::Quoted)
+    } else if byte == b'%' {
+        Some(State::Percent)
     } else {
         State::InValue.if_true(is_value_byte(byte))
     }
@@ -172,6 +181,17 @@ fn next_quoted(byte: u8) -> Option<State>
         Some(State::QuotedEscape)
     } else {
         State::Quoted.if_true(is_string_byte(byte))
+    }
+}
+
+/// Returns the state after a byte of a display string of a parameter.
+fn next_in_display(byte: u8) -> Option<State>
+    ensures { result ≡ next_state true State.InDisplay byte }
+{
+    if byte == b'"' {
+        Some(State::Closed)
+    } else {
+        State::InDisplay.if_true(is_string_byte(byte))
     }
 }
 
@@ -205,9 +225,9 @@ fn is_value_byte(byte: u8) -> bool
 
 /// Returns whether a byte is one of these that are in no key.
 fn is_value_mark(byte: u8) -> bool
-    ensures { result ≡ list_any (λ mark. mark == byte) (codes "!#$%&'+^`|~:/?") }
+    ensures { result ≡ list_any (λ mark. mark == byte) (codes "!#$%&'+^`|~:/?@") }
 {
-    b"!#$%&'+^`|~:/?".contains(&byte)
+    b"!#$%&'+^`|~:/?@".contains(&byte)
 }
 
 /// Returns the state after a byte that follows a string.
@@ -249,6 +269,7 @@ fn keep(
     ensures values { OnOk result (map (λ v. v.items) values.new.items
         ≡ values_after state byte current.old.items (map (λ v. v.items) values.old.items)) }
     ensures current { OnOk result (current.new.items ≡ current_after state byte current.old.items) }
+    ensures memory { OnErr result (is_started state ≡ true) }
 {
     match state {
         State::Escape => current.push(byte)?,
@@ -264,14 +285,16 @@ fn keep(
     Ok(())
 }
 
-/// Returns the strings of a list, or the only string, or `None` if the text is invalid.
+/// Returns the strings of a list, or the only string, or `None` if the text is invalid. Allocates
+/// nothing before the first string.
 pub(crate) fn read_strings(
     alloc: Global,
     text: &[u8],
     list: bool,
 ) -> Result<Option<Vec<Vec<u8>>>, AllocError>
-    ensures { IfOk result (λ found. option_map (λ values. map (λ v. v.items) values.items) found
+    ensures found { IfOk result (λ found. option_map (λ values. map (λ v. v.items) values.items) found
         ≡ strings_after list State.Start [] [] text.now) }
+    ensures memory { OnErr result (begins_string text.now ≡ true) }
 {
     let mut state = State::Start;
     let mut values = Vec::new(alloc);
@@ -293,7 +316,8 @@ pub(crate) fn read_strings(
 /// Returns the value of one string, or `None` if the text is invalid.
 #[tactic(auto, using(crate::proofs::StringLemmas::last_pushed))]
 pub(crate) fn read_string(alloc: Global, text: &[u8]) -> Result<Option<Vec<u8>>, AllocError>
-    ensures { IfOk result (λ found. option_map (λ value. value.items) found ≡ string_of text.now) }
+    ensures found { IfOk result (λ found. option_map (λ value. value.items) found ≡ string_of text.now) }
+    ensures memory { OnErr result (begins_string text.now ≡ true) }
 {
     match read_strings(alloc, text, false)? {
         Some(mut values) => Ok(values.pop()),

@@ -10,6 +10,7 @@ ghost use Rattle.wtp_fields.specs.FieldList.{values_of};
 ghost use Rattle.wtp_subprotocols.specs.Strings.{is_string as is_string_text, written_list, written_string};
 ghost use Rattle.wtp_subprotocols.specs.Strings.{others_bytes, string_after};
 ghost use Rattle.wtp_subprotocols.specs.Subprotocols.{alpn_error, offered_in, chosen_in, is_fine};
+ghost use Rattle.wtp_subprotocols.specs.Subprotocols.{list_needs_memory, string_needs_memory};
 
 use crate::strings::{is_string, read_string, read_strings, write_string};
 use std::alloc::{AllocError, Global};
@@ -41,7 +42,7 @@ impl NotOffered {
 /// The reason why a field was not written.
 #[derive(Debug, Drop, Clone, Copy, PartialEq, Eq, Error)]
 pub enum WriteError {
-    /// A name has a byte that no string has: a control character, or one above 0x7e (RFC 8941, section
+    /// A name has a byte that no string has: a control character, or one above 0x7e (RFC 9651, section
     /// 3.3.3).
     #[error("a subprotocol has an invalid byte")]
     InvalidByte,
@@ -62,43 +63,56 @@ impl From<AllocError> for WriteError {
 }
 
 /// Returns the subprotocols that a request offers in `wt-available-protocols`, in order: a list of
-/// strings (RFC 8941, section 3.1), whose lines are joined. Returns `None` if the request has no such
+/// strings (RFC 9651, section 3.1), whose lines are joined. Returns `None` if the request has no such
 /// field, or if the list is invalid, for example because a member is no string. Parameters of a string
 /// are ignored; of a value in them that is no string only the bytes are checked.
 ///
 /// # Errors
 ///
-/// If allocation fails, which it can only if there is such a field.
+/// If allocation fails, which it can only if there are several such fields, or if the only one begins
+/// with a string.
 pub fn available_protocols(
     alloc: Global,
     request: &FieldList,
 ) -> Result<Option<Vec<Vec<u8>>>, AllocError>
     ensures offered { IfOk result (λ found. option_map (λ values. map (λ v. v.items) values.items) found
         ≡ offered_in request.now) }
-    ensures memory { OnErr result (values_of (codes "wt-available-protocols") request.now ≢ []) }
+    ensures memory { OnErr result
+        (list_needs_memory (values_of (codes "wt-available-protocols") request.now) ≡ true) }
 {
     let mut lines = request.all(b"wt-available-protocols");
     let Some(first) = lines.next() else {
         return Ok(None);
     };
+    let Some(second) = lines.next() else {
+        return read_strings(alloc, first, true);
+    };
     let mut joined = Vec::from_slice(alloc, first)?;
+    push_line(&mut joined, second)?;
     while let Some(line) = lines.next() {
-        joined.extend_from_slice(b", ")?;
-        joined.extend_from_slice(line)?;
+        push_line(&mut joined, line)?;
     }
     read_strings(alloc, joined.as_slice(), true)
 }
 
-/// Returns the subprotocol that a response chooses in `wt-protocol`: one string (RFC 8941, section
+/// Appends a comma, a space and another line of a list (RFC 9110, section 5.2).
+fn push_line(text: &mut Vec<u8>, line: &[u8]) -> Result<(), AllocError>
+    ensures { OnOk result (text.new.items ≡ text.old.items ++ codes ", " ++ line.now) }
+{
+    text.extend_from_slice(b", ")?;
+    text.extend_from_slice(line)
+}
+
+/// Returns the subprotocol that a response chooses in `wt-protocol`: one string (RFC 9651, section
 /// 3.3.3), whose parameters are ignored, as in [`available_protocols`]. Returns `None` if the response has
 /// no such field or several, or if it is invalid.
 ///
 /// # Errors
 ///
-/// If allocation fails, which it can only if there is such a field.
+/// If allocation fails, which it can only if there is one such field, and it begins with a string.
 pub fn protocol(alloc: Global, response: &FieldList) -> Result<Option<Vec<u8>>, AllocError>
     ensures chosen { IfOk result (λ found. option_map (λ value. value.items) found ≡ chosen_in response.now) }
-    ensures memory { OnErr result (values_of (codes "wt-protocol") response.now ≢ []) }
+    ensures memory { OnErr result (string_needs_memory (values_of (codes "wt-protocol") response.now) ≡ true) }
 {
     let mut lines = response.all(b"wt-protocol");
     let Some(line) = lines.next() else {
@@ -133,17 +147,20 @@ pub fn check_protocol(chosen: Option<&[u8]>, offered: &[&[u8]]) -> Result<(), No
 }
 
 /// Writes the value of `wt-available-protocols` that offers these subprotocols. That of none is empty:
-/// leave the field out then (RFC 8941, section 4.1).
+/// leave the field out then (RFC 9651, section 4.1).
 ///
 /// # Errors
 ///
-/// If a name has a byte that no string has, or if allocation fails.
+/// [`WriteError::InvalidByte`] if a name has a byte that no string has. Otherwise
+/// [`WriteError::Memory`] if allocation fails, which it can only if there is a name.
 #[tactic(auto, using(crate::proofs::StringLemmas::string_before))]
 pub fn write_available_protocols(alloc: Global, protocols: &[&[u8]]) -> Result<Vec<u8>, WriteError>
     ensures { MatchResult result
         (λ text. (list_all is_string_text (map (λ p. p.now) protocols.now) ≡ true)
         × (text.items ≡ written_list (map (λ p. p.now) protocols.now)))
-        (λ e. e ≡ WriteError.InvalidByte → list_all is_string_text (map (λ p. p.now) protocols.now) ≡ false) }
+        (λ e. (e ≡ WriteError.InvalidByte → list_all is_string_text (map (λ p. p.now) protocols.now) ≡ false)
+        × (e ≡ WriteError.Memory → list_all is_string_text (map (λ p. p.now) protocols.now) ≡ true)
+        × (e ≡ WriteError.Memory → protocols.now ≢ [])) }
 {
     if !are_strings(protocols) {
         return Err(WriteError::InvalidByte);
@@ -180,11 +197,13 @@ fn write_other(text: &mut Vec<u8>, other: &[u8]) -> Result<(), AllocError>
 ///
 /// # Errors
 ///
-/// If the name has a byte that no string has, or if allocation fails.
+/// [`WriteError::InvalidByte`] if the name has a byte that no string has. Otherwise
+/// [`WriteError::Memory`] if allocation fails.
 pub fn write_protocol(alloc: Global, protocol: &[u8]) -> Result<Vec<u8>, WriteError>
     ensures { MatchResult result
         (λ text. (is_string_text protocol.now ≡ true) × (text.items ≡ written_string protocol.now))
-        (λ e. e ≡ WriteError.InvalidByte → is_string_text protocol.now ≡ false) }
+        (λ e. (e ≡ WriteError.InvalidByte → is_string_text protocol.now ≡ false)
+        × (e ≡ WriteError.Memory → is_string_text protocol.now ≡ true)) }
 {
     if !is_string(protocol) {
         return Err(WriteError::InvalidByte);

@@ -1,4 +1,5 @@
-//! Compares the declarations with the list of the library's binary interface, `c/abi.list`.
+//! Compares the declarations with the list of the library's binary interface, `c/abi.list`. The list may have more: a
+//! version of the library adds calls, structs and constants.
 use super::*;
 use core::mem::size_of;
 use std::collections::BTreeMap;
@@ -23,7 +24,9 @@ fn constants_are_those_of_the_header() {
     let split = lines("constant ").into_iter().map(|line| line.split_once(' ').unwrap());
     let listed: BTreeMap<&str, i64> =
         split.map(|(name, value)| (name, value.parse().unwrap())).collect();
-    assert_eq!(ALL.iter().copied().collect::<BTreeMap<_, _>>(), listed);
+    for (name, value) in ALL {
+        assert_eq!(listed.get(name), Some(value), "{name}");
+    }
 }
 
 /// Returns the type of C for one of Rust, as the list has it.
@@ -70,11 +73,12 @@ fn prototype(line: &str) -> String {
 fn calls_are_those_of_the_header() {
     let declared = include_str!("declarations.rs").lines();
     let declared = declared.filter(|line| line.trim().starts_with("pub fn wt_"));
-    let mut declared: Vec<_> = declared.map(prototype).collect();
-    let mut listed = lines("call ");
-    declared.sort();
-    listed.sort_unstable();
-    assert_eq!(declared, listed);
+    let declared: Vec<_> = declared.map(prototype).collect();
+    let listed = lines("call ");
+    assert!(declared.len() > 50);
+    for call in declared {
+        assert!(listed.iter().any(|one| *one == call), "{call}");
+    }
 }
 
 /// Describes a struct as the list does: its size, and each field with its offset.
@@ -98,7 +102,7 @@ macro_rules! layout {
 
 #[test]
 fn structs_are_those_of_the_header() {
-    let mut declared = [
+    let declared = [
         layout!(StreamHeader "wt_stream_header" { kind "uint64_t", session "uint64_t" }),
         layout!(Reader "wt_reader" { kind "uint8_t", first "uint8_t", skip_remaining "uint64_t" }),
         layout!(Frame "wt_frame" {
@@ -128,13 +132,13 @@ fn structs_are_those_of_the_header() {
             resets "uint64_t" }),
     ];
     // `type` is no name of Rust
-    let mut listed: Vec<String> = lines("struct ")
+    let listed: Vec<String> = lines("struct ")
         .iter()
         .map(|line| line.replace("uint64_t type", "uint64_t kind"))
         .collect();
-    declared.sort();
-    listed.sort();
-    assert_eq!(declared.to_vec(), listed);
+    for layout in declared {
+        assert!(listed.contains(&layout), "{layout}");
+    }
 }
 
 #[test]

@@ -133,7 +133,7 @@ fn frame_of(kind: FrameType) -> u32
 }
 
 // Returns the number of a rule that a message breaks.
-fn rule_of(rule: Malformed) -> u32
+pub(crate) fn rule_of(rule: Malformed) -> u32
     ensures { result ≡ rule_number rule }
 {
     match rule {

@@ -43,7 +43,8 @@ impl WtHold {
         self.end = held;
     }
 
-    // Moves the bytes that are held to the start of the array. Returns how many they are.
+    // Moves the bytes that are held to the start of the array, if they are not there. Returns how many
+    // they are.
     #[tactic(auto, using(crate::proofs::PushingLemmas::moved))]
     pub(crate) fn gather(&self, room: &mut [u8]) -> usize
         requires { IsHold self.now (length room.old) }
@@ -51,7 +52,9 @@ impl WtHold {
         ensures within { result ≤ length room.old }
         ensures held { take result room.new ≡ held_of self.now room.old }
     {
-        room.copy_within(self.start..self.end, 0);
+        if self.start > 0 {
+            room.copy_within(self.start..self.end, 0);
+        }
         self.end - self.start
     }
 

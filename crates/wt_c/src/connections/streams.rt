@@ -170,7 +170,7 @@ pub extern "C" fn wt_stream_accept(
 }
 
 // Returns what a request asks for by its number.
-fn asked_at(number: u32) -> Option<Asked>
+pub(crate) fn asked_at(number: u32) -> Option<Asked>
     ensures { result ≡ asked_at_is number }
 {
     match number {

@@ -5,6 +5,7 @@ returns-clause-shows c = record {
   inspection = c.in_ok-inspection.inspection;
   tiles = c.in_ok-inspection.ensures.tiles;
   read = c.in_ok-inspection.ensures.read;
+  sections = c.in_ok-inspection.ensures.sections;
   view = c.in_ok-text.ensures;
-  ends = c.status_of.ensures;
+  ends = c.status_of-status.ensures;
 }

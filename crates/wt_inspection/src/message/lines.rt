@@ -1,15 +1,15 @@
 //! What is wrong with a single field line.
 
-use wt_inspection_model::item::Line;
+use wt_inspection_model::item::{Line, Rule};
 
 /// Returns what is wrong with the name or the value of a field line.
-pub(crate) fn warning_of_line(line: &Line) -> Option<&'static str> {
+pub(crate) fn warning_of_line(line: &Line) -> Option<Rule> {
     let name = line.name.as_slice();
     if name.iter().any(|&byte| byte.is_ascii_uppercase()) {
-        return Some("a field name has an upper-case letter (RFC 9114, section 4.2)");
+        return Some(Rule::UpperCaseName);
     }
     if !is_name(name) {
-        return Some("a field name has a forbidden character (RFC 9114, section 10.3)");
+        return Some(Rule::BadName);
     }
     warning_of_value(line.value.as_slice()).or(warning_of_connection(line))
 }
@@ -47,14 +47,19 @@ fn is_token_byte(byte: u8) -> bool {
 }
 
 /// Returns what is wrong with a value.
-fn warning_of_value(value: &[u8]) -> Option<&'static str> {
-    if value.iter().any(|&byte| matches!(byte, 0 | b'\n' | b'\r')) {
-        return Some("a field value has a NUL, CR or LF (RFC 9114, section 10.3)");
+fn warning_of_value(value: &[u8]) -> Option<Rule> {
+    if value.iter().any(|&byte| is_control(byte)) {
+        return Some(Rule::BadValue);
     }
     if is_blank(value.first()) || is_blank(value.last()) {
-        return Some("a field value begins or ends with a blank (RFC 9110, section 5.5)");
+        return Some(Rule::BlankValue);
     }
     None
+}
+
+/// Returns whether a byte is a control character other than a tab (RFC 9110, section 5.5).
+fn is_control(byte: u8) -> bool {
+    byte.is_ascii_control() && byte != b'\t'
 }
 
 /// Returns whether a byte is a space or a tab.
@@ -63,17 +68,15 @@ fn is_blank(byte: Option<&u8>) -> bool {
 }
 
 /// Returns what is wrong with a field about a connection.
-fn warning_of_connection(line: &Line) -> Option<&'static str> {
+fn warning_of_connection(line: &Line) -> Option<Rule> {
     let Ok(name) = str::from_utf8(line.name.as_slice()) else {
         return None;
     };
     match name {
-        "connection" | "keep-alive" | "proxy-connection" | "transfer-encoding" | "upgrade" => {
-            Some("a field is specific to a connection (RFC 9114, section 4.2)")
-        }
-        "te" if line.value.as_slice() != "trailers".as_bytes() => {
-            Some("te has a value other than trailers (RFC 9114, section 4.2)")
-        }
+        "connection" | "keep-alive" | "proxy-connection" | "transfer-encoding" | "upgrade" => Some(
+            Rule::ConnectionField,
+        ),
+        "te" if line.value.as_slice() != "trailers".as_bytes() => Some(Rule::BadTe),
         _ => None,
     }
 }

@@ -1,7 +1,7 @@
 //! Pseudo-header fields (RFC 9114, section 4.3).
 
 use crate::message::Purpose;
-use wt_inspection_model::item::Line;
+use wt_inspection_model::item::{Line, Rule};
 
 /// The pseudo-header fields of a section so far.
 #[derive(Clone, Copy)]
@@ -47,42 +47,40 @@ impl Pseudo {
     }
 
     /// Returns which pseudo-header is missing at the end of a section.
-    pub(crate) fn missing(&self, purpose: Purpose) -> Option<&'static str> {
+    pub(crate) fn missing(&self, purpose: Purpose) -> Option<Rule> {
         match purpose {
             Purpose::Request => self.missing_of_request(),
-            Purpose::Response if !self.status => {
-                Some(":status is missing (RFC 9114, section 4.3.2)")
-            }
+            Purpose::Response if !self.status => Some(Rule::MissingStatus),
             _ => None,
         }
     }
 
     /// Returns which pseudo-header is missing in a request.
-    fn missing_of_request(&self) -> Option<&'static str> {
+    fn missing_of_request(&self) -> Option<Rule> {
         if !self.method {
-            return Some(":method is missing (RFC 9114, section 4.3.1)");
+            return Some(Rule::MissingMethod);
         }
         if self.connect && !self.protocol {
             return self.missing_of_connect();
         }
         if !self.scheme {
-            return Some(":scheme is missing (RFC 9114, section 4.3.1)");
+            return Some(Rule::MissingScheme);
         }
         if !self.path {
-            return Some(":path is missing (RFC 9114, section 4.3.1)");
+            return Some(Rule::MissingPath);
         }
         if self.protocol && !self.connect {
-            return Some(":protocol without the method CONNECT (RFC 8441, section 4)");
+            return Some(Rule::ProtocolWithoutConnect);
         }
         None
     }
 
     /// Returns what is wrong with a CONNECT without `:protocol`.
-    fn missing_of_connect(&self) -> Option<&'static str> {
+    fn missing_of_connect(&self) -> Option<Rule> {
         if !self.authority {
-            Some(":authority is missing in a CONNECT (RFC 9114, section 4.4)")
+            Some(Rule::MissingAuthority)
         } else if self.scheme || self.path {
-            Some(":scheme or :path in a CONNECT without :protocol (RFC 9114, section 4.4)")
+            Some(Rule::TargetOfConnect)
         } else {
             None
         }
@@ -90,44 +88,36 @@ impl Pseudo {
 }
 
 /// Takes the next line of a section. Returns what is wrong with it as a pseudo-header.
-pub(crate) fn warning_of_pseudo(
-    seen: &mut Pseudo,
-    line: &Line,
-    purpose: Purpose,
-) -> Option<&'static str> {
+pub(crate) fn warning_of_pseudo(seen: &mut Pseudo, line: &Line, purpose: Purpose) -> Option<Rule> {
     if line.name.first() != Some(&b':') {
         seen.regular = true;
         return None;
     }
     if seen.regular {
-        return Some("a pseudo-header comes after a field (RFC 9114, section 4.3)");
+        return Some(Rule::LatePseudoHeader);
     }
     let Ok(name) = str::from_utf8(line.name.as_slice()) else {
-        return Some("a pseudo-header is not defined (RFC 9114, section 4.3)");
+        return Some(Rule::UnknownPseudoHeader);
     };
     if name == ":method" && line.value.as_slice() == "CONNECT".as_bytes() {
         seen.connect = true;
     }
     let Some(mark) = seen.mark(name) else {
-        return Some("a pseudo-header is not defined (RFC 9114, section 4.3)");
+        return Some(Rule::UnknownPseudoHeader);
     };
     if *mark {
-        return Some("a pseudo-header is repeated (RFC 9114, section 4.3.1)");
+        return Some(Rule::RepeatedPseudoHeader);
     }
     *mark = true;
     misplaced(name, purpose)
 }
 
 /// Returns what is wrong with a pseudo-header in a section of this purpose.
-fn misplaced(name: &str, purpose: Purpose) -> Option<&'static str> {
+fn misplaced(name: &str, purpose: Purpose) -> Option<Rule> {
     match purpose {
-        Purpose::Trailers => Some("a trailer section has a pseudo-header (RFC 9114, section 4.3)"),
-        Purpose::Request if name == ":status" => {
-            Some("a request has :status (RFC 9114, section 4.3)")
-        }
-        Purpose::Response if name != ":status" => {
-            Some("a response has a pseudo-header of requests (RFC 9114, section 4.3)")
-        }
+        Purpose::Trailers => Some(Rule::PseudoHeaderInTrailers),
+        Purpose::Request if name == ":status" => Some(Rule::StatusInRequest),
+        Purpose::Response if name != ":status" => Some(Rule::RequestInResponse),
         _ => None,
     }
 }

@@ -7,7 +7,8 @@ pub struct CapsuleItem {
     pub at: usize,
     /// The type.
     pub number: u64,
-    /// The name of the type: `CLOSE_WEBTRANSPORT_SESSION`, `DATAGRAM`, `reserved` or `unknown`.
+    /// The name of the type, as `DATAGRAM` or `CLOSE_WEBTRANSPORT_SESSION`; or else `reserved` or
+    /// `unknown`.
     pub name: &'static str,
     /// The declared length of the value, in bytes.
     pub announced: u64,

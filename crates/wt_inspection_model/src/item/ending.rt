@@ -1,5 +1,6 @@
 //! How the input ends, and warnings about it.
 
+use crate::item::rule::Rule;
 use wtp_core::error::ErrorCode;
 
 /// How the input ends.
@@ -38,13 +39,13 @@ pub struct Fault {
     pub missing: u64,
 }
 
-/// A protocol violation that does not stop reading.
+/// A protocol violation that does not stop reading, or a hint.
 #[derive(Clone, Copy, Debug, PartialEq, Eq)]
 pub struct Warning {
     /// The offset of the item.
     pub at: usize,
     /// The index of the field line within the item, from 0, if the warning is about one.
     pub line: Option<usize>,
-    /// The violation, as one sentence that cites the section of the standard.
-    pub why: &'static str,
+    /// The rule that is broken.
+    pub rule: Rule,
 }

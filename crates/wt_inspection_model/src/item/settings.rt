@@ -1,5 +1,6 @@
 //! Settings.
-ghost use Rattle.std.specs.Prelude.{◌≡◌, ◌<◌, ◌≤◌, ◌^◌, None};
+ghost use Rattle.std.specs.Prelude.{◌≡◌, ◌<◌, ◌≤◌, ◌^◌, None, option_map};
+ghost use Rattle.wt_inspection_model.specs.SettingNames.{draft_setting_name};
 ghost use Rattle.wtp_wire.specs.SettingId.{setting_id_of};
 
 use wtp_core::varint::VarInt;
@@ -30,6 +31,24 @@ impl SettingLine {
     }
 }
 
+impl SettingLine {
+    /// Returns the name that a later draft of WebTransport, or a draft of HTTP Datagrams, gives a
+    /// setting that [`setting`](SettingLine::setting) does not know. `None` if none does.
+    pub fn draft_name(&self) -> Option<&'static str>
+        ensures { option_map (λ text. text.now) result ≡ draft_setting_name self.now.id }
+    {
+        match self.id {
+            0xff_d277 => Some("SETTINGS_H3_DATAGRAM_DRAFT04"),
+            0x2b61 => Some("SETTINGS_WT_INITIAL_MAX_DATA"),
+            0x2b64 => Some("SETTINGS_WT_INITIAL_MAX_STREAMS_UNI"),
+            0x2b65 => Some("SETTINGS_WT_INITIAL_MAX_STREAMS_BIDI"),
+            0x14e9_cd29 => Some("SETTINGS_WT_MAX_SESSIONS"),
+            0x2c7c_f000 => Some("SETTINGS_WT_ENABLED"),
+            _ => None,
+        }
+    }
+}
+
 /// A problem with a setting.
 #[derive(Clone, Copy, Debug, PartialEq, Eq)]
 pub enum SettingIssue {
@@ -37,4 +56,7 @@ pub enum SettingIssue {
     Reserved,
     /// An earlier setting has the same identifier (RFC 9114, section 7.2.4).
     Repeated,
+    /// The value is neither 0 nor 1, of a setting that has no other (RFC 8441, section 3; RFC 9220,
+    /// section 3; RFC 9297, section 2.1.1).
+    Value,
 }

@@ -7,48 +7,77 @@ use crate::latch::Latch;
 use std::alloc::{AllocError, Global};
 use std::marker::Model;
 
-/// The page up to the rows of bytes, which `tools/html-page` makes.
+/// The page up to its title, which `tools/html-page` makes.
 pub(super) const HEAD: &str =
     "<!doctype html><html lang=\"en\"><head><meta charset=\"utf-8\"><meta http-equiv=\"Content-Sec\
-    urity-Policy\" content=\"default-src 'none'; style-src 'unsafe-inline'; script-src 'sha256-qBm\
-    nL+Izqi7Oc93yT9CFu+6A/g4dwRAjMplQ1HfiBfA='\"><meta name=\"viewport\" content=\"width=device-wi\
+    urity-Policy\" content=\"default-src 'none'; style-src 'unsafe-inline'; script-src 'sha256-XMW\
+    0bDMoxsPeUqQDZ6dh1kWmJnKXcPMhho0UsNKoaCg='\"><meta name=\"viewport\" content=\"width=device-wi\
     dth\"><title>wt_inspect</title><style>:root{color-scheme:light dark;font:14px/1.4 ui-monospace\
-    ,monospace}body{margin:1rem}main{display:grid;grid-template-columns:max-content minmax(0,1fr);\
-    gap:2rem}pre{margin:0;font:inherit}.bytes{max-height:94vh;overflow:auto;position:sticky;top:1r\
-    em}.items pre{white-space:pre-wrap;overflow-wrap:anywhere;border-left:3px solid transparent;pa\
-    dding-left:.5rem}.on{background:light-dark(#ffe08a,#5c4a00)}.bytes>span{display:block}.items b\
-    {color:light-dark(#8a4b00,#ffb454)}.items .fault{color:light-dark(#b00020,#ff7b88);border-colo\
-    r:currentColor;font-weight:bold}@media print{.bytes{max-height:none;overflow:visible;position:\
-    static}}@media(max-width:60rem){main{grid-template-columns:minmax(0,1fr)}.bytes{position:stati\
-    c}}</style></head><body><main><pre class=\"bytes\">";
+    ,monospace}body{margin:1rem}header{display:flex;flex-wrap:wrap;gap:.5rem 2rem;align-items:base\
+    line;margin-bottom:1rem}h1{margin:0;font:inherit;font-weight:bold;overflow-wrap:anywhere}p{mar\
+    gin:0}input,button{font:inherit}main{display:grid;grid-template-columns:max-content minmax(0,1\
+    fr);gap:2rem;align-items:start}pre{margin:0;font:inherit}.bytes{max-height:94vh;overflow:auto;\
+    scrollbar-gutter:stable;position:sticky;top:1rem}.bytes>span{display:block}i{font-style:normal\
+    ;color:light-dark(#0050a0,#7ab8ff)}.items>*{white-space:pre-wrap;overflow-wrap:anywhere;border\
+    -left:3px solid transparent;padding-left:.5rem}summary,.items span{display:block;padding-left:\
+    16ch;text-indent:-16ch}details:has(>summary+span)>summary{cursor:pointer}details:not([open]):h\
+    as(>summary+span)>summary::after{content:\"...\"}.on{background:light-dark(#ffe08a,#5c4a00)}.i\
+    tems b{color:light-dark(#8a4b00,#ffb454);font-weight:normal}.items .fault{color:light-dark(#b0\
+    0020,#ff7b88);border-color:currentColor;font-weight:bold}@media print{.bytes{max-height:none;o\
+    verflow:visible;position:static}}@media(max-width:68rem){main{grid-template-columns:minmax(0,1\
+    fr);gap:1rem}.items{order:-1}.bytes{top:auto;bottom:0;max-height:35vh;border-top:1px solid;bac\
+    kground:Canvas}}</style></head><body><header><h1>";
+
+/// The page between its title and the rows of bytes, which `tools/html-page` makes.
+pub(super) const BYTES: &str =
+    "</h1><p><input type=\"search\" placeholder=\"Search\" aria-label=\"Search\"> <button>Fold</bu\
+    tton> <button>Unfold</button></p></header><main><pre class=\"bytes\">";
 
 /// The page after the line of its end, which `tools/html-page` makes. The script marks what has the
 /// same number as what is pointed at.
 pub(super) const TAIL: &str =
-    "</pre></div></main><script>const mark=(event,on)=>{const target=event.target.closest('[data-i\
-    tem]');if(target)document.querySelectorAll('[data-item=\"'+target.dataset.item+'\"]').forEach(\
-    element=>element.classList.toggle('on',on))};for(const name of['mouseover','focusin'])addEvent\
-    Listener(name,event=>mark(event,true));for(const name of['mouseout','focusout'])addEventListen\
-    er(name,event=>mark(event,false));addEventListener('click',event=>{const target=event.target.c\
-    losest('[data-item]');if(target)for(const element of document.querySelectorAll('[data-item=\"'\
-    +target.dataset.item+'\"]'))if(element!==target)element.scrollIntoView({block:'nearest'})})</s\
-    cript></body></html>\n";
+    "</pre></div></main><script>const find=item=>document.querySelectorAll('[data-item=\"'+item+'\
+    \"]');const mark=(event,on)=>{const target=event.target.closest('[data-item]');if(target)for(c\
+    onst element of find(target.dataset.item))element.classList.toggle('on',on)};for(const name of\
+    ['mouseover','focusin'])addEventListener(name,event=>mark(event,true));for(const name of['mous\
+    eout','focusout'])addEventListener(name,event=>mark(event,false));addEventListener('click',eve\
+    nt=>{const target=event.target.closest('[data-item],button');if(!target)return;if(target.local\
+    Name==='button')for(const element of document.querySelectorAll('details'))element.open=target.\
+    textContent==='Unfold';else for(const element of find(target.dataset.item))if(element.closest(\
+    '.items')!==target.closest('.items')){element.scrollIntoView({block:'nearest'});return}});addE\
+    ventListener('input',event=>{const words=event.target.value.toLowerCase();for(const element of \
+    document.querySelectorAll('.items>div'))element.hidden=!element.textContent.toLowerCase().incl\
+    udes(words)})</script></body></html>\n";
 
 /// Markup of a page. A page has no other: what a peer sent is text.
 #[derive(Clone, Copy)]
 pub(super) enum Markup {
-    /// The page up to the rows of bytes.
+    /// The page up to its title.
     Head,
+    /// Ends the title, and begins the rows of bytes.
+    Bytes,
     /// Begins the rows of an item, whose index follows.
     RowsOf,
-    /// Begins the lines of an item, whose index follows.
-    ItemOf,
+    /// Begins bytes or a line of a part of an item, whose indices follow.
+    PartOf,
     /// Follows an index.
     TagEnd,
-    /// Ends the rows of an item.
-    RowsEnd,
+    /// Begins the bytes of a head.
+    HeadOf,
+    /// Ends the bytes of a head.
+    HeadEnd,
+    /// Ends rows, bytes or a line.
+    SpanEnd,
     /// Ends the rows of bytes, and begins the items.
     Items,
+    /// Begins the lines of an item, whose index follows.
+    ItemOf,
+    /// Begins the first line of an item.
+    First,
+    /// Ends the first line of an item.
+    FirstEnd,
+    /// Begins another line.
+    Line,
     /// Ends the lines of an item, and begins its warnings.
     Warnings,
     /// Ends the warnings of an item.
@@ -68,13 +97,20 @@ impl Markup {
     {
         match self {
             Markup::Head => HEAD,
+            Markup::Bytes => BYTES,
             Markup::RowsOf => "<span tabindex=\"0\" data-item=\"",
-            Markup::ItemOf => "<pre tabindex=\"0\" data-item=\"",
+            Markup::PartOf => "<span data-item=\"",
             Markup::TagEnd => "\">",
-            Markup::RowsEnd => "</span>",
+            Markup::HeadOf => "<i>",
+            Markup::HeadEnd => "</i>",
+            Markup::SpanEnd => "</span>",
             Markup::Items => "</pre><div class=\"items\">",
-            Markup::Warnings => "<b>",
-            Markup::ItemEnd => "</b></pre>",
+            Markup::ItemOf => "<div data-item=\"",
+            Markup::First => "<details open><summary>",
+            Markup::FirstEnd => "</summary>",
+            Markup::Line => "<span>",
+            Markup::Warnings => "</details><b>",
+            Markup::ItemEnd => "</b></div>",
             Markup::Ending => "<pre>",
             Markup::Fault => "<pre class=\"fault\">",
             Markup::Tail => TAIL,
@@ -149,10 +185,24 @@ impl Page {
         self.out.extend_from_slice(escaped.as_slice())
     }
 
-    /// Adds an index in an attribute, and ends its tag.
-    pub(super) fn index(&mut self, index: usize) {
+    /// Adds the words of a line, and a line feed.
+    pub(super) fn line(&mut self, words: &str) {
         let alloc = self.alloc;
-        self.text(format!(in alloc; "{index}"));
+        self.text(format!(in alloc; "{words}\n"));
+    }
+
+    /// Records that an allocation failed.
+    pub(super) fn mark_failed(&mut self) {
+        self.is_whole.mark_failed();
+    }
+
+    /// Adds the index of an item, and of a part of it, in an attribute, and ends its tag.
+    pub(super) fn index(&mut self, index: usize, part: Option<usize>) {
+        let alloc = self.alloc;
+        match part {
+            Some(part) => self.text(format!(in alloc; "{index}.{part}")),
+            None => self.text(format!(in alloc; "{index}")),
+        }
         self.markup(Markup::TagEnd);
     }
 

@@ -1,12 +1,12 @@
 //! Lines of JSON, one object per line.
-ghost use Rattle.std.specs.Prelude.{◌≡◌, ℕ, Bool, true, false, List, [], ◌∷◌, IfOk, IfSome};
-ghost use Rattle.std.specs.List.{flat_map};
+ghost use Rattle.std.specs.Prelude.{◌≡◌, ℕ, Bool, true, false, List, [], ◌∷◌, IfOk};
+ghost use Rattle.std.specs.List.{flat_map, list_any};
 ghost use Rattle.std.specs.Prelude.{OnErr, OnOk, IsTrue, string_bytes};
-ghost use Rattle.std.specs.Str.{NoCharPasses};
 ghost use Rattle.json.specs.Token.{Token};
 ghost use Rattle.wt_inspection_views.specs.Escaped.{hex_byte};
-ghost use Rattle.wt_inspection_views.specs.JsonLines.{is_late_control};
+ghost use Rattle.wt_inspection_views.specs.JsonLines.{has_unseen, is_late_byte, is_unseen};
 
+use crate::characters::is_invisible;
 use crate::escaped::add_hex_byte;
 use crate::latch::Latch;
 use json::Writer;
@@ -14,6 +14,9 @@ use std::alloc::{AllocError, Global};
 
 /// The initial capacity of an object, in bytes.
 const INITIAL_CAPACITY: usize = 256;
+
+/// The largest number that each reader of JSON has exactly: 2^53 - 1 (RFC 8259, section 6).
+const LARGEST_NUMBER: u64 = 0x1f_ffff_ffff_ffff;
 
 /// Lines of JSON. A failed allocation is recorded, and [`into_bytes`](Lines::into_bytes) reports
 /// it, so [`add`](Lines::add) returns nothing.
@@ -125,12 +128,18 @@ impl Object {
         self.is_whole.note(added);
     }
 
-    /// Appends a member with a number as its value.
+    /// Appends a member with a number as its value. One above [`LARGEST_NUMBER`] is a string of its
+    /// digits.
     pub(super) fn add_number(&mut self, name: &str, number: u64)
         ensures { AddsMembers self.old self.new }
     {
-        self.add_name(name);
-        self.add_count(number)
+        if number > LARGEST_NUMBER {
+            let digits = format!(in self.alloc; "{number}");
+            self.add_formatted(name, digits);
+        } else {
+            self.add_name(name);
+            self.add_count(number);
+        }
     }
 
     /// Appends a number as the value of a member.
@@ -142,17 +151,31 @@ impl Object {
         self.note(added);
     }
 
-    /// Appends a member with a string as its value.
+    /// Appends a member with a text as its value.
     pub(super) fn add_text(&mut self, name: &str, text: &str)
         ensures { AddsMembers self.old self.new }
     {
         self.add_name(name);
-        self.add_string(text)
+        self.add_text_value(text)
+    }
+
+    /// Appends a text as a value: a string, or an object with its hexadecimal digits if the text
+    /// has an unseen character.
+    fn add_text_value(&mut self, text: &str)
+        ensures member { AddsValue self.old self.new }
+        ensures element { AddsElements self.old self.new }
+    {
+        if has_unseen(text) {
+            self.add_hex_value(text.as_bytes())
+        } else {
+            self.add_string(text)
+        }
     }
 
     /// Appends a string as a value.
     #[tactic(auto, unfolding(crate::specs::Objects::IsAt))]
     fn add_string(&mut self, text: &str)
+        requires { has_unseen text.now ≡ false }
         ensures member { AddsValue self.old self.new }
         ensures element { AddsElements self.old self.new }
     {
@@ -175,8 +198,19 @@ impl Object {
     pub(super) fn add_hex(&mut self, name: &str, bytes: &[u8])
         ensures { AddsMembers self.old self.new }
     {
-        let digits = digits_of(self.alloc, bytes);
-        self.add_formatted(name, digits);
+        match digits_of(self.alloc, bytes) {
+            Ok(digits) => self.add_digits(name, digits),
+            Err(_) => self.mark_failed(),
+        }
+    }
+
+    /// Appends a member with these digits as its value.
+    fn add_digits(&mut self, name: &str, digits: String)
+        requires { has_unseen (string_bytes digits) ≡ false }
+        ensures { AddsMembers self.old self.new }
+    {
+        self.add_name(name);
+        self.add_string(digits.as_str())
     }
 
     /// Appends the name of a member. Its value must be appended next.
@@ -194,9 +228,9 @@ impl Object {
         ensures member { AddsValue self.old self.new }
         ensures element { AddsElements self.old self.new }
     {
-        match shown_text(bytes) {
-            Some(text) => self.add_string(text),
-            None => self.add_hex_value(bytes),
+        match str::from_utf8(bytes) {
+            Ok(text) => self.add_text_value(text),
+            Err(_) => self.add_hex_value(bytes),
         }
     }
 
@@ -272,22 +306,45 @@ impl Object {
     }
 }
 
-/// Returns bytes as text if they are UTF-8 without DEL and U+0080 to U+009F. JSON strings have
-/// escapes for the other control characters.
-fn shown_text(bytes: &[u8]) -> Option<&str>
-    ensures { IfSome result (λ t. (t.now ≡ bytes.now) × NoCharPasses is_late_control t.now) }
+/// Returns whether a text has a character that JSON does not escape and that is not seen, or
+/// changes the direction of text: DEL, U+0080 to U+009F, or an invisible one.
+#[tactic(auto, using(crate::proofs::DigitLemmas::ascii_is_seen))]
+fn has_unseen(text: &str) -> bool
+    ensures { result ≡ has_unseen text.now }
 {
-    match str::from_utf8(bytes) {
-        Ok(text) if !has_late_control(text) => Some(text),
-        _ => None,
+    if has_late_byte(text.as_bytes()) {
+        has_unseen_char(text)
+    } else {
+        false
     }
 }
 
-/// Returns whether a text contains DEL or a character from U+0080 to U+009F.
-fn has_late_control(text: &str) -> bool
-    ensures { (result ≡ false) → NoCharPasses is_late_control text.now }
+/// Returns whether a byte is DEL or not ASCII.
+fn has_late_byte(bytes: &[u8]) -> bool
+    ensures { result ≡ list_any is_late_byte bytes.now }
 {
-    text.chars().any(|c| c >= '\u{7f}' && c <= '\u{9f}')
+    bytes.iter().any(|byte| is_late_byte(*byte))
+}
+
+/// Returns whether a byte is DEL or not ASCII.
+fn is_late_byte(byte: u8) -> bool
+    ensures { result ≡ is_late_byte byte }
+{
+    byte >= 0x7f
+}
+
+/// Returns whether a character of a text is DEL, one of U+0080 to U+009F, or invisible.
+fn has_unseen_char(text: &str) -> bool
+    ensures { result ≡ has_unseen text.now }
+{
+    text.chars().any(|c| is_unseen(c))
+}
+
+/// Returns whether a character is DEL, one of U+0080 to U+009F, or invisible.
+fn is_unseen(c: char) -> bool
+    ensures { result ≡ is_unseen c }
+{
+    (c >= '\u{7f}' && c <= '\u{9f}') || is_invisible(c)
 }
 
 /// Returns the hexadecimal digits of `bytes`.

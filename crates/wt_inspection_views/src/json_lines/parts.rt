@@ -5,7 +5,8 @@ ghost use Rattle.wt_inspection_views.specs.Objects.{AddsElements, AddsMembers};
 use super::object::Object;
 use crate::text::parts::name_setting;
 use wt_inspection_model::item::{
-    CapsuleItem, CloseReason, FieldSection, Line, SectionFault, SettingIssue, SettingLine,
+    CapsuleItem, CloseReason, FieldSection, Index, Line, SectionFault, SettingIssue, SettingLine,
+    Signal, Unknown,
 };
 
 /// Appends the lines of a field section and, if they end early, the reason.
@@ -31,36 +32,81 @@ fn add_fields(object: &mut Object, lines: &[Line])
     }
 }
 
-/// Appends a field line.
+/// Appends a field line: its name and its value. An object with the index of an entry of the
+/// dynamic table stands for what is unknown.
 fn add_field(object: &mut Object, line: &Line)
     ensures { AddsElements object.old object.new }
 {
     object.begin_array();
-    object.add_value(line.name.as_slice());
-    object.add_value(line.value.as_slice());
+    match line.unknown {
+        None => {
+            object.add_value(line.name.as_slice());
+            object.add_value(line.value.as_slice())
+        }
+        Some(Unknown::Field(index)) => add_index(object, index),
+        Some(Unknown::Name(index)) => {
+            add_index(object, index);
+            object.add_value(line.value.as_slice())
+        }
+    }
     object.end_array()
 }
 
-/// Appends the reason that the lines of a section end early.
+/// Appends the index of an entry of the dynamic table.
+fn add_index(object: &mut Object, index: Index)
+    ensures { AddsElements object.old object.new }
+{
+    object.begin_object();
+    match index {
+        Index::Relative(index) => object.add_number("dynamic", index),
+        Index::PostBase(index) => object.add_number("post_base", index),
+    }
+    object.end_object()
+}
+
+/// Appends what is missing of the lines of a section or wrong with them.
 fn add_stop(object: &mut Object, fault: SectionFault, insert_count: Option<u64>)
     ensures { AddsMembers object.old object.new }
 {
     match fault {
         SectionFault::NeedsDynamicTable => add_dynamic(object, insert_count),
+        SectionFault::NeedsInsertions(required, inserted) => {
+            object.add_text("needs", "more insertions");
+            object.add_number("required", required);
+            object.add_number("inserted", inserted)
+        }
         SectionFault::Malformed(fault) => {
             object.add_formatted("stopped", format!(in object.alloc; "{fault}"))
         }
     }
 }
 
-/// Appends that a line needs the dynamic table, and the Required Insert Count if it was decoded.
+/// Appends that a section needs the dynamic table, and the Required Insert Count if it was decoded.
 fn add_dynamic(object: &mut Object, insert_count: Option<u64>)
     ensures { AddsMembers object.old object.new }
 {
-    object.add_text("stopped", "needs the dynamic table");
+    object.add_text("needs", "an encoder stream");
     match insert_count {
         Some(count) => object.add_number("insert_count", count),
         None => {}
+    }
+}
+
+/// Appends what a frame says of requests and pushes.
+pub(super) fn add_signal(object: &mut Object, signal: &Signal)
+    ensures { AddsMembers object.old object.new }
+{
+    match signal {
+        Signal::Id(id) => object.add_number("id", *id),
+        Signal::Priority(id, value) => {
+            object.add_number("id", *id);
+            object.add_name("priority");
+            object.add_value(value.as_slice());
+        }
+        Signal::Promise(id, section) => {
+            object.add_number("push", *id);
+            add_section(object, section);
+        }
     }
 }
 
@@ -101,8 +147,9 @@ fn add_flag(object: &mut Object, flag: Option<SettingIssue>)
 {
     match flag {
         None => {}
-        Some(SettingIssue::Reserved) => object.add_text("fault", "reserved"),
+        Some(SettingIssue::Reserved) => object.add_text("fault", "http2"),
         Some(SettingIssue::Repeated) => object.add_text("fault", "repeated"),
+        Some(SettingIssue::Value) => object.add_text("fault", "value"),
     }
 }
 

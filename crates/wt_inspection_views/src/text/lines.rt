@@ -1,6 +1,6 @@
 //! Lines of text that record a failed allocation.
 ghost use Rattle.std.specs.Prelude.{◌≡◌, false, true, IfOk, IsTrue, string_bytes};
-ghost use Rattle.wt_inspection_views.specs.Escaped.{EndsLines, IsClean, line_count};
+ghost use Rattle.wt_inspection_views.specs.Escaped.{AreLines, line_count};
 ghost use Rattle.wt_inspection_views.specs.Lines.{Gains};
 
 use super::parts::count_bytes;
@@ -75,9 +75,8 @@ impl Lines {
 
     /// Returns the text, or [`AllocError`] if an allocation failed.
     pub(super) fn into_text(self) -> Result<String, AllocError>
-        ensures clean { IfOk result (λ t. IsClean (string_bytes t)) }
-        ensures ended { IfOk result (λ t. EndsLines (string_bytes t)) }
-        ensures lines { IfOk result (λ t. IsTrue self.is_whole
+        ensures lines { IfOk result (λ t. AreLines (string_bytes t)) }
+        ensures count { IfOk result (λ t. IsTrue self.is_whole
             × (line_count (string_bytes t) ≡ line_count self.text)) }
     {
         self.is_whole.finish(self.text.into_text())

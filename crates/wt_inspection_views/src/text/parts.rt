@@ -5,13 +5,15 @@ ghost use Rattle.wt_inspection_views.specs.Escaped.{hex_byte};
 ghost use Rattle.wt_inspection_views.specs.Lines.{Gains};
 ghost use Rattle.wt_inspection_views.specs.TextLines.{capsule_lines, close_lines, field_lines};
 ghost use Rattle.wt_inspection_views.specs.TextLines.{hex_lines, stop_lines};
-ghost use Rattle.wt_inspection_views.specs.TextLines.{IsFieldLine, IsReasonLine};
+ghost use Rattle.wt_inspection_views.specs.TextLines.{IsFieldLine, IsKnownLine, IsNamedLine, IsPriorityLine, IsReasonLine};
+ghost use Rattle.wt_inspection_views.specs.TextLines.{entry_words, signal_lines};
 
 use super::lines::Lines;
-use crate::escaped::{add_escaped, add_hex_byte};
+use crate::escaped::{add_escaped, add_hex_byte, add_name};
 use std::alloc::{AllocError, Global};
 use wt_inspection_model::item::{
-    CapsuleItem, CloseReason, FieldSection, Line, SectionFault, SettingIssue, SettingLine, Warning,
+    CapsuleItem, CloseReason, FieldSection, Index, Line, SectionFault, SettingIssue, SettingLine,
+    Signal, Unknown, Warning,
 };
 use wtp_wire::settings::SettingId;
 
@@ -59,15 +61,80 @@ fn add_fault(text: &mut Lines, fault: SectionFault, insert_count: Option<u64>)
             let words = "needs the dynamic table, encoded Required Insert Count";
             text.add_formatted(format!(in text.alloc; "        {words} {count}"))
         }
+        (SectionFault::NeedsInsertions(required, inserted), _) => {
+            let words = format!(in text.alloc;
+                "        needs {required} insertions, and the encoder stream has {inserted}"
+            );
+            text.add_formatted(words)
+        }
     }
 }
 
-/// Returns the line of a field: the displayed forms of its name and of its value.
+/// Returns the line of a field: its name in ASCII and the displayed form of its value, or the entry of
+/// the dynamic table that has them.
 fn words_of_field(alloc: Global, field: &Line) -> Result<String, AllocError>
     ensures { IfOk result (λ words. IsFieldLine field.now (string_bytes words)) }
 {
+    match field.unknown {
+        None => words_of_known(alloc, field),
+        Some(Unknown::Field(index)) => words_of_entry(alloc, index),
+        Some(Unknown::Name(index)) => words_of_named(alloc, index, field),
+    }
+}
+
+/// Returns the line of a field that is known.
+fn words_of_known(alloc: Global, field: &Line) -> Result<String, AllocError>
+    ensures { IfOk result (λ words. IsKnownLine field.now (string_bytes words)) }
+{
     let mut words = String::from_str(alloc, "        ")?;
-    add_escaped(&mut words, field.name.as_slice())?;
+    add_name(&mut words, field.name.as_slice())?;
+    words.push_str(" = ")?;
+    add_escaped(&mut words, field.value.as_slice())?;
+    Ok(words)
+}
+
+/// Appends the lines of what a frame says of requests and pushes.
+pub(super) fn add_signal(text: &mut Lines, signal: &Signal)
+    ensures { Gains (signal_lines signal.now) text.old text.new }
+{
+    match signal {
+        Signal::Id(id) => text.add_formatted(format!(in text.alloc; "        ID {id}")),
+        Signal::Priority(id, value) => {
+            text.add_formatted(format!(in text.alloc; "        ID {id}"));
+            text.add_formatted(words_of_priority(text.alloc, value.as_slice()));
+        }
+        Signal::Promise(id, section) => {
+            text.add_formatted(format!(in text.alloc; "        push {id}"));
+            add_fields(text, section);
+        }
+    }
+}
+
+/// Returns the line of a priority: its displayed form.
+fn words_of_priority(alloc: Global, value: &[u8]) -> Result<String, AllocError>
+    ensures { IfOk result (λ words. IsPriorityLine value.now (string_bytes words)) }
+{
+    let mut words = String::from_str(alloc, "        priority = ")?;
+    add_escaped(&mut words, value)?;
+    Ok(words)
+}
+
+/// Returns the line of an entry of the dynamic table that is not known.
+fn words_of_entry(alloc: Global, index: Index) -> Result<String, AllocError>
+    ensures { IfOk result (λ words. string_bytes words ≡ entry_words index) }
+{
+    match index {
+        Index::Relative(index) => format!(in alloc; "        (dynamic {index})"),
+        Index::PostBase(index) => format!(in alloc; "        (dynamic post-base {index})"),
+    }
+}
+
+/// Returns the line of a field whose name is that of such an entry.
+fn words_of_named(alloc: Global, index: Index, field: &Line) -> Result<String, AllocError>
+    ensures { IfOk result
+        (λ words. IsNamedLine index field.now.value.items (string_bytes words)) }
+{
+    let mut words = words_of_entry(alloc, index)?;
     words.push_str(" = ")?;
     add_escaped(&mut words, field.value.as_slice())?;
     Ok(words)
@@ -96,6 +163,7 @@ fn words_of_flag(flag: Option<SettingIssue>) -> &'static str {
         None => "",
         Some(SettingIssue::Reserved) => ", which must not be sent (RFC 9114, section 7.2.4.1)",
         Some(SettingIssue::Repeated) => ", which is repeated (RFC 9114, section 7.2.4)",
+        Some(SettingIssue::Value) => ", which is neither 0 nor 1",
     }
 }
 
@@ -105,7 +173,7 @@ pub(crate) fn name_setting(alloc: Global, setting: &SettingLine) -> Result<Strin
         (Some(SettingId::Exercise(_)), _) => String::from_str(alloc, "reserved"),
         (Some(known), _) => format!(in alloc; "{known}"),
         (None, Some(SettingIssue::Reserved)) => String::from_str(alloc, "HTTP/2 setting"),
-        (None, _) => String::from_str(alloc, "unknown"),
+        (None, _) => String::from_str(alloc, setting.draft_name().unwrap_or("unknown")),
     }
 }
 
@@ -187,13 +255,20 @@ pub(super) fn add_warnings(text: &mut Lines, warnings: &[Warning])
 fn add_warning(text: &mut Lines, warning: &Warning)
     ensures { Gains 1 text.old text.new }
 {
-    let why = warning.why;
-    match warning.line {
-        Some(line) => {
+    text.add_formatted(words_of_warning(text.alloc, warning))
+}
+
+/// Returns the line of a warning: the field line, the error code, and the reason. A hint has no
+/// code.
+fn words_of_warning(alloc: Global, warning: &Warning) -> Result<String, AllocError> {
+    let why = warning.rule.why();
+    match (warning.rule.code(), warning.line) {
+        (Some(code), Some(line)) => {
             let place = line.saturating_add(1);
-            text.add_formatted(format!(in text.alloc; "        warning: field {place}: {why}"))
+            format!(in alloc; "        warning: field {place}: {code}: {why}")
         }
-        None => text.add_formatted(format!(in text.alloc; "        warning: {why}")),
+        (Some(code), None) => format!(in alloc; "        warning: {code}: {why}"),
+        (None, _) => format!(in alloc; "        hint: {why}"),
     }
 }
 

@@ -120,7 +120,7 @@ impl Streams {
 }
 
 // Returns whether a session that was open is open no longer.
-fn has_ended(known: Known) -> bool
+pub(crate) fn has_ended(known: Known) -> bool
     ensures { result ≡ has_ended_is known }
 {
     !matches!(known, Known::Coming | Known::Open)

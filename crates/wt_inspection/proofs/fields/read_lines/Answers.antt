@@ -1,7 +1,8 @@
-use Rattle.wt_inspection.proofs.SectionLemmas.{lines_with}
+use Rattle.wt_inspection.proofs.SectionLemmas.{line_shorter, lines_more}
 use Rattle.wt_inspection.proofs.fields.read_lines.Goals as goal
 
-pub lines-preserved : goal.lines-preserved
-lines-preserved c =
-    let taken = rw c.in-Some-Ok.field-0-is at c.in-Some-Ok.ensures.line in
-    rw c.in_ok-push-in-Some-Ok.ensures.items (lines_with c.lines.lines.items _ _ _ _ _ c.lines.invariant taken c.in_ok-line-in-Some-Ok.ensures)
+pub loop-rest-smaller : goal.loop-rest-smaller
+loop-rest-smaller c = line_shorter _ _ _ _ _ _ c.in-Ok.ensures
+
+pub loop-rest-preserved : goal.loop-rest-preserved
+loop-rest-preserved c = rw c.in_ok-push-in-Ok.ensures.items (lines_more _ _ _ _ _ _ c.loop-rest.invariant c.in-Ok.ensures)

@@ -9,3 +9,9 @@ returns-clause-stage c =
     whole_leads c.args.role c.args.first c.args.at c.args.rest.now _ c.in_ok-parts.field-0.after c.args.reading.now.phase c.judged_parts.new.reading.phase
     (rw (c.frame_of.ensures, same) c.in_ok-parts.ensures.stage)
     (rw c.frame_of.ensures c.into_inner-present.ensures.value)
+
+pub returns-clause-sections : goal.returns-clause-sections
+returns-clause-sections c =
+    let n = c.into_inner-present.result in
+    let same : take n (drop c.args.pair.size c.args.rest.now) ≡ c.split_at-2.result.0.now = ap (take n) (sym c.split_at.ensures.back) ∙ sym c.split_at-2.ensures.front in
+    rw (c.frame_of.ensures, same) c.in_ok-parts.ensures.sections

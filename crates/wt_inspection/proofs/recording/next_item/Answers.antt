@@ -7,7 +7,9 @@ use Rattle.wt_inspection.proofs.recording.next_item.Goals as goal
 
 pub returns-in-Head-clause-stage : goal.returns-in-Head-clause-stage
 returns-in-Head-clause-stage c =
-    other_leads next-is.Head (Ok c.args.next) c.args.reading.now.phase c.args.reading.now.phase c.args.at c.args.rest.now c.head_step.result.content c.head_step.result.after tt (ap (λ (x : Next). Ok x) c.in-Head.is) refl
+    ok_map _ _ c.head_item.result
+    (λ s same. other_leads next-is.Head (Ok c.args.next) c.args.reading.now.phase c.head_item.new.reading.phase c.args.at c.args.rest.now s.content s.after tt (ap (λ (x : Next). Ok x) c.in-Head.is) same)
+    c.head_item.ensures.phase
 
 pub returns-in-Datagram-clause-stage : goal.returns-in-Datagram-clause-stage
 returns-in-Datagram-clause-stage c =
@@ -22,8 +24,8 @@ returns-in-Capsules-clause-stage c =
 pub returns-in-Settings-clause-stage : goal.returns-in-Settings-clause-stage
 returns-in-Settings-clause-stage c =
     ok_map _ _ c.settings_step.result
-    (λ s h. other_leads next-is.Settings (Ok c.args.next) c.args.reading.now.phase c.args.reading.now.phase c.args.at c.args.rest.now s.content s.after tt (ap (λ (x : Next). Ok x) c.in-Settings.is) refl)
-    c.settings_step.ensures.length
+    (λ s same. other_leads next-is.Settings (Ok c.args.next) c.args.reading.now.phase c.settings_step.new.reading.phase c.args.at c.args.rest.now s.content s.after tt (ap (λ (x : Next). Ok x) c.in-Settings.is) same)
+    c.settings_step.ensures.phase
 
 pub returns-in-Section-clause-stage : goal.returns-in-Section-clause-stage
 returns-in-Section-clause-stage c =

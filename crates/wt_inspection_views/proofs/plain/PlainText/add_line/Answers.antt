@@ -1,18 +1,14 @@
 use Rattle.std.proofs.Common.{arith, ◌≡◌, ℕ, ◌+◌, List, IfOk, string_bytes, is_ok, sym, subst, ap, ◌∙◌}
-use Rattle.wt_inspection_views.specs.Escaped.{IsClean, IsLine}
+use Rattle.wt_inspection_views.specs.Escaped.{IsLine}
 use Rattle.wt_inspection_views.specs.Escaped.{line_count}
-use Rattle.wt_inspection_views.proofs.CleanLemmas.{EndsLines-pushed, IsClean-line, IsClean-pushed}
+use Rattle.wt_inspection_views.proofs.CleanLemmas.{AreLines-pushed}
 use Rattle.wt_inspection_views.proofs.LineLemmas.{line_count-line, line_count-pushed}
 use Rattle.wt_inspection_views.proofs.plain.PlainText.add_line.Goals as goal
 
--- src/plain.rt:40:5
 pub invariant_of-self : goal.invariant_of-self
 invariant_of-self c =
-    let line = IsClean-line c.args.words.now (string_bytes c.in_ok-line.line) (λ i. omega (arith, c.type_inv.words i)) c.in_ok-line.ensures in
-    let is = subst (IsLine c.args.words.now) (sym c.as_str.ensures.value) c.in_ok-line.ensures in (
-      IsClean-pushed (string_bytes c.self.inside.text) (string_bytes c.push_str.new.self) c.as_str.result.now (is_ok c.push_str.result) c.self.invariant.0 (subst IsClean (sym c.as_str.ensures.value) line) c.push_str.ensures.bytes,
-      EndsLines-pushed (string_bytes c.self.inside.text) (string_bytes c.push_str.new.self) c.args.words.now c.as_str.result.now (is_ok c.push_str.result) c.self.invariant.1 is c.push_str.ensures.bytes,
-    )
+    let is = subst (IsLine c.args.words.now) (sym c.as_str.ensures.value) c.in_ok-line.ensures in
+    AreLines-pushed (string_bytes c.self.inside.text) (string_bytes c.push_str.new.self) c.args.words.now c.as_str.result.now (is_ok c.push_str.result) (λ i. omega (arith, c.type_inv.words i)) c.self.invariant is c.push_str.ensures.bytes
 
 pub returns-clause-one_line : goal.returns-clause-one_line
 returns-clause-one_line c =

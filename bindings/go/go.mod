@@ -1,0 +1,3 @@
+module vesgrauf
+
+go 1.19

@@ -1,0 +1,236 @@
+//! One end of a connection: what its QUIC library reports goes to the connection, and what the connection
+//! finds goes to an application.
+use crate::quic::{Happened, Incoming, Outgoing};
+use std::alloc::Global;
+use wtp_connection::connection::datagrams::DatagramFor;
+use wtp_core::error::Code;
+use wtp_frames::endpoint::{Endpoint, Side};
+use wtp_streams::error::Error;
+use wtp_streams::h3::H3Connection;
+use wtp_streams::h3::refused::Refused;
+use wtp_streams::limits::Limits;
+use wtp_webtransport::event::Event;
+use wtp_wire::settings::Settings;
+
+/// The most turns of a loop.
+pub const TURNS: u32 = 1_000_000;
+
+/// A connection, and what it sends.
+#[derive(Drop)]
+pub struct Link {
+    pub alloc: Global,
+    pub connection: H3Connection,
+    pub outgoing: Outgoing,
+}
+
+/// What is done with the events of a connection.
+pub trait Application {
+    /// Handles an event of a stream.
+    fn handle(&mut self, link: &mut Link, id: u64, event: Event<'_>) -> Result<(), Error>;
+
+    /// Handles a datagram of an open session.
+    fn datagram(&mut self, link: &mut Link, session: u64, payload: &[u8]) -> Result<(), Error>;
+}
+
+/// One end of a connection.
+#[derive(Drop)]
+pub struct End<A: Application + Drop> {
+    pub link: Link,
+    pub incoming: Incoming,
+    pub app: A,
+}
+
+impl<A: Application + Drop> End<A> {
+    /// Creates an end, which begins with its control stream.
+    pub fn new(alloc: Global, side: Side, app: A) -> Result<Self, Error> {
+        let mut endpoint = Endpoint::new(side);
+        endpoint.webtransport = true;
+        endpoint.datagrams = true;
+        let mut outgoing = Outgoing::new(alloc, u64::from(side == Side::Server));
+        let mut connection = H3Connection::new(alloc, endpoint, true, Limits::new());
+        let settings = Settings::builder(alloc)
+            .enable_connect_protocol()?
+            .enable_h3_datagrams()?
+            .enable_webtransport()?
+            .build();
+        let control = outgoing.open_unidirectional();
+        connection.settings(&settings, outgoing.stream(control)?)?;
+        Ok(End {
+            link: Link {
+                alloc,
+                connection,
+                outgoing,
+            },
+            incoming: Incoming::new(alloc),
+            app,
+        })
+    }
+
+    /// Handles what happened, until nothing is left.
+    pub fn serve(&mut self) -> Result<(), Error> {
+        for _turn in 0..TURNS {
+            let Some(happened) = self.incoming.next() else {
+                return Ok(());
+            };
+            match happened {
+                Happened::Opened(id) => self.link.connection.accept(id)?,
+                Happened::Readable(id) => self.read(id)?,
+                Happened::Reset(id, _) => self.reset(id)?,
+                Happened::Stopped(id, _) => self.stop(id)?,
+                Happened::Datagram(bytes) => self.datagram(bytes.as_slice())?,
+            }
+            self.read_again()?;
+            self.close_streams()?;
+        }
+        Ok(())
+    }
+
+    /// Reads a stream until it needs more bytes, or waits.
+    fn read(&mut self, id: u64) -> Result<(), Error> {
+        for _turn in 0..TURNS {
+            let bytes = self.incoming.bytes(id);
+            let fin = self.incoming.is_ended(id);
+            let Some(received) = self.link.connection.receive(id, bytes, fin) else {
+                return Ok(());
+            };
+            let consumed = received.consumed;
+            let is_last = matches!(received.event, Event::More | Event::Waits(_));
+            let handled = self.app.handle(&mut self.link, id, received.event);
+            self.incoming.consume(id, consumed);
+            self.link.settle(id, handled)?;
+            if is_last {
+                return Ok(());
+            }
+        }
+        Ok(())
+    }
+
+    /// Reads the streams whose wait is over.
+    fn read_again(&mut self) -> Result<(), Error> {
+        for _turn in 0..TURNS {
+            let Some(id) = self.link.connection.next_to_read() else {
+                return Ok(());
+            };
+            self.read(id)?;
+        }
+        Ok(())
+    }
+
+    /// Closes the streams whose session is over.
+    fn close_streams(&mut self) -> Result<(), Error> {
+        for _turn in 0..TURNS {
+            let Some(id) = self.link.connection.next_to_reset() else {
+                return Ok(());
+            };
+            self.link
+                .outgoing
+                .close(id, Code::WEBTRANSPORT_SESSION_GONE)?;
+        }
+        Ok(())
+    }
+
+    /// Handles a stream that the peer reset.
+    fn reset(&mut self, id: u64) -> Result<(), Error> {
+        match self.link.connection.reset(id) {
+            Some(event) => self.app.handle(&mut self.link, id, event),
+            None => Ok(()),
+        }
+    }
+
+    /// Handles a stream whose own half the peer asked to stop.
+    fn stop(&mut self, id: u64) -> Result<(), Error> {
+        match self.link.connection.stop(id) {
+            Some(event) => self.app.handle(&mut self.link, id, event),
+            None => Ok(()),
+        }
+    }
+
+    /// Handles a datagram.
+    fn datagram(&mut self, bytes: &[u8]) -> Result<(), Error> {
+        let Some(datagram) = self.link.connection.datagram(bytes)? else {
+            return Ok(());
+        };
+        match datagram.action {
+            DatagramFor::Deliver => {
+                self.app
+                    .datagram(&mut self.link, datagram.session, datagram.payload)
+            }
+            DatagramFor::EndStream => {
+                self.link
+                    .outgoing
+                    .close(datagram.session, Code::H3_DATAGRAM_ERROR)?;
+                Ok(())
+            }
+            DatagramFor::Early | DatagramFor::Discard => Ok(()),
+        }
+    }
+}
+
+impl Link {
+    /// Sends a piece of content on the stream of a message.
+    pub fn send_content(&mut self, id: u64, bytes: &[u8]) -> Result<(), Error> {
+        let len = bytes.len() as u64;
+        let out = self.outgoing.stream(id)?;
+        self.connection.data(id, len, out)?;
+        out.extend_from_slice(bytes)?;
+        self.connection.sent(id, len)?;
+        Ok(())
+    }
+
+    /// Opens a stream of a session, sends these bytes on it, and ends the own half. Returns its ID.
+    pub fn open_stream(&mut self, session: u64, both: bool, bytes: &[u8]) -> Result<u64, Error> {
+        let id = if both {
+            let id = self.outgoing.open_bidirectional();
+            self.connection
+                .open_bidirectional(id, session, self.outgoing.stream(id)?)?;
+            id
+        } else {
+            let id = self.outgoing.open_unidirectional();
+            self.connection
+                .open_unidirectional(id, session, self.outgoing.stream(id)?)?;
+            id
+        };
+        self.outgoing.stream(id)?.extend_from_slice(bytes)?;
+        self.outgoing.end(id)?;
+        Ok(id)
+    }
+
+    /// Closes a stream after an error of it. Other errors end the connection.
+    pub fn settle(&mut self, id: u64, handled: Result<(), Error>) -> Result<(), Error> {
+        let Err(error) = handled else {
+            return Ok(());
+        };
+        match error {
+            Error::Stream(code) => self.close(id, code),
+            _ => Err(error),
+        }
+    }
+
+    /// Closes a stream in both directions.
+    pub fn close(&mut self, id: u64, code: Code) -> Result<(), Error> {
+        self.connection.forget(id);
+        self.outgoing.close(id, code)?;
+        Ok(())
+    }
+
+    /// Sends a datagram of a session.
+    pub fn send_datagram(&mut self, session: u64, payload: &[u8]) -> Result<(), Error> {
+        let mut bytes = Vec::new(self.alloc);
+        self.connection.datagram_head(session, &mut bytes)?;
+        bytes.extend_from_slice(payload)?;
+        self.outgoing.datagram(bytes)?;
+        Ok(())
+    }
+
+    /// Ends the own half of a stream, if it has one: that of a message, which may end now, or that of a stream of a
+    /// session.
+    pub fn end(&mut self, id: u64) -> Result<(), Error> {
+        match self.connection.finish(id) {
+            Ok(()) => {}
+            Err(Refused::NoStream) if id % 4 < 2 => {}
+            Err(_) => return Ok(()),
+        }
+        self.outgoing.end(id)?;
+        Ok(())
+    }
+}

@@ -1,0 +1,4 @@
+pub mod Closing
+pub mod Datagrams
+pub mod Ends
+pub mod Responses

@@ -1,0 +1,129 @@
+//! What the own halves of streams need: what the peer allows, and streams that are opened with their first
+//! bytes.
+ghost use Rattle.std.specs.Prelude.{◌≡◌, Ok, OnOk, OnErr, IfErr, None, is_some, length};
+ghost use Rattle.wtp_sending.specs.Message.{headers_wire, SendsHead, RefusesHeaders};
+ghost use Rattle.wtp_sending.specs.Session.{in_session, bi_head};
+ghost use Rattle.wtp_sending.specs.Writing.{WritesAll, FailsAllocating};
+ghost use Rattle.wtp_streams.specs.Calls.{opens_in, belongs_in};
+ghost use Rattle.wtp_streams.specs.Ends.{asked_of as asked_of_is, peer_in};
+ghost use Rattle.wtp_streams.specs.Sends.{is_leaving as is_leaving_is};
+ghost use Rattle.wtp_streams.specs.Table.{table_of, entry_at, known_in, has_ended as has_ended_is};
+
+use crate::entry::Entry as Kept;
+use crate::h3::half::asked_of;
+use crate::streams::Streams;
+use crate::streams::sessions::has_ended;
+use std::alloc::Global;
+use std::collections::btree_map::Entry;
+use wtp_core::bytes::BytesWriter;
+use wtp_fields::fields::FieldList;
+use wtp_messages::response::Asked;
+use wtp_sending::error::SendError;
+use wtp_sending::message::Sending;
+use wtp_sending::peer::Peer;
+use wtp_webtransport::stream::Stream;
+
+impl Streams {
+    // Returns whether there is a stream with this ID.
+    pub(crate) fn has(&self, id: u64) -> bool
+        ensures { result ≡ is_some (entry_at (table_of self.now) id) }
+    {
+        self.table.contains_key(&id)
+    }
+
+    // Returns what the peer allows to be sent.
+    pub(crate) fn peer(&self) -> Peer
+        ensures { result ≡ peer_in (table_of self.now) }
+    {
+        let settings = self.connection.peer_settings();
+        Peer {
+            extended_connect: settings.enable_connect_protocol,
+            sessions: self.connection.allows_sessions(),
+            max_section: settings.max_field_section_size.unwrap_or(u64::MAX),
+        }
+    }
+
+    // Returns whether GOAWAY of the server came.
+    pub(crate) fn is_leaving(&self) -> bool
+        ensures { result ≡ is_leaving_is (table_of self.now) }
+    {
+        self.connection.is_unprocessed(u64::MAX)
+    }
+
+    // Returns whether a session that was open is open no longer.
+    pub(crate) fn is_over(&self, session: u64) -> bool
+        ensures { result ≡ has_ended_is (known_in (table_of self.now) session) }
+    {
+        has_ended(self.known(session))
+    }
+
+    // Sends a request on a stream, of which there is none with this ID, and registers it.
+    pub(crate) fn request<W: BytesWriter>(
+        &mut self,
+        alloc: Global,
+        id: u64,
+        sending: &mut Sending,
+        list: &FieldList,
+        out: &mut W,
+    ) -> Result<(), SendError>
+        requires { entry_at (table_of self.old) id ≡ None }
+        ensures sent { OnOk result (SendsHead sending.old list.now sending.new) }
+        ensures opened { OnOk result (table_of self.new ≡ opens_in (table_of self.old) id (asked_of_is list.now)) }
+        ensures refused { IfErr result (λ e. RefusesHeaders sending.old list.now (W.room out.old) e) }
+        ensures kept { OnErr result (table_of self.new ≡ table_of self.old) }
+        ensures written { WritesAll (headers_wire list.now) result (W.written out.old) (W.room out.old)
+            (W.written out.new) (W.room out.new) }
+        ensures target { W.target out.new ≡ W.target out.old }
+    {
+        let asked = asked_of(list);
+        let stream = self.connection.open(asked);
+        let stays = matches!(asked, Asked::Session);
+        match self.table.entry(id) {
+            Err(_) => Err(SendError::Memory),
+            Ok(entry) => match entry {
+                Entry::Occupied(_) => Err(SendError::Memory),
+                Entry::Vacant(place) => match sending.headers(alloc, list, out) {
+                    Ok(()) => {
+                        place.insert(Kept::new(stream, None, stays));
+                        Ok(())
+                    }
+                    Err(error) => Err(error),
+                },
+            },
+        }
+    }
+
+    // Sends the first bytes of a bidirectional stream of a session, of which there is none with this ID, and
+    // registers it.
+    pub(crate) fn bidirectional<W: BytesWriter>(
+        &mut self,
+        id: u64,
+        session: u64,
+        sending: &Sending,
+        out: &mut W,
+    ) -> Result<(), SendError>
+        requires { entry_at (table_of self.old) id ≡ None }
+        ensures open { OnOk result (in_session sending.now.place ≡ Ok tt) }
+        ensures opened { OnOk result (table_of self.new ≡ belongs_in (table_of self.old) id session) }
+        ensures refused { IfErr result (λ e. FailsAllocating (in_session sending.now.place) (W.room out.old)
+            (length (bi_head sending.now.id)) e) }
+        ensures kept { OnErr result (table_of self.new ≡ table_of self.old) }
+        ensures written { WritesAll (bi_head sending.now.id) result (W.written out.old) (W.room out.old)
+            (W.written out.new) (W.room out.new) }
+        ensures target { W.target out.new ≡ W.target out.old }
+    {
+        match self.table.entry(id) {
+            Err(_) => Err(SendError::Memory),
+            Ok(entry) => match entry {
+                Entry::Occupied(_) => Err(SendError::Memory),
+                Entry::Vacant(place) => match sending.bidirectional(out) {
+                    Ok(()) => {
+                        place.insert(Kept::new(Stream::of_session(session), Some(session), false));
+                        Ok(())
+                    }
+                    Err(error) => Err(error),
+                },
+            },
+        }
+    }
+}
