@@ -233,7 +233,10 @@ fn check_section<R: Abort>(rt: &R, alloc: Global, section: &FieldSection, row: &
 /// Asserts what a row says.
 fn check_row<R: Abort>(rt: &R, alloc: Global, row: &Row) {
     let bytes = instructions_in(row.encoder.unwrap_or(&[]));
-    let sent = Insertions::read(alloc, u64::from(row.limit), bytes).expect(rt, "the encoder stream");
+    let sent = Insertions::read(alloc, u64::from(row.limit), bytes).expect(
+        rt,
+        "the encoder stream",
+    );
     let sent = if row.encoder.is_some() {
         Some(&sent)
     } else {
