@@ -61,6 +61,7 @@ def late(shows, before, code):
 # A section with the method alone, and the first byte of the next frame.
 METHOD_ALONE = frame(1, b"\0\0\xd1") + b"\1"
 SESSION_HEX = headers(*SESSION).hex()
+OTHER_PROTOCOL = [*without(SESSION, b":protocol"), (b":protocol", b"websocket")]
 # A stream of session 0.
 MEMBER = b"\x40\x54\0abc"
 OPEN = f"bytes 2 {OF_CLIENT}\nanswer 0 200\nbytes 0 {SESSION_HEX}\n"
@@ -426,7 +427,29 @@ SESSION_ROWS = [
     Row("a datagram with half of it", OTHER, b"", DATAGRAM_ERROR, after="datagram 40"),
     Row("a datagram of stream 2^62", OTHER, b"", DATAGRAM_ERROR, after="datagram d000000000000000"),
     Row("a datagram of stream 2^62 - 4", OTHER, b"", after="datagram cfffffffffffffff"),
-    Row("a datagram of a request (RFC 9297, 2)", REQUEST, headers(*GET), after="datagram 00aa"),
+    *(
+        Row(
+            f"a datagram of {shows} (RFC 9297, 2)",
+            REQUEST,
+            headers(*fields),
+            DATAGRAM_ERROR,
+            before=f"bytes 2 {OF_CLIENT}",
+            after="datagram 00aa",
+            of_stream=True,
+        )
+        for shows, fields in (
+            ("a request", GET),
+            ("a CONNECT", CONNECT),
+            ("an extended CONNECT of another protocol", OTHER_PROTOCOL),
+        )
+    ),
+    Row(
+        "a datagram of a session that is over (RFC 9297, 2.1)",
+        OTHER,
+        b"",
+        before=OPEN + "end 0",
+        after="datagram 00aa",
+    ),
     Row(
         "a datagram where they are off (RFC 9297, 2.1.1)",
         OTHER,
@@ -468,6 +491,8 @@ def faults_in(found):
             faults.append((event[1], "stream"))
         elif event[0] in ("datagram", "stopped") and event[1] == "fault":
             faults.append((int(event[2]), event[3]))
+        elif event[0] == "datagram" and event[2:3] == ("end",):
+            faults.append((DATAGRAM_ERROR, "stream"))
     return faults
 
 
