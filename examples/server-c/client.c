@@ -5,11 +5,8 @@
    It prints what failed, and ends with 'N passed, M failed': a check for each session. PID is the
    server's: then all sessions are plain, and one more check is that the server's memory after the
    last hundred of them is that after the first. */
-#include "h3.h"
+#include "quic.h"
 #include <inttypes.h>
-#include <stdio.h>
-#include <stdlib.h>
-#include <string.h>
 
 enum {
   STREAMS = 10, /* of a session */
@@ -35,8 +32,9 @@ typedef struct session {
   h3_stream *s;
   int number, order, opened, back;
   uint64_t due; /* when its request is sent; 0: it was sent */
-  uint64_t resets, reset; /* when the stream `reset` is reset; 0: it was, or there is none */
-  bool ready, closing, over, failed;
+  h3_stream *reset; /* a stream that is reset, until it is or the session ends */
+  uint64_t resets; /* when */
+  bool begun, ready, closing, over, failed;
 } session;
 
 typedef struct run { /* of a connection */
@@ -49,6 +47,7 @@ typedef struct run { /* of a connection */
 typedef struct echo { /* of a stream that was opened here */
   size_t size, came;
   uint8_t key;
+  bool reset;
 } echo;
 
 static int port, wanted, begun, running, passed, failed;
@@ -57,8 +56,7 @@ static long resident[HUNDREDS]; /* KiB */
 static int noted; /* so many of these */
 static unsigned long streams_back, resets, datagrams_sent, datagrams_back;
 static uint64_t random_state;
-static h3_connection *live[CONNECTIONS];
-static const char url[] = "https://localhost/echo";
+static quic_connection *live[CONNECTIONS];
 
 static uint64_t random_below(uint64_t n) {
   random_state = random_state * 6364136223846793005u + 1442695040888963407u;
@@ -71,9 +69,13 @@ static void *allocate(size_t size) {
   return memory;
 }
 
+static bool is_request(const h3_stream *s) {
+  return s->own && s->bidirectional && s->session == H3_NONE;
+}
+
 static session *of(h3_stream *s) {
-  h3_stream *its = s->session == UINT64_MAX ? s : h3_find(s->c, s->session);
-  return its && its->is_session ? its->user : NULL;
+  h3_stream *its = s->session == H3_NONE ? s : h3_find(s->c, s->session);
+  return its && is_request(its) ? its->user : NULL;
 }
 
 static void fail(session *of_it, const char *what, uint64_t number) {
@@ -82,50 +84,65 @@ static void fail(session *of_it, const char *what, uint64_t number) {
   printf("session %d (%s): %s %" PRIu64 "\n", of_it->number, orders[of_it->order], what, number);
 }
 
+/* Opens a stream before the session is open, which h3_open refuses. */
+static h3_stream *open_early(h3_stream *session, bool bidirectional) {
+  wt_stream_header header = {WT_STREAM_WEBTRANSPORT, session->id};
+  uint8_t bytes[16];
+  size_t size;
+  int answer = bidirectional ? wt_session_frame_write(session->id, bytes, sizeof bytes, &size)
+                             : wt_stream_header_write(&header, bytes, sizeof bytes, &size);
+  return answer == WT_OK ? h3_open_with(session, bidirectional, bytes, size) : NULL;
+}
+
 /* Opens a stream, sends a text on it that can be checked, and ends it. */
 static bool open_stream(session *of_it) {
   uint8_t bytes[MAX_SIZE];
   bool one_way = of_it->opened % 5 == 2;
-  h3_stream *s = (of_it->ready ? h3_open : h3_open_early)(of_it->s, !one_way);
+  h3_stream *s = (of_it->ready ? h3_open : open_early)(of_it->s, !one_way);
   if (s == NULL) return false;
   echo *e = s->user = allocate(sizeof *e);
   e->size = of_it->opened % 4 == 3 ? random_below(MAX_SIZE) : random_below(200);
   e->key = (uint8_t)(2 + 4 * random_below(50)); /* not "!", for the server */
   if (one_way && e->size == 0) e->size = 1;
   for (size_t i = 0; i < e->size; i++) bytes[i] = (uint8_t)(e->key + 7 * i);
-  h3_send(s, bytes, e->size, true);
+  quic_send(s, bytes, e->size, true);
   of_it->opened++;
   return true;
 }
 
-/* Opens a stream that is reset at once: the server resets its half, or knows nothing of it yet. */
+/* Opens a stream that is reset soon: the server resets its half, or knows nothing of it yet. */
 static void open_reset_stream(session *of_it) {
   static const uint8_t bytes[5000] = "a stream that is reset";
-  h3_stream *s = h3_open(of_it->s, true);
+  h3_stream *s = of_it->reset = h3_open(of_it->s, true);
   if (s == NULL) return;
-  h3_send(s, bytes, sizeof bytes, false);
-  of_it->resets = random_below(2) ? quic_now() + random_below(20000000) : 1;
-  of_it->reset = s->id;
+  ((echo *)(s->user = allocate(sizeof(echo))))->reset = true;
+  quic_send(s, bytes, sizeof bytes, false);
+  of_it->resets = random_below(2) ? quic_now() + random_below(20000000) : 0;
 }
 
 static void send_datagram(session *of_it) {
-  (of_it->ready ? h3_send_datagram : h3_send_datagram_early)(of_it->s, "datagram", 8);
+  static const uint8_t text[] = "datagram";
+  uint8_t bytes[24];
+  size_t size;
   datagrams_sent++;
+  if (of_it->ready) h3_send_datagram(of_it->s, text, 8);
+  else if (wt_datagram_write(of_it->s->id, text, 8, bytes, sizeof bytes, &size) == WT_OK)
+    quic_send_datagram(of_it->s->c, bytes, size);
 }
 
-static bool begin_session(h3_connection *c, session *of_it) {
-  if ((of_it->s = h3_connect(c, url, false)) == NULL) return false;
-  of_it->s->user = of_it;
+/* Begins a session, once its stream is open. */
+static void begin_session(session *of_it) {
+  if (of_it->begun || of_it->s->id == H3_NONE) return;
+  of_it->begun = true;
   if (of_it->order == STREAMS_FIRST)
     while (of_it->opened < EARLY && open_stream(of_it)) {
     }
   of_it->due = quic_now() + (of_it->order == STREAMS_FIRST ? random_below(50000000) : 0);
-  return true;
 }
 
 static void send_request(session *of_it) {
   of_it->due = 0;
-  h3_request(of_it->s, url, of_it->order == END_FIRST);
+  h3_request(of_it->s, "localhost", "/echo", of_it->order == END_FIRST);
   if (of_it->order != ENDED_STREAMS_FIRST) return;
   while (of_it->opened < EARLY && open_stream(of_it)) {
   }
@@ -174,17 +191,15 @@ static void note(void) {
 }
 
 /* Begins as many sessions as may run at once. */
-static void begin_sessions(h3_connection *c) {
-  run *r = c->user;
+static void begin_sessions(quic_connection *c) {
+  run *r = c->h3.user;
   for (int i = 0; i < AT_ONCE; i++) {
     if (r->sessions[i] || r->begun == PER_CONNECTION || begun == limit()) continue;
-    session *of_it = allocate(sizeof *of_it);
+    session *of_it = r->sessions[i] = allocate(sizeof *of_it);
     *of_it = (session){.number = begun, .order = server ? PLAIN : begun % ORDERS};
-    if (!begin_session(c, of_it)) {
-      free(of_it);
-      return;
-    }
-    r->sessions[i] = of_it;
+    of_it->s = quic_open(&c->h3, true);
+    of_it->s->user = of_it;
+    ((quic_stream *)of_it->s)->kept = true;
     r->begun++;
     begun++;
   }
@@ -192,20 +207,21 @@ static void begin_sessions(h3_connection *c) {
 
 /* Goes on with a session: its request, its streams, its end. Returns whether it is over. */
 static bool go_on(session *of_it) {
+  begin_session(of_it);
   if (of_it->due && quic_now() >= of_it->due) send_request(of_it);
-  if (of_it->resets && quic_now() >= of_it->resets) {
-    h3_stream *s = h3_find(of_it->s->c, of_it->reset);
-    of_it->resets = 0;
-    if (s) h3_reset(s, 7);
+  if (of_it->reset && quic_now() >= of_it->resets) {
+    quic_reset(of_it->reset, wt_application_code_to_http3(7));
+    of_it->reset = NULL;
   }
   if (of_it->order != END_FIRST && of_it->ready && !of_it->over)
     while (of_it->opened < STREAMS && open_stream(of_it)) {
     }
   if (of_it->order != END_FIRST && of_it->back == STREAMS && !of_it->closing) {
     of_it->closing = true;
+    of_it->reset = NULL;
     h3_close(of_it->s, (uint32_t)of_it->number, "done");
   }
-  return of_it->s->quic == NULL;
+  return ((quic_stream *)of_it->s)->closed;
 }
 
 static void finish(session *of_it) {
@@ -216,13 +232,13 @@ static void finish(session *of_it) {
   else passed++;
 }
 
-static void go_on_with_connection(h3_connection *c) {
-  run *r = c->user;
+static void go_on_with_connection(quic_connection *c) {
+  run *r = c->h3.user;
   int left = 0;
   if (!r->allowed) return;
   if (r->settings_due && quic_now() >= r->settings_due) {
     r->settings_due = 0;
-    h3_send_settings(c);
+    quic_send_settings(c);
   }
   for (int i = 0; i < AT_ONCE; i++)
     if (r->sessions[i] && go_on(r->sessions[i])) {
@@ -231,38 +247,34 @@ static void go_on_with_connection(h3_connection *c) {
     }
   begin_sessions(c);
   for (int i = 0; i < AT_ONCE; i++) left += r->sessions[i] != NULL;
-  if (left == 0) quic_close(c->quic, WT_H3_NO_ERROR);
+  if (left == 0) quic_close(&c->h3, WT_H3_NO_ERROR);
+}
+
+static void begin_connection(void) {
+  quic_connection *c = quic_connect(port);
+  run *r = c->h3.user = allocate(sizeof *r);
+  int i = 0;
+  while (i < CONNECTIONS - 1 && live[i]) i++;
+  live[i] = c;
+  c->late_settings = random_below(2);
+  r->settings_due = c->late_settings ? UINT64_MAX : 0;
+  running++;
 }
 
 /* Between packets: begins connections and goes on with them. Returns whether all is done. */
 static bool step(void) {
   if (server) note();
   for (int i = 0; i < CONNECTIONS; i++)
-    if (live[i] && !live[i]->broken) go_on_with_connection(live[i]);
-  while (running < CONNECTIONS && begun + running * PER_CONNECTION < limit()) {
-    quic_connect(port);
-    running++;
-  }
+    if (live[i] && !live[i]->closing) go_on_with_connection(live[i]);
+  while (running < CONNECTIONS && begun + running * PER_CONNECTION < limit()) begin_connection();
   return begun >= wanted && running == 0 && (!server || noted * 100 >= wanted);
-}
-
-void on_h3_ready(h3_connection *c) {
-  run *r = c->user = allocate(sizeof *r);
-  int i = 0;
-  while (i < CONNECTIONS - 1 && live[i]) i++;
-  live[i] = c;
-  r->settings_due = random_below(2) ? quic_now() : UINT64_MAX; /* half of the connections: late */
-  if (r->settings_due != UINT64_MAX) {
-    r->settings_due = 0;
-    h3_send_settings(c);
-  }
 }
 
 /* Compares bytes that came on a stream with those that were sent. */
 static void compare(h3_stream *s, session *of_it, const h3_event *e) {
   echo *own = s->user;
-  quic_consume(s->quic, e->wt.length);
-  if (of_it && s->id == of_it->reset && s->id != 0) return;
+  quic_consume(s, e->wt.length);
+  if (own && own->reset) return;
   if (own == NULL) { /* one that comes back */
     own = s->user = allocate(sizeof *own);
     own->key = e->bytes[0];
@@ -273,15 +285,25 @@ static void compare(h3_stream *s, session *of_it, const h3_event *e) {
   own->came += e->wt.length;
 }
 
+/* A stream of a session ended. */
+static void came_back(h3_stream *s, session *of_it) {
+  echo *own = s->user;
+  if (own && own->reset) return;
+  if (s->own && own->came != own->size)
+    fail(of_it, "a stream came back with the length", own->came);
+  of_it->back++;
+  streams_back++;
+}
+
 void on_event(h3_stream *s, const h3_event *e) {
   session *of_it = of(s);
-  echo *own = s->is_session ? NULL : s->user;
+  echo *own = is_request(s) ? NULL : s->user;
   run *r = s->c->user;
   switch (e->wt.kind) {
   case WT_EVENT_SETTINGS:
     r->allowed = wt_connection_allows_sessions(&s->c->wt) == 1;
     if (r->settings_due) r->settings_due = quic_now() + random_below(100000000);
-    if (!r->allowed) quic_close(s->c->quic, WT_H3_NO_ERROR);
+    if (!r->allowed) quic_close(s->c, WT_H3_NO_ERROR);
     break;
   case WT_EVENT_SESSION_READY:
     of_it->ready = true;
@@ -292,37 +314,31 @@ void on_event(h3_stream *s, const h3_event *e) {
   case WT_EVENT_SESSION_CLOSED:
   case WT_EVENT_SESSION_LOST:
     of_it->over = true;
+    of_it->reset = NULL;
     if (of_it->order != END_FIRST && !of_it->closing) fail(of_it, "the session ended", e->wt.kind);
     break;
   case WT_EVENT_STREAM_DATA: compare(s, of_it, e); break;
   case WT_EVENT_END:
-    if (s->is_session || of_it == NULL) break;
-    if (!(s->id & 1) && own->came != own->size)
-      fail(of_it, "a stream came back with the length", own->came);
-    of_it->back++;
-    streams_back++;
+    if (of_it && !is_request(s)) came_back(s, of_it);
     break;
   case WT_EVENT_RESET:
-    if (of_it && s->id == of_it->reset && s->id != 0) resets++;
+    if (own && own->reset) resets++;
     else fail(of_it, "a stream was reset with", e->code);
     break;
   case WT_EVENT_STREAM_ERROR:
   case WT_EVENT_MALFORMED: fail(of_it, "the event", e->wt.kind); break;
+  case WT_EVENT_DATAGRAM:
+    if (e->wt.length == 8 && !memcmp(e->bytes, "datagram", 8)) datagrams_back++;
+    else fail(of_it, "a datagram of the length", e->wt.length);
+    break;
   default: break;
   }
 }
 
-void on_session_datagram(h3_stream *s, const uint8_t *bytes, size_t length) {
-  if (h3_is(bytes, length, "datagram")) datagrams_back++;
-  else fail(of(s), "a datagram of the length", length);
-}
-
-void on_stream_over(h3_stream *s) { free(s->user); }
-
-void on_h3_gone(h3_connection *c, uint64_t code) {
-  run *r = c->user;
+void on_gone(quic_connection *c, uint64_t code) {
+  run *r = c->h3.user;
   if (code != WT_H3_NO_ERROR) printf("a connection ended with 0x%" PRIx64 "\n", code);
-  for (int i = 0; r && i < AT_ONCE; i++)
+  for (int i = 0; i < AT_ONCE; i++)
     if (r->sessions[i]) {
       fail(r->sessions[i], "its connection ended", code);
       finish(r->sessions[i]);
@@ -342,7 +358,6 @@ int main(int count, char **arguments) {
   wanted = atoi(arguments[4]);
   random_state = strtoull(arguments[5], NULL, 10);
   server = count == 7 ? arguments[6] : NULL;
-  h3_begin(WT_SIDE_CLIENT, true);
   quic_begin(0, arguments[3], NULL);
   quic_run(atof(arguments[2]), step);
   failed += wanted - passed - failed;

@@ -167,6 +167,28 @@ async def resets_control(port):
         return client.closed_by
 
 
+async def stops_control(port):
+    """The server's control stream is stopped after its SETTINGS: the code of the connection."""
+    async with client_of(port) as client:
+        await client.until(lambda: client.stream(3).data)  # its first unidirectional one
+        client.stop(3, 0x10C)
+        await client.until(lambda: client.closed_by is not None)
+        return client.closed_by
+
+
+async def stops_echo(port):
+    """The echo of a stream is stopped: its code (RFC 9000, section 3.5: that of STOP_SENDING), and
+    whether its session goes on."""
+    async with client_of(port) as client:
+        session = await client.open_session(b"/echo")
+        stream = client.open(number(0x41) + number(session) + b"open")
+        await client.until(lambda: client.stream(stream).data)
+        client.stop(stream, 0x10C)
+        await client.until(lambda: client.stream(stream).reset is not None)
+        client.send(stream, b"more", end=True)
+        return client.stream(stream).reset, await client.echoes(session, b"still here")
+
+
 async def refuses_large_fields(port):
     """A request above 16384 bytes: whether it has the status 431 (RFC 6585, section 5), and the
     connection goes on."""
@@ -216,6 +238,8 @@ async def main(port):
         saw = await keeps_early_streams(port)
         report.check("a stream before its session", saw, b"early")
         report.check("a control stream that is reset", await resets_control(port), 0x104)
+        report.check("a control stream that is stopped", await stops_control(port), 0x104)
+        report.check("an echo that is stopped", await stops_echo(port), (0x10C, True))
         report.check("431", await refuses_large_fields(port), (True, True))
         report.check("a POST in one frame", await reads_long_frames(port), b"100000 bytes\n")
         saw = await faults.endless_frame(port)

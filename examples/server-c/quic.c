@@ -1,34 +1,30 @@
-/* QUIC on 127.0.0.1 (quic.h). */
+/* QUIC on 127.0.0.1, over ngtcp2 and GnuTLS (quic.h). */
 #define _GNU_SOURCE
-#include "quic_internal.h"
-#include <arpa/inet.h>
+#include "quic.h"
 #include <gnutls/crypto.h>
 #include <malloc.h>
 #include <ngtcp2/ngtcp2_crypto_gnutls.h>
 #include <poll.h>
-#include <stdio.h>
-#include <stdlib.h>
-#include <string.h>
-#include <sys/socket.h>
 #include <time.h>
 #include <unistd.h>
 
-static quic_connection *table[CONNECTIONS];
-static size_t table_end;
+enum { CONNECTIONS = 4096 }; /* at once */
+
+static quic_connection *connections;
+static size_t connection_count;
 static int udp = -1;
 static bool server;
 static struct sockaddr_in here;
-static uint8_t secret[32];
 static gnutls_certificate_credentials_t credentials;
 
-void quic_fail(const char *what) {
+static void fail(const char *what) {
   fprintf(stderr, "quic: %s\n", what);
   exit(1);
 }
 
 void *quic_allocate(size_t size) {
   void *memory = calloc(1, size);
-  if (memory == NULL) quic_fail("out of memory");
+  if (memory == NULL) fail("out of memory");
   return memory;
 }
 
@@ -38,260 +34,151 @@ uint64_t quic_now(void) {
   return (uint64_t)t.tv_sec * NGTCP2_SECONDS + (uint64_t)t.tv_nsec;
 }
 
-/* ---- What ngtcp2 calls ---- */
+/* ---- Connections ---- */
 
-static void on_rand(uint8_t *out, size_t length, const ngtcp2_rand_ctx *context) {
-  (void)context;
-  gnutls_rnd(GNUTLS_RND_RANDOM, out, length);
-}
-
-static void make_id(const quic_connection *c, ngtcp2_cid *id) {
+void quic_make_id(const quic_connection *c, ngtcp2_cid *id) {
   id->datalen = ID_SIZE;
   gnutls_rnd(GNUTLS_RND_RANDOM, id->data, ID_SIZE);
-  id->data[0] = (uint8_t)(c->index >> 8);
-  id->data[1] = (uint8_t)c->index;
-  memcpy(id->data + 2, c->tag, TAG_SIZE);
-}
-
-static int on_new_id(ngtcp2_conn *q, ngtcp2_cid *id, uint8_t *token, size_t length, void *c) {
-  (void)q, (void)length;
-  make_id(c, id);
-  return ngtcp2_crypto_generate_stateless_reset_token(token, secret, sizeof secret, id) == 0
-             ? 0
-             : NGTCP2_ERR_CALLBACK_FAILURE;
-}
-
-static int on_handshake(ngtcp2_conn *q, void *c) {
-  (void)q;
-  on_ready(c);
-  return 0;
+  memcpy(id->data, c->tag, TAG_SIZE);
 }
 
 static ngtcp2_conn *of_reference(ngtcp2_crypto_conn_ref *ref) {
-  return ((quic_connection *)ref->user_data)->q;
+  return ((quic_connection *)ref->user_data)->conn;
 }
 
-static const ngtcp2_callbacks callbacks = {
-    .client_initial = ngtcp2_crypto_client_initial_cb,
-    .recv_client_initial = ngtcp2_crypto_recv_client_initial_cb,
-    .recv_crypto_data = ngtcp2_crypto_recv_crypto_data_cb,
-    .recv_retry = ngtcp2_crypto_recv_retry_cb,
-    .handshake_completed = on_handshake,
-    .encrypt = ngtcp2_crypto_encrypt_cb,
-    .decrypt = ngtcp2_crypto_decrypt_cb,
-    .hp_mask = ngtcp2_crypto_hp_mask_cb,
-    .recv_stream_data = quic_on_stream_data,
-    .acked_stream_data_offset = quic_on_acknowledged,
-    .stream_open = quic_on_stream_open,
-    .stream_close = quic_on_stream_closed,
-    .stream_reset = quic_on_stream_reset,
-    .rand = on_rand,
-    .get_new_connection_id = on_new_id,
-    .update_key = ngtcp2_crypto_update_key_cb,
-    .extend_max_local_streams_bidi = quic_on_more_allowed,
-    .extend_max_local_streams_uni = quic_on_more_allowed,
-    .delete_crypto_aead_ctx = ngtcp2_crypto_delete_crypto_aead_ctx_cb,
-    .delete_crypto_cipher_ctx = ngtcp2_crypto_delete_crypto_cipher_ctx_cb,
-    .recv_datagram = quic_on_datagram_frame,
-    .get_path_challenge_data = ngtcp2_crypto_get_path_challenge_data_cb,
-    .version_negotiation = ngtcp2_crypto_version_negotiation_cb};
-
-/* ---- Connections ---- */
-
-static void send_packet(const struct sockaddr_in *to, const uint8_t *bytes, size_t length) {
-  /* (one that cannot be sent is lost, as packets may be) */
-  (void)!sendto(udp, bytes, length, 0, (const struct sockaddr *)to, sizeof *to);
+static void begin_tls(quic_connection *c) {
+  static const gnutls_datum_t alpn = {(unsigned char *)"h3", 2};
+  unsigned flags = server ? GNUTLS_SERVER | GNUTLS_NO_AUTO_SEND_TICKET : GNUTLS_CLIENT;
+  if (gnutls_init(&c->tls, flags | GNUTLS_NO_END_OF_EARLY_DATA) != 0) fail("no TLS session");
+  gnutls_priority_set_direct(c->tls, "NORMAL:-VERS-ALL:+VERS-TLS1.3:%DISABLE_TLS13_COMPAT_MODE",
+                             NULL);
+  gnutls_credentials_set(c->tls, GNUTLS_CRD_CERTIFICATE, credentials);
+  gnutls_alpn_set_protocols(c->tls, &alpn, 1, GNUTLS_ALPN_MANDATORY);
+  if (server) ngtcp2_crypto_gnutls_configure_server_session(c->tls);
+  else {
+    ngtcp2_crypto_gnutls_configure_client_session(c->tls);
+    gnutls_server_name_set(c->tls, GNUTLS_NAME_DNS, "localhost", 9);
+    gnutls_session_set_verify_cert(c->tls, "localhost", 0);
+  }
+  c->ref = (ngtcp2_crypto_conn_ref){of_reference, c};
+  gnutls_session_set_ptr(c->tls, &c->ref);
+  ngtcp2_conn_set_tls_native_handle(c->conn, c->tls);
 }
 
 static void set_limits(ngtcp2_settings *settings, ngtcp2_transport_params *params) {
   ngtcp2_settings_default(settings);
   settings->initial_ts = quic_now();
   settings->max_tx_udp_payload_size = PACKET;
-  settings->handshake_timeout = 20 * NGTCP2_SECONDS;
   ngtcp2_transport_params_default(params);
-  params->initial_max_stream_data_bidi_local = QUIC_STREAM_WINDOW;
-  params->initial_max_stream_data_bidi_remote = QUIC_STREAM_WINDOW;
-  params->initial_max_stream_data_uni = QUIC_STREAM_WINDOW;
-  params->initial_max_data = 16 * QUIC_STREAM_WINDOW;
-  params->initial_max_streams_bidi = 200;
-  params->initial_max_streams_uni = 200;
+  params->initial_max_stream_data_bidi_local = H3_WINDOW;
+  params->initial_max_stream_data_bidi_remote = H3_WINDOW;
+  params->initial_max_stream_data_uni = H3_WINDOW;
+  params->initial_max_data = 16 * H3_WINDOW;
+  params->initial_max_streams_bidi = params->initial_max_streams_uni = 200;
   params->max_idle_timeout = 30 * NGTCP2_SECONDS;
   params->max_datagram_frame_size = 65535;
-  params->active_connection_id_limit = 7;
 }
 
-static quic_connection *add_connection(const struct sockaddr_in *peer) {
-  size_t i = 0;
-  while (i < CONNECTIONS && table[i]) i++;
-  if (i == CONNECTIONS) return NULL;
-  quic_connection *c = quic_allocate(sizeof *c);
-  c->peer = *peer;
-  c->index = i;
-  c->datagrams_end = &c->datagrams;
-  c->code = ERROR_NONE;
-  c->ref = (ngtcp2_crypto_conn_ref){of_reference, c};
-  gnutls_rnd(GNUTLS_RND_RANDOM, c->tag, TAG_SIZE);
-  table[i] = c;
-  if (table_end <= i) table_end = i + 1;
-  return c;
-}
-
-static void free_connection(quic_connection *c) {
-  c->over = true;
-  if (c->q) on_gone(c, c->code);
-  while (c->streams) quic_remove_stream(c->streams);
-  while (c->datagrams) quic_remove_datagram(c);
-  if (c->q) ngtcp2_conn_del(c->q);
-  if (c->tls) gnutls_deinit(c->tls);
-  table[c->index] = NULL;
-  free(c);
-}
-
-static void begin_tls(quic_connection *c) {
-  static const gnutls_datum_t alpn = {(unsigned char *)"h3", 2};
-  unsigned flags = server ? GNUTLS_SERVER | GNUTLS_NO_AUTO_SEND_TICKET : GNUTLS_CLIENT;
-  if (gnutls_init(&c->tls, flags | GNUTLS_NO_END_OF_EARLY_DATA) != 0) quic_fail("no TLS session");
-  gnutls_priority_set_direct(
-      c->tls,
-      "NORMAL:-VERS-ALL:+VERS-TLS1.3:-CIPHER-ALL:+AES-128-GCM:+AES-256-GCM:+CHACHA20-POLY1305:"
-      "-GROUP-ALL:+GROUP-X25519:+GROUP-SECP256R1:%DISABLE_TLS13_COMPAT_MODE",
-      NULL);
-  if (server) ngtcp2_crypto_gnutls_configure_server_session(c->tls);
-  else ngtcp2_crypto_gnutls_configure_client_session(c->tls);
-  gnutls_session_set_ptr(c->tls, &c->ref);
-  gnutls_credentials_set(c->tls, GNUTLS_CRD_CERTIFICATE, credentials);
-  gnutls_alpn_set_protocols(c->tls, &alpn, 1, GNUTLS_ALPN_MANDATORY);
-  if (!server) {
-    gnutls_server_name_set(c->tls, GNUTLS_NAME_DNS, "localhost", 9);
-    gnutls_session_set_verify_cert(c->tls, "localhost", 0);
-  }
-  ngtcp2_conn_set_tls_native_handle(c->q, c->tls);
-}
-
-static quic_connection *accept_connection(const ngtcp2_pkt_hd *first,
-                                          const struct sockaddr_in *peer) {
+/* A connection of a server, by the header of its first packet, or of a client, which has none. */
+static quic_connection *add_connection(const struct sockaddr_in *peer, const ngtcp2_pkt_hd *first) {
   ngtcp2_settings settings;
   ngtcp2_transport_params params;
-  ngtcp2_cid id;
-  quic_connection *c = add_connection(peer);
-  if (c == NULL) return NULL;
-  ngtcp2_path path = {
+  ngtcp2_cid id, first_id;
+  quic_connection *c = quic_allocate(sizeof *c);
+  c->peer = *peer;
+  c->path = (ngtcp2_path){
       {(struct sockaddr *)&here, sizeof here}, {(struct sockaddr *)&c->peer, sizeof c->peer}, NULL};
+  gnutls_rnd(GNUTLS_RND_RANDOM, c->tag, TAG_SIZE);
+  quic_make_id(c, &id);
+  quic_make_id(c, &first_id);
   set_limits(&settings, &params);
-  params.original_dcid = first->dcid;
-  params.stateless_reset_token_present = 1;
-  make_id(c, &id);
-  ngtcp2_crypto_generate_stateless_reset_token(params.stateless_reset_token, secret, sizeof secret,
-                                               &id);
-  if (ngtcp2_conn_server_new(&c->q, &first->scid, &id, &path, first->version, &callbacks, &settings,
-                             &params, NULL, c) != 0) {
-    free_connection(c);
-    return NULL;
-  }
+  if (first) params.original_dcid = first->dcid;
+  int error = first
+                  ? ngtcp2_conn_server_new(&c->conn, &first->scid, &id, &c->path, first->version,
+                                           &quic_callbacks, &settings, &params, NULL, c)
+                  : ngtcp2_conn_client_new(&c->conn, &first_id, &id, &c->path, NGTCP2_PROTO_VER_V1,
+                                           &quic_callbacks, &settings, &params, NULL, c);
+  if (error != 0) fail("out of memory");
   begin_tls(c);
-  return c;
+  h3_begin(&c->h3, server);
+  connection_count++;
+  c->next = connections;
+  return connections = c;
+}
+
+static struct sockaddr_in address_of(int port) {
+  return (struct sockaddr_in){.sin_family = AF_INET,
+                              .sin_port = htons((uint16_t)port),
+                              .sin_addr.s_addr = htonl(INADDR_LOOPBACK)};
 }
 
 quic_connection *quic_connect(int port) {
-  struct sockaddr_in peer = {.sin_family = AF_INET,
-                             .sin_port = htons((uint16_t)port),
-                             .sin_addr.s_addr = htonl(INADDR_LOOPBACK)};
-  ngtcp2_settings settings;
-  ngtcp2_transport_params params;
-  ngtcp2_cid id, first;
-  quic_connection *c = add_connection(&peer);
-  if (c == NULL) quic_fail("too many connections");
-  ngtcp2_path path = {
-      {(struct sockaddr *)&here, sizeof here}, {(struct sockaddr *)&c->peer, sizeof c->peer}, NULL};
-  set_limits(&settings, &params);
-  make_id(c, &id);
-  make_id(c, &first);
-  if (ngtcp2_conn_client_new(&c->q, &first, &id, &path, NGTCP2_PROTO_VER_V1, &callbacks, &settings,
-                             &params, NULL, c) != 0)
-    quic_fail("no connection");
-  begin_tls(c);
-  return c;
+  struct sockaddr_in peer = address_of(port);
+  return add_connection(&peer, NULL);
 }
 
-void quic_close(quic_connection *c, uint64_t code) {
-  if (c->closing || c->over) return;
+void quic_send_settings(quic_connection *c) {
+  static const wt_setting settings[] = {{WT_SETTING_MAX_FIELD_SECTION_SIZE, H3_MAX_FIELDS},
+                                        {WT_SETTING_ENABLE_CONNECT_PROTOCOL, 1},
+                                        {WT_SETTING_H3_DATAGRAM, 1},
+                                        {WT_SETTING_ENABLE_WEBTRANSPORT, 1},
+                                        {WT_SETTING_WEBTRANSPORT_MAX_SESSIONS, 100}};
+  h3_send_settings(&c->h3, settings, 5);
+}
+
+void quic_close(h3_connection *h3, uint64_t code) {
+  quic_connection *c = (quic_connection *)h3;
+  if (!c->closing) ngtcp2_connection_close_error_set_application_error(&c->error, code, NULL, 0);
   c->closing = true;
-  c->code = code;
 }
 
-/* Ends a connection: by its CONNECTION_CLOSE, for an error of ngtcp2 (or 0), or silently. It stays
-   for three probe timeouts, to send CONNECTION_CLOSE again (RFC 9000, section 10.2). */
+/* (A packet that cannot be sent is lost, as packets may be.) */
+void quic_send_packet(const quic_connection *c, const uint8_t *bytes, ngtcp2_ssize size) {
+  if (size > 0)
+    (void)!sendto(udp, bytes, (size_t)size, 0, (const struct sockaddr *)&c->peer, sizeof c->peer);
+}
+
+/* Ends a connection, after quic_close or for an error of ngtcp2, by CONNECTION_CLOSE if the peer
+   did not. It stays for three probe timeouts, to send that again (RFC 9000, section 10.2). */
 static void end_connection(quic_connection *c, int error) {
-  ngtcp2_connection_close_error e;
-  ngtcp2_path_storage path;
-  if (c->over) return;
-  c->over = true;
-  c->end = quic_now() + 3 * ngtcp2_conn_get_pto(c->q);
-  if (error == NGTCP2_ERR_DRAINING || ngtcp2_conn_is_in_draining_period(c->q)) {
-    ngtcp2_conn_get_connection_close_error(c->q, &e);
-    c->code = e.error_code;
-    return;
-  }
-  ngtcp2_connection_close_error_default(&e);
-  if (c->closing) ngtcp2_connection_close_error_set_application_error(&e, c->code, NULL, 0);
+  ngtcp2_connection_close_error *e = &c->error;
+  if (error == NGTCP2_ERR_DRAINING) ngtcp2_conn_get_connection_close_error(c->conn, e);
   else if (error == NGTCP2_ERR_CRYPTO)
-    ngtcp2_connection_close_error_set_transport_error_tls_alert(&e, ngtcp2_conn_get_tls_alert(c->q),
-                                                                NULL, 0);
-  else ngtcp2_connection_close_error_set_transport_error_liberr(&e, error, NULL, 0);
-  if (!c->closing) c->code = e.error_code;
-  if (error == NGTCP2_ERR_IDLE_CLOSE || error == NGTCP2_ERR_DROP_CONN) return;
-  ngtcp2_path_storage_zero(&path);
-  ngtcp2_ssize n =
-      ngtcp2_conn_write_connection_close(c->q, &path.path, NULL, c->last, PACKET, &e, quic_now());
-  c->last_size = n > 0 ? (size_t)n : 0;
-  if (n > 0) send_packet(&c->peer, c->last, c->last_size);
+    ngtcp2_connection_close_error_set_transport_error_tls_alert(
+        e, ngtcp2_conn_get_tls_alert(c->conn), NULL, 0);
+  else if (!c->closing) ngtcp2_connection_close_error_set_transport_error_liberr(e, error, NULL, 0);
+  if (error != NGTCP2_ERR_DROP_CONN)
+    c->last_size =
+        ngtcp2_conn_write_connection_close(c->conn, NULL, NULL, c->last, PACKET, e, quic_now());
+  quic_send_packet(c, c->last, c->last_size);
+  c->end = quic_now() + 3 * ngtcp2_conn_get_pto(c->conn);
+  c->closing = true;
+}
+
+/* Frees the first connection of a list. */
+static void free_first(quic_connection **list) {
+  quic_connection *c = *list;
+  on_gone(c, c->error.error_code);
+  *list = c->next;
+  quic_free_streams(c);
+  ngtcp2_conn_del(c->conn);
+  gnutls_deinit(c->tls);
+  free(c);
+  if (--connection_count == 0) malloc_trim(0); /* all memory that is free goes back */
 }
 
 /* ---- Packets ---- */
 
-/* Sends what a connection has to send, at most TURN packets. Returns whether there is more. */
-static bool write_packets(quic_connection *c) {
-  uint8_t out[PACKET];
-  int turns = TURN;
-  if (c->over) return false;
-  if (c->closing) {
-    end_connection(c, 0);
-    return false;
+/* The connection that a packet is for: its IDs begin with its tag, but for that which the first
+   packets of a client have. */
+static quic_connection *find(const uint8_t *id, size_t size) {
+  quic_connection *c = connections;
+  for (; c; c = c->next) {
+    const ngtcp2_cid *first = ngtcp2_conn_get_client_initial_dcid(c->conn);
+    if (size == ID_SIZE && memcmp(c->tag, id, TAG_SIZE) == 0) break;
+    if (size == first->datalen && memcmp(first->data, id, size) == 0) break;
   }
-  quic_stream *s = quic_next_to_send(c->streams);
-  while (turns > 0) {
-    bool is_datagram = c->datagrams != NULL;
-    ngtcp2_ssize n = is_datagram ? quic_write_datagram(c, out, sizeof out)
-                                 : quic_write_stream(c, s, out, sizeof out);
-    if (n == NGTCP2_ERR_STREAM_SHUT_WR || n == NGTCP2_ERR_STREAM_NOT_FOUND) {
-      quic_shut(s);
-      on_stopped(s);
-      s = quic_next_to_send(c->streams);
-      continue;
-    }
-    if (n < 0 && n != NGTCP2_ERR_WRITE_MORE && n != NGTCP2_ERR_STREAM_DATA_BLOCKED) {
-      end_connection(c, (int)n);
-      return false;
-    } else if (n == 0) break;
-    else if (n > 0) {
-      send_packet(&c->peer, out, (size_t)n);
-      turns--;
-    }
-    if (!is_datagram && s && n < 0) s = quic_next_to_send(n == NGTCP2_ERR_WRITE_MORE ? s : s->next);
-  }
-  ngtcp2_conn_update_pkt_tx_time(c->q, quic_now());
-  return turns == 0;
-}
-
-static quic_connection *find(const uint8_t *id, size_t length) {
-  size_t i = length == ID_SIZE ? (size_t)id[0] << 8 | id[1] : CONNECTIONS;
-  if (i < table_end && table[i] && !memcmp(table[i]->tag, id + 2, TAG_SIZE)) return table[i];
-  if (server) /* the ID that a client's first packets have */
-    for (i = 0; i < table_end; i++) {
-      const ngtcp2_cid *first = table[i] ? ngtcp2_conn_get_client_initial_dcid(table[i]->q) : NULL;
-      if (first && first->datalen == length && !memcmp(first->data, id, length)) return table[i];
-    }
-  return NULL;
+  return c;
 }
 
 static void receive(const struct sockaddr_in *peer, const uint8_t *bytes, size_t length) {
@@ -299,101 +186,85 @@ static void receive(const struct sockaddr_in *peer, const uint8_t *bytes, size_t
   ngtcp2_pkt_hd first;
   if (ngtcp2_pkt_decode_version_cid(&v, bytes, length, ID_SIZE) != 0) return;
   quic_connection *c = find(v.dcid, v.dcidlen);
-  if (c == NULL && server && ngtcp2_accept(&first, bytes, length) == 0)
-    c = accept_connection(&first, peer);
-  if (c == NULL) return;
-  if (c->over) {
-    if (c->last_size > 0) send_packet(&c->peer, c->last, c->last_size);
-    return;
+  if (c == NULL && server && connection_count < CONNECTIONS &&
+      ngtcp2_accept(&first, bytes, length) == 0)
+    c = add_connection(peer, &first);
+  if (c && c->end) quic_send_packet(c, c->last, c->last_size);
+  else if (c) {
+    int error = ngtcp2_conn_read_pkt(c->conn, &c->path, NULL, bytes, length, quic_now());
+    if (error != 0) end_connection(c, error);
   }
-  ngtcp2_path path = {
-      {(struct sockaddr *)&here, sizeof here}, {(struct sockaddr *)&c->peer, sizeof c->peer}, NULL};
-  int error = ngtcp2_conn_read_pkt(c->q, &path, NULL, bytes, length, quic_now());
-  if (error != 0) end_connection(c, error);
 }
 
 /* ---- The loop ---- */
 
 int quic_begin(int port, const char *certificate, const char *key) {
-  int size = 4 << 20;
+  const gnutls_x509_crt_fmt_t pem = GNUTLS_X509_FMT_PEM;
+  const int buffered = 4 << 20; /* bytes of packets */
   socklen_t length = sizeof here;
   server = key != NULL;
-  gnutls_rnd(GNUTLS_RND_KEY, secret, sizeof secret);
-  if (gnutls_certificate_allocate_credentials(&credentials) != 0) quic_fail("out of memory");
-  if ((server ? gnutls_certificate_set_x509_key_file(credentials, certificate, key,
-                                                     GNUTLS_X509_FMT_PEM)
-              : gnutls_certificate_set_x509_trust_file(credentials, certificate,
-                                                       GNUTLS_X509_FMT_PEM)) < 0)
-    quic_fail("the certificate cannot be read");
+  here = address_of(port);
+  gnutls_certificate_allocate_credentials(&credentials);
+  if ((server ? gnutls_certificate_set_x509_key_file(credentials, certificate, key, pem)
+              : gnutls_certificate_set_x509_trust_file(credentials, certificate, pem)) < 0)
+    fail("the certificate cannot be read");
   udp = socket(AF_INET, SOCK_DGRAM | SOCK_NONBLOCK | SOCK_CLOEXEC, 0);
-  here = (struct sockaddr_in){.sin_family = AF_INET,
-                              .sin_port = htons((uint16_t)port),
-                              .sin_addr.s_addr = htonl(INADDR_LOOPBACK)};
-  setsockopt(udp, SOL_SOCKET, SO_RCVBUF, &size, sizeof size);
+  setsockopt(udp, SOL_SOCKET, SO_RCVBUF, &buffered, sizeof buffered);
   if (bind(udp, (struct sockaddr *)&here, length) != 0 ||
       getsockname(udp, (struct sockaddr *)&here, &length) != 0)
-    quic_fail("the port is taken");
+    fail("the port is taken");
   return ntohs(here.sin_port);
 }
 
-/* Waits until packets come, a timer of a connection ends, or this time. */
-static void wait_for_packets(uint64_t until) {
-  for (size_t i = 0; i < table_end; i++) {
-    if (table[i] == NULL) continue;
-    uint64_t expiry = table[i]->over ? table[i]->end : ngtcp2_conn_get_expiry(table[i]->q);
+/* Waits until packets come, or a timer of a connection ends, or a tenth of a second. */
+static void wait_for_packets(void) {
+  uint64_t now = quic_now(), until = now + NGTCP2_SECONDS / 10;
+  for (quic_connection *c = connections; c; c = c->next) {
+    uint64_t expiry = c->end ? c->end : ngtcp2_conn_get_expiry(c->conn);
     if (expiry < until) until = expiry;
   }
-  uint64_t now = quic_now(), wait = until > now ? until - now : 0;
-  struct pollfd readable = {udp, POLLIN, 0};
-  struct timespec t = {(time_t)(wait / NGTCP2_SECONDS), (long)(wait % NGTCP2_SECONDS)};
-  ppoll(&readable, 1, &t, NULL);
+  struct timespec t = {0, until > now ? (long)(until - now) : 0};
+  ppoll(&(struct pollfd){udp, POLLIN, 0}, 1, &t, NULL);
 }
 
 static void receive_packets(void) {
   uint8_t packet[2048];
   struct sockaddr_in peer;
+  socklen_t length = sizeof peer;
   for (int i = 0; i < 64; i++) {
-    socklen_t length = sizeof peer;
     ssize_t n = recvfrom(udp, packet, sizeof packet, 0, (struct sockaddr *)&peer, &length);
     if (n < 0) return;
     receive(&peer, packet, (size_t)n);
   }
 }
 
-/* Handles timers, sends, and frees connections that are over. Returns whether there is more to
- * send. */
-static bool serve_connections(void) {
-  bool more = false;
-  for (size_t i = 0; i < table_end; i++) {
-    quic_connection *c = table[i];
-    if (c == NULL) continue;
-    if (!c->over && ngtcp2_conn_get_expiry(c->q) <= quic_now()) {
-      int error = ngtcp2_conn_handle_expiry(c->q, quic_now());
-      if (error != 0) end_connection(c, error);
-    }
-    more |= write_packets(c);
-    if (c->over && quic_now() >= c->end) free_connection(c);
+/* Handles what came on a connection and its timers, and sends. */
+static void serve(quic_connection *c) {
+  int error = ngtcp2_conn_handle_expiry(c->conn, quic_now());
+  if (error == 0 && !c->closing) {
+    h3_settle(&c->h3);
+    quic_sweep(c);
+    if (!c->closing) error = quic_write_packets(c);
   }
-  bool none = table_end == 0;
-  while (table_end > 0 && table[table_end - 1] == NULL) table_end--;
-  if (!none && table_end == 0) malloc_trim(0); /* all memory that is free goes back */
-  return more;
+  if (error != 0 || c->closing) end_connection(c, error);
 }
 
 void quic_run(double seconds, bool (*stop)(void)) {
   uint64_t end = quic_now() + (uint64_t)(seconds * 1e9);
-  bool more = false;
   while (quic_now() < end && !stop()) {
-    uint64_t until = quic_now() + (more ? 0 : NGTCP2_SECONDS / 10);
-    wait_for_packets(until < end ? until : end);
+    for (quic_connection **at = &connections, *c; (c = *at) != NULL;) {
+      if (!c->end) serve(c);
+      if (c->end && c->end <= quic_now()) free_first(at);
+      else at = &c->next;
+    }
+    wait_for_packets();
     receive_packets();
-    more = serve_connections();
   }
-  for (size_t i = 0; i < table_end; i++)
-    if (table[i]) quic_close(table[i], ERROR_NONE);
-  serve_connections();
-  for (size_t i = 0; i < table_end; i++)
-    if (table[i]) free_connection(table[i]);
+  while (connections) {
+    quic_close(&connections->h3, WT_H3_NO_ERROR);
+    if (!connections->end) end_connection(connections, 0);
+    free_first(&connections);
+  }
   gnutls_certificate_free_credentials(credentials);
   close(udp);
 }

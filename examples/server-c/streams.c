@@ -1,251 +1,291 @@
 /* The streams and datagrams of QUIC connections (quic.h). */
-#include "quic_internal.h"
-#include <stdlib.h>
-#include <string.h>
+#include "quic.h"
+#include <gnutls/crypto.h>
 
-void **quic_user(quic_connection *c) { return &c->user; }
-void **quic_stream_user(quic_stream *s) { return &s->user; }
-quic_connection *quic_of(const quic_stream *s) { return s->c; }
-int64_t quic_id(const quic_stream *s) { return s->id; }
+enum {
+  TURN = 16, /* packets that a connection sends in a turn */
+  DATAGRAM_BYTES = 1 << 20 /* that wait on a connection */
+};
+
+/* ---- Bytes that wait ---- */
+
+struct quic_chunk {
+  quic_chunk *next;
+  uint64_t end; /* how many bytes of its queue there are up to its own last one */
+  size_t size;
+  size_t credit; /* of the peer, when these are acknowledged */
+  uint8_t bytes[];
+};
+
+static quic_chunk *append(quic_queue *q, const void *bytes, size_t size) {
+  quic_chunk *added = quic_allocate(sizeof *added + size);
+  memcpy(added->bytes, bytes, size);
+  added->size = size;
+  added->end = q->end += size;
+  if (q->last) q->last->next = added;
+  else q->first = added;
+  return q->last = added;
+}
+
+static void remove_first(quic_queue *q) {
+  quic_chunk *first = q->first;
+  q->first = first->next;
+  if (q->first == NULL) q->last = NULL;
+  free(first);
+}
 
 /* ---- Streams ---- */
 
-static bool is_bidirectional(const quic_stream *s) { return !(s->id & 2); }
+static ngtcp2_conn *conn_of(const h3_stream *s) { return ((quic_connection *)s->c)->conn; }
 
-static quic_stream *add_stream(quic_connection *c, int64_t id, bool own) {
+h3_stream *quic_open(h3_connection *c, bool bidirectional) {
   quic_stream *s = quic_allocate(sizeof *s);
-  *s = (quic_stream){.c = c, .id = id, .own = own, .next = c->streams};
-  if (c->streams) c->streams->before = s;
-  c->streams = s;
-  ngtcp2_conn_set_stream_user_data(c->q, id, s);
-  return s;
+  h3_add(c, &s->h3, true, bidirectional);
+  return &s->h3;
 }
 
-static void free_chunks(quic_stream *s) {
-  while (s->chunks) {
-    chunk *next = s->chunks->next;
-    free(s->chunks);
-    s->chunks = next;
+void quic_send(h3_stream *h3, const void *bytes, size_t length, bool fin) {
+  quic_stream *s = (quic_stream *)h3;
+  if (s->fin) return;
+  s->fin = fin;
+  if (length == 0) return;
+  quic_chunk *added = append(&s->out, bytes, length);
+  if (s->unsent == NULL) s->unsent = added;
+}
+
+/* (The bytes that were sent stay until the stream is closed, since ngtcp2 may look at them.) */
+void quic_reset(h3_stream *h3, uint64_t code) {
+  quic_stream *s = (quic_stream *)h3;
+  s->fin = s->fin_sent = true;
+  if (h3->id == H3_NONE) s->closed = true;
+  else ngtcp2_conn_shutdown_stream_write(conn_of(h3), (int64_t)h3->id, code);
+}
+
+void quic_stop(h3_stream *s, uint64_t code) {
+  ngtcp2_conn_shutdown_stream_read(conn_of(s), (int64_t)s->id, code);
+  s->over = true;
+}
+
+void quic_consume(h3_stream *s, size_t length) {
+  ngtcp2_conn_extend_max_stream_offset(conn_of(s), (int64_t)s->id, length);
+  ngtcp2_conn_extend_max_offset(conn_of(s), length);
+}
+
+void quic_consume_later(h3_stream *s, size_t length) {
+  quic_chunk *last = ((quic_stream *)s)->out.last;
+  if (last) last->credit += length;
+  else quic_consume(s, length);
+}
+
+void quic_send_datagram(h3_connection *h3, const uint8_t *bytes, size_t length) {
+  quic_queue *q = &((quic_connection *)h3)->datagrams;
+  if (q->first == NULL || q->end - q->first->end < DATAGRAM_BYTES) append(q, bytes, length);
+}
+
+/* Frees the bytes of a stream up to this offset. */
+static void acknowledge(quic_stream *s, uint64_t end) {
+  while (s->out.first && s->out.first->end <= end) {
+    quic_consume(&s->h3, s->out.first->credit);
+    remove_first(&s->out);
   }
-  s->last = s->at = NULL;
 }
 
-void quic_remove_stream(quic_stream *s) {
-  on_stream_gone(s);
-  if (s->before) s->before->next = s->next;
-  else s->c->streams = s->next;
-  if (s->next) s->next->before = s->before;
-  free_chunks(s);
+static void free_stream(quic_stream *s) {
+  acknowledge(s, s->out.end);
+  free(s->h3.room);
+  free(s->h3.user);
   free(s);
 }
 
-quic_stream *quic_open(quic_connection *c, bool bidirectional) {
+/* (Version 0.12 of ngtcp2 does not close a unidirectional stream of the peer by itself.) */
+static bool is_gone(const quic_stream *s) {
+  return (s->closed && !s->kept) || (s->h3.over && !s->h3.own && !s->h3.bidirectional);
+}
+
+/* Opens a stream that waits for that, if the peer allows it. */
+static void open_now(quic_stream *s) {
   int64_t id;
-  if (c->closing || c->over) return NULL;
-  if ((bidirectional ? ngtcp2_conn_open_bidi_stream : ngtcp2_conn_open_uni_stream)(c->q, &id,
-                                                                                   NULL) != 0)
-    return NULL;
-  return add_stream(c, id, true);
+  if ((s->h3.bidirectional ? ngtcp2_conn_open_bidi_stream
+                           : ngtcp2_conn_open_uni_stream)(conn_of(&s->h3), &id, s) == 0)
+    s->h3.id = (uint64_t)id;
 }
 
-void quic_send(quic_stream *s, const void *bytes, size_t length, bool fin) {
-  const uint8_t *from = bytes;
-  if (s->shut || s->fin) return;
-  s->fin = fin;
-  while (length > 0) {
-    chunk *last = s->last;
-    if (last == NULL || last->size == last->room) {
-      last = quic_allocate(sizeof *last + CHUNK);
-      last->room = CHUNK;
-      if (s->last) s->last->next = last;
-      else s->chunks = last;
-      s->last = last;
+/* Opens streams, says which are stopped, and frees those that are gone. */
+void quic_sweep(quic_connection *c) {
+  for (h3_stream **at = &c->h3.streams, *h3; (h3 = *at) != NULL;) {
+    quic_stream *s = (quic_stream *)h3;
+    if (h3->id == H3_NONE && !s->closed) open_now(s);
+    if (s->stopped) h3_was_stopped(h3, false);
+    s->stopped = false;
+    if (!is_gone(s)) {
+      at = &h3->next;
+      continue;
     }
-    size_t n = last->room - last->size < length ? last->room - last->size : length;
-    memcpy(last->bytes + last->size, from, n);
-    if (s->at == NULL) {
-      s->at = last;
-      s->at_offset = last->size;
-    }
-    last->size += n;
-    from += n;
-    length -= n;
+    *at = h3->next;
+    if (!h3->own)
+      (h3->bidirectional ? ngtcp2_conn_extend_max_streams_bidi
+                         : ngtcp2_conn_extend_max_streams_uni)(c->conn, 1);
+    ngtcp2_conn_set_stream_user_data(c->conn, (int64_t)h3->id, NULL);
+    free_stream(s);
   }
 }
 
-/* ngtcp2 sends nothing more of a stream that was reset, so its bytes can go when it is gone. */
-void quic_shut(quic_stream *s) {
-  s->shut = true;
-  s->at = NULL;
+void quic_free_streams(quic_connection *c) {
+  while (c->h3.streams) {
+    quic_stream *s = (quic_stream *)c->h3.streams;
+    c->h3.streams = s->h3.next;
+    free_stream(s);
+  }
+  while (c->datagrams.first) remove_first(&c->datagrams);
 }
 
-void quic_reset(quic_stream *s, uint64_t code) {
-  if (s->shut || s->c->over || (!s->own && !is_bidirectional(s))) return;
-  quic_shut(s);
-  ngtcp2_conn_shutdown_stream_write(s->c->q, s->id, code);
-}
+/* ---- What ngtcp2 calls ---- */
 
-void quic_stop(quic_stream *s, uint64_t code) {
-  if (s->read_shut || s->c->over || (s->own && !is_bidirectional(s))) return;
-  s->read_shut = true;
-  ngtcp2_conn_shutdown_stream_read(s->c->q, s->id, code);
-}
-
-void quic_consume(quic_stream *s, size_t length) {
-  if (s->c->over) return;
-  if (!s->read_shut) ngtcp2_conn_extend_max_stream_offset(s->c->q, s->id, length);
-  ngtcp2_conn_extend_max_offset(s->c->q, length);
-}
-
-void quic_consume_later(quic_stream *s, size_t length) {
-  if (s->shut || s->fin) quic_consume(s, length);
-  else s->credit += length;
-}
-
-void quic_done(quic_stream *s) {
-  if (s->own || is_bidirectional(s) || s->c->over) return;
-  ngtcp2_conn_extend_max_streams_uni(s->c->q, 1);
-  ngtcp2_conn_set_stream_user_data(s->c->q, s->id, NULL);
-  quic_remove_stream(s);
-}
-
-void quic_datagram(quic_connection *c, const uint8_t *head, size_t head_length,
-                   const uint8_t *payload, size_t length) {
-  const ngtcp2_transport_params *peer = ngtcp2_conn_get_remote_transport_params(c->q);
-  size_t size = head_length + length;
-  if (c->closing || c->over || peer == NULL || size + 9 > peer->max_datagram_frame_size ||
-      size > DATAGRAM_SIZE || size + 64 > ngtcp2_conn_get_path_max_tx_udp_payload_size(c->q) ||
-      c->datagram_count == DATAGRAMS)
-    return;
-  datagram *d = quic_allocate(sizeof *d);
-  memcpy(d->bytes, head, head_length);
-  if (length > 0) memcpy(d->bytes + head_length, payload, length);
-  d->size = size;
-  *c->datagrams_end = d;
-  c->datagrams_end = &d->next;
-  c->datagram_count++;
-}
-
-void quic_remove_datagram(quic_connection *c) {
-  datagram *d = c->datagrams;
-  c->datagrams = d->next;
-  if (c->datagrams == NULL) c->datagrams_end = &c->datagrams;
-  c->datagram_count--;
-  free(d);
-}
-
-int quic_on_stream_open(ngtcp2_conn *q, int64_t id, void *c) {
-  (void)q;
-  on_stream(add_stream(c, id, false));
+static int on_open(ngtcp2_conn *conn, int64_t id, void *of) {
+  quic_connection *c = of;
+  quic_stream *s = quic_allocate(sizeof *s);
+  s->fin = s->fin_sent = id & 2;
+  ngtcp2_conn_set_stream_user_data(conn, id, s);
+  h3_accept(&c->h3, &s->h3, (uint64_t)id);
   return 0;
 }
 
-int quic_on_stream_data(ngtcp2_conn *q, uint32_t flags, int64_t id, uint64_t offset,
-                        const uint8_t *bytes, size_t length, void *c, void *stream) {
-  quic_stream *s = stream;
-  (void)q, (void)id, (void)offset;
-  if (s == NULL) ngtcp2_conn_extend_max_offset(((quic_connection *)c)->q, length);
-  else if (s->c->closing || s->read_shut) quic_consume(s, length);
-  else on_data(s, bytes, length, flags & NGTCP2_STREAM_DATA_FLAG_FIN);
+static int on_data(ngtcp2_conn *conn, uint32_t flags, int64_t id, uint64_t offset,
+                   const uint8_t *bytes, size_t length, void *c, void *s) {
+  if (s)
+    h3_receive(s, bytes ? bytes : (const uint8_t *)"", length, flags & NGTCP2_STREAM_DATA_FLAG_FIN);
+  else ngtcp2_conn_extend_max_offset(conn, length);
   return 0;
 }
 
-int quic_on_stream_reset(ngtcp2_conn *q, int64_t id, uint64_t size, uint64_t code, void *c,
-                         void *stream) {
-  quic_stream *s = stream;
-  (void)q, (void)id, (void)size, (void)c;
-  if (s && !s->c->closing) on_reset(s, code);
+static int on_reset(ngtcp2_conn *conn, int64_t id, uint64_t size, uint64_t code, void *c, void *s) {
+  if (s) h3_was_reset(s, code);
   return 0;
 }
 
-int quic_on_acknowledged(ngtcp2_conn *q, int64_t id, uint64_t offset, uint64_t length, void *c,
-                         void *stream) {
-  quic_stream *s = stream;
-  (void)q, (void)id, (void)offset, (void)c;
+static int on_acknowledged(ngtcp2_conn *conn, int64_t id, uint64_t offset, uint64_t length, void *c,
+                           void *s) {
+  if (s) acknowledge(s, offset + length);
+  return 0;
+}
+
+static int on_close(ngtcp2_conn *conn, uint32_t flags, int64_t id, uint64_t code, void *c,
+                    void *of) {
+  quic_stream *s = of;
   if (s == NULL) return 0;
-  size_t credit = length < s->credit ? (size_t)length : s->credit;
-  if (credit > 0) quic_consume(s, credit);
-  s->credit -= credit;
-  s->acknowledged += (size_t)length;
-  while (s->chunks && s->chunks->size <= s->acknowledged &&
-         (s->chunks->size == s->chunks->room || s->fin)) {
-    chunk *first = s->chunks;
-    s->acknowledged -= first->size;
-    s->chunks = first->next;
-    if (s->chunks == NULL) s->last = NULL;
-    free(first);
-  }
+  s->closed = true;
+  h3_was_stopped(&s->h3, true);
   return 0;
 }
 
-int quic_on_stream_closed(ngtcp2_conn *q, uint32_t flags, int64_t id, uint64_t code, void *c,
-                          void *stream) {
-  quic_stream *s = stream;
-  (void)flags, (void)code, (void)c;
-  if (s == NULL) return 0;
-  if (!s->own && is_bidirectional(s)) ngtcp2_conn_extend_max_streams_bidi(q, 1);
-  (void)id;
-  if (s->credit > 0) ngtcp2_conn_extend_max_offset(q, s->credit);
-  if ((s->own || is_bidirectional(s)) && !s->fin_sent && !s->shut) {
-    quic_shut(s);
-    on_stopped(s);
-  }
-  quic_remove_stream(s);
+static int on_datagram(ngtcp2_conn *conn, uint32_t flags, const uint8_t *bytes, size_t length,
+                       void *c) {
+  h3_receive_datagram(c, bytes, length);
   return 0;
 }
 
-int quic_on_more_allowed(ngtcp2_conn *q, uint64_t streams, void *c) {
-  (void)q, (void)streams;
-  on_more_streams(c);
+static int on_handshake(ngtcp2_conn *conn, void *of) {
+  quic_connection *c = of;
+  if (!c->late_settings) quic_send_settings(c);
   return 0;
 }
 
-int quic_on_datagram_frame(ngtcp2_conn *q, uint32_t flags, const uint8_t *bytes, size_t length,
-                           void *c) {
-  (void)q, (void)flags;
-  if (!((quic_connection *)c)->closing) on_datagram(c, bytes, length);
+static void on_rand(uint8_t *bytes, size_t length, const ngtcp2_rand_ctx *context) {
+  gnutls_rnd(GNUTLS_RND_RANDOM, bytes, length);
+}
+
+/* (The token of a stateless reset is random, since none is sent.) */
+static int on_new_id(ngtcp2_conn *conn, ngtcp2_cid *id, uint8_t *token, size_t length, void *c) {
+  quic_make_id(c, id);
+  gnutls_rnd(GNUTLS_RND_RANDOM, token, NGTCP2_STATELESS_RESET_TOKENLEN);
   return 0;
 }
+
+const ngtcp2_callbacks quic_callbacks = {
+    .client_initial = ngtcp2_crypto_client_initial_cb,
+    .recv_client_initial = ngtcp2_crypto_recv_client_initial_cb,
+    .recv_crypto_data = ngtcp2_crypto_recv_crypto_data_cb,
+    .recv_retry = ngtcp2_crypto_recv_retry_cb,
+    .handshake_completed = on_handshake,
+    .encrypt = ngtcp2_crypto_encrypt_cb,
+    .decrypt = ngtcp2_crypto_decrypt_cb,
+    .hp_mask = ngtcp2_crypto_hp_mask_cb,
+    .recv_stream_data = on_data,
+    .acked_stream_data_offset = on_acknowledged,
+    .stream_open = on_open,
+    .stream_close = on_close,
+    .stream_reset = on_reset,
+    .rand = on_rand,
+    .get_new_connection_id = on_new_id,
+    .update_key = ngtcp2_crypto_update_key_cb,
+    .delete_crypto_aead_ctx = ngtcp2_crypto_delete_crypto_aead_ctx_cb,
+    .delete_crypto_cipher_ctx = ngtcp2_crypto_delete_crypto_cipher_ctx_cb,
+    .recv_datagram = on_datagram,
+    .get_path_challenge_data = ngtcp2_crypto_get_path_challenge_data_cb,
+    .version_negotiation = ngtcp2_crypto_version_negotiation_cb};
+
+/* ---- Packets ---- */
 
 /* The next stream with something to send, from this one on. */
-quic_stream *quic_next_to_send(quic_stream *s) {
-  while (s && (s->shut || s->fin_sent || (s->at == NULL && !s->fin))) s = s->next;
-  return s;
-}
-
-/* Takes note of what of a stream is in a packet. */
-static void sent(quic_stream *s, ngtcp2_ssize taken, bool with_fin) {
-  if (taken < 0) return;
-  s->at_offset += (size_t)taken;
-  if (s->at && s->at_offset == s->at->size) {
-    s->at = s->at->next;
-    s->at_offset = 0;
+static quic_stream *next_to_send(h3_stream *h3) {
+  for (; h3; h3 = h3->next) {
+    quic_stream *s = (quic_stream *)h3;
+    if (h3->id != H3_NONE && !s->fin_sent && (s->unsent || s->fin)) return s;
   }
-  if (with_fin && s->at == NULL) s->fin_sent = true;
+  return NULL;
 }
 
 /* Adds a part of a stream, or only what ngtcp2 itself has to send, to the packet. */
-ngtcp2_ssize quic_write_stream(quic_connection *c, quic_stream *s, uint8_t *out, size_t room) {
+static ngtcp2_ssize write_stream(ngtcp2_conn *conn, quic_stream *s, uint8_t *packet, uint64_t now) {
   ngtcp2_vec v = {NULL, 0};
   ngtcp2_ssize taken = -1;
   uint32_t flags = NGTCP2_WRITE_STREAM_FLAG_MORE;
-  if (s && s->at) v = (ngtcp2_vec){s->at->bytes + s->at_offset, s->at->size - s->at_offset};
-  bool with_fin = s && s->fin && (s->at == NULL || s->at->next == NULL);
+  if (s && s->unsent) {
+    v.len = s->unsent->end - s->sent;
+    v.base = s->unsent->bytes + s->unsent->size - v.len;
+  }
+  bool with_fin = s && s->fin && (s->unsent == NULL || s->unsent->next == NULL);
   if (with_fin) flags |= NGTCP2_WRITE_STREAM_FLAG_FIN;
-  ngtcp2_ssize n = ngtcp2_conn_writev_stream(c->q, NULL, NULL, out, room, &taken, flags,
-                                             s ? s->id : -1, &v, s ? 1 : 0, quic_now());
-  if (s) sent(s, taken, with_fin);
+  ngtcp2_ssize n = ngtcp2_conn_writev_stream(conn, NULL, NULL, packet, PACKET, &taken, flags,
+                                             s ? (int64_t)s->h3.id : -1, &v, 1, now);
+  if (taken >= 0) s->sent += (size_t)taken;
+  if (taken >= 0 && (size_t)taken == v.len) {
+    if (s->unsent) s->unsent = s->unsent->next;
+    s->fin_sent = with_fin;
+  }
   return n;
 }
 
 /* Adds the first datagram that waits. */
-ngtcp2_ssize quic_write_datagram(quic_connection *c, uint8_t *out, size_t room) {
-  ngtcp2_vec v = {c->datagrams->bytes, c->datagrams->size};
+static ngtcp2_ssize write_datagram(quic_connection *c, uint8_t *packet, uint64_t now) {
+  ngtcp2_vec v = {c->datagrams.first->bytes, c->datagrams.first->size};
   int accepted = 0;
-  ngtcp2_ssize n =
-      ngtcp2_conn_writev_datagram(c->q, NULL, NULL, out, room, &accepted,
-                                  NGTCP2_WRITE_DATAGRAM_FLAG_MORE, 0, &v, 1, quic_now());
-  bool dropped = n == NGTCP2_ERR_INVALID_STATE || n == NGTCP2_ERR_INVALID_ARGUMENT;
-  if (accepted || dropped) quic_remove_datagram(c);
-  return dropped ? NGTCP2_ERR_WRITE_MORE : n;
+  ngtcp2_ssize n = ngtcp2_conn_writev_datagram(c->conn, NULL, NULL, packet, PACKET, &accepted,
+                                               NGTCP2_WRITE_DATAGRAM_FLAG_MORE, 0, &v, 1, now);
+  bool refused = n == NGTCP2_ERR_INVALID_STATE || n == NGTCP2_ERR_INVALID_ARGUMENT;
+  if (accepted || refused) remove_first(&c->datagrams);
+  return refused ? NGTCP2_ERR_WRITE_MORE : n;
+}
+
+/* Sends what a connection has to send and may send, at most TURN packets, in which its streams take
+   turns. Returns 0, or the error of ngtcp2. */
+int quic_write_packets(quic_connection *c) {
+  uint8_t packet[PACKET];
+  uint64_t now = quic_now();
+  quic_stream *s = next_to_send(c->h3.streams);
+  for (int count = 0; count < TURN;) {
+    ngtcp2_ssize n =
+        c->datagrams.first ? write_datagram(c, packet, now) : write_stream(c->conn, s, packet, now);
+    if (n == 0) break;
+    if (n > 0) count++;
+    quic_send_packet(c, packet, n);
+    if (n == NGTCP2_ERR_STREAM_SHUT_WR || n == NGTCP2_ERR_STREAM_NOT_FOUND)
+      s->stopped = s->fin = s->fin_sent = true;
+    else if (n < 0 && n != NGTCP2_ERR_WRITE_MORE && n != NGTCP2_ERR_STREAM_DATA_BLOCKED)
+      return (int)n;
+    if (s) s = next_to_send(n > 0 || n == NGTCP2_ERR_STREAM_DATA_BLOCKED ? s->h3.next : &s->h3);
+    if (s == NULL && n > 0) s = next_to_send(c->h3.streams);
+  }
+  ngtcp2_conn_update_pkt_tx_time(c->conn, now);
+  return 0;
 }
