@@ -19,6 +19,15 @@ var (
 	// another version of its states (WT_ABI).
 	ErrInvalidEndpoint = errors.New(
 		"vesgrauf: a limit or a setting is out of its range, or libwtransport is of another version")
+	// ErrOver says that an error ended the connection: no message is begun.
+	ErrOver = errors.New("vesgrauf: an error ended the connection")
+	// ErrGoAway says that GOAWAY of the server came: no request is sent after it (RFC 9114, section 5.2).
+	ErrGoAway = errors.New("vesgrauf: the server goes away")
+	// ErrInvalidID says that an ID is not that of a bidirectional stream of a client, or that the message is one of
+	// the other side.
+	ErrInvalidID = errors.New("vesgrauf: this endpoint sends no such message on a stream with this ID")
+	// ErrSessionNotOpen says that a session is not open: it has no answer with a 2xx status, or this end closed it.
+	ErrSessionNotOpen = errors.New("vesgrauf: the session is not open")
 )
 
 // Code is an error code of HTTP/3: any number, whether it is registered or not (RFC 9114, section 8.1). As an error
@@ -58,7 +67,7 @@ func (code Code) Application() (its uint32, is bool) { return cApplicationCodeFr
 
 // Malformed is the rule that a message breaks (RFC 9114, section 4.1.2): one of RuleInvalidName and the others. Each
 // is an error of its stream alone, with the code H3MessageError. Of several rules that a field section breaks, any
-// may be reported.
+// may be reported. As an error of a [Sending] it is the rule that a message would break, which is not sent.
 type Malformed uint32
 
 var rules = map[Malformed]string{
@@ -89,6 +98,9 @@ var rules = map[Malformed]string{
 	RuleContentTooLong:       "the content is longer than announced",
 	RuleContentTooShort:      "the content is shorter than announced",
 }
+
+// Error says what is wrong.
+func (rule Malformed) Error() string { return "vesgrauf: " + rule.String() }
 
 // String says what is wrong.
 func (rule Malformed) String() string {

@@ -64,7 +64,7 @@ func (endpoint Endpoint) Settings(sessions uint64) Settings {
 	return settings
 }
 
-// Asked is what an own request asks for, as far as the meaning of its response depends on it: one of AskedOther,
+// Asked is what a request asks for, as far as the meaning of its response depends on it: one of AskedOther,
 // AskedHead, AskedConnect and AskedSession.
 type Asked uint32
 
@@ -79,7 +79,7 @@ func (known Known) DatagramFor() DatagramFor { return cDatagramUse(known) }
 
 // Connection is the receiving half of a connection: what is next on each stream of the peer, with messages and
 // sessions. It has no socket and no table of streams: the caller keeps a [Stream] for each stream, and the bytes
-// that were not consumed.
+// that were not consumed. What is sent is a [Sending]'s.
 //
 // [NewConnection] and [ResumeConnection] make one. It must not be copied. A call panics only if the library
 // breaks what its header says.

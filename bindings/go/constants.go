@@ -233,6 +233,29 @@ const (
 	RuleContentTooShort Malformed = C.WT_RULE_CONTENT_TOO_SHORT
 )
 
+// Why something may not be sent (RFC 9114, sections 4.1, 4.2.2, 4.4, 5.2 and 7.1).
+const (
+	// SendUnexpected: this may not be sent now.
+	SendUnexpected SendError = C.WT_SEND_UNEXPECTED
+	// SendDataMissing: bytes of the last DATA frame are still to be sent.
+	SendDataMissing SendError = C.WT_SEND_DATA_MISSING
+	// SendDataExceeded: there are more bytes than the DATA frame has left.
+	SendDataExceeded SendError = C.WT_SEND_DATA_EXCEEDED
+	// SendEmptyData: a DATA frame would have no bytes.
+	SendEmptyData SendError = C.WT_SEND_EMPTY_DATA
+	// SendTooLarge: a section is larger than the peer accepts, a frame would have 2^62 bytes or more, SETTINGS more
+	// than 4,096 bytes, or a reason more than 1,024.
+	SendTooLarge SendError = C.WT_SEND_TOO_LARGE
+	// SendTooManyInterim: there were 64 interim responses, as many as a Connection reads.
+	SendTooManyInterim SendError = C.WT_SEND_TOO_MANY_INTERIM
+	// SendInvalidID: the ID of a GOAWAY is not that of a request, or it is 2^62 or more.
+	SendInvalidID SendError = C.WT_SEND_INVALID_ID
+	// SendIDRises: the ID of a GOAWAY is above that of the last one.
+	SendIDRises SendError = C.WT_SEND_ID_RISES
+	// SendUnsupported: the peer does not support what a request asks for.
+	SendUnsupported SendError = C.WT_SEND_UNSUPPORTED
+)
+
 // Why a field section is not the request for a session.
 const (
 	// RequestOK: it is one.

@@ -10,36 +10,40 @@
 //   - what is read at most: [Limits], in an [Endpoint]
 //   - a QUIC library that gives each byte once: [PushedStream], [Connection.ReceivePushed]
 //   - the settings of the peer, 0-RTT: [PeerSettings], [ResumeConnection]
-//   - what is sent: [Endpoint.Settings], [SessionRequest], [SessionResponse], [AppendFrame],
-//     [AppendWebTransport], [StreamHeader], [Datagram], [CloseWebTransportSession], [Goaway]
+//   - what is sent: [Sending] for a message and its session, [ControlSending]; what they do not send is an error
 //   - clients that reset their requests: [RequestBudget]
-//   - fields of messages: [FieldList]
+//   - fields of messages: [FieldList], [SessionRequest], [SessionResponse]
 //   - error codes, their names, those of applications: [Code], [ApplicationCode]
-//   - one stream, below a connection of your own: [FrameCursor], [CapsuleCursor], [Settings], [FirstVarint]
+//   - one stream, below a connection of your own: [FrameCursor], [CapsuleCursor], [AppendFrame],
+//     [AppendWebTransport], [StreamHeader], [Datagram], [CloseWebTransportSession], [Goaway], [Settings],
+//     [FirstVarint]
 //
 // # A server
 //
 // QUIC is configured with the ALPN protocol [WebTransportALPN], with datagrams, and so that the peer may open at
 // least three unidirectional streams beside those of its sessions. For each QUIC connection a server keeps a
-// [Connection], and for each stream a [Stream] with the bytes that were not consumed.
+// [Connection] and a [ControlSending], for each stream a [Stream] with the bytes that were not consumed, and for
+// each request a [Sending].
 //
-//  1. At the start it opens a unidirectional stream and sends what [Settings.AppendControlStream] appends. The
+//  1. At the start it opens a unidirectional stream and sends what [ControlSending.AppendSettings] appends. The
 //     stream stays open.
 //  2. For each stream of the peer: [Connection.Accept], and [Connection.Receive] with its bytes.
-//  3. It does what the comment of each [Event] says.
+//  3. It does what the comment of each [Event] says. It answers a request by a [Sending]: the bytes of
+//     [Sending.AppendHeaders], and after those of a CONNECT [Stream.Answer]. The Sending of a session has the
+//     first bytes of its streams and datagrams.
 //  4. It reads streams that wait ([EventWaits]) again: for a session after that was answered or ended, for
 //     SETTINGS after they came, for an answer after [Stream.Answer]. One that waits for its session is given to
 //     [Connection.Join] first.
 //  5. A reset of a stream, a request to stop it and a datagram go to [Connection.Reset], [Connection.Stop] (or
 //     [Connection.Stopped]) and [Connection.Datagram].
-//  6. To close a session it sends a [CloseWebTransportSession] in a DATA frame on the session's stream, ends its
-//     half of the stream, and calls [Connection.Abandon]. In each case the streams of a session that is over are
-//     reset and stopped.
+//  6. To close a session it sends what [Sending.AppendClose] appends on the session's stream, ends its half of
+//     the stream, and calls [Connection.Abandon]. In each case the streams of a session that is over are reset
+//     and stopped.
 //  7. After the end of a stream its [Stream] may be dropped, that of a session too: a server's [Connection] knows
 //     which requests have begun. A client keeps those of its sessions. One that is dropped before its end is
 //     given to [Connection.Abandon] first.
 //  8. It counts requests that are answered, and those that are reset before, in a [RequestBudget].
-//  9. To end the connection it sends [Goaway] frames on its control stream, answers the requests that it
+//  9. To end the connection it sends what [ControlSending.AppendGoAway] appends, answers the requests that it
 //     processes, and closes the connection with [H3NoError].
 //
 // Only the bytes that were consumed are to be credited to the peer, so that QUIC's flow control bounds what

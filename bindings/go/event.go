@@ -27,7 +27,8 @@ type (
 	EventSettings struct{ Payload []byte }
 
 	// EventGoAway is GOAWAY: at a client the ID of the first request that is not processed, at a server that of
-	// a push (RFC 9114, section 5.2). A client sends no new request. What is sent is [Goaway].
+	// a push (RFC 9114, section 5.2). A client sends no new request. What is sent is
+	// [ControlSending.AppendGoAway].
 	EventGoAway struct{ ID uint64 }
 
 	// EventFrame is another frame of the control stream.
@@ -46,10 +47,11 @@ type (
 	}
 
 	// EventSessionRequested is, at a server, the header section of a request for a session. Send a
-	// [SessionResponse], and then call [Stream.Answer].
+	// [SessionResponse] by a [Sending], and then call [Stream.Answer].
 	EventSessionRequested struct{ Fields FieldList }
 
-	// EventSessionReady is, at a client, the header section of the response that accepts a session.
+	// EventSessionReady is, at a client, the header section of the response that accepts a session: call
+	// [Sending.Connected].
 	EventSessionReady struct {
 		Status uint32
 		Fields FieldList

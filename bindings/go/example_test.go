@@ -40,25 +40,32 @@ func Example() {
 	client := must(vesgrauf.NewConnection(clientEnd))
 
 	// each sends its SETTINGS on its first unidirectional stream: the client on 2, the server on 3
-	last(server, server.Accept(2), must(clientEnd.Settings(0).AppendControlStream(nil)))
-	last(client, client.Accept(3), must(serverEnd.Settings(16).AppendControlStream(nil)))
+	last(server, server.Accept(2), must(client.Control().AppendSettings(nil, clientEnd.Settings(0))))
+	last(client, client.Accept(3), must(server.Control().AppendSettings(nil, serverEnd.Settings(16))))
 	fmt.Println("allowed:", client.AllowsSessions())
 
-	// the client asks on its stream 0, and the server accepts
+	// the client asks on its stream 0, and may not send on the session before the answer
 	asking, asked := client.Open(vesgrauf.AskedSession), server.Accept(0)
-	bytes := must(vesgrauf.SessionRequest{URL: "https://localhost/chat"}.Append(nil))
+	request := must(client.Request(0))
+	head := must(vesgrauf.SessionRequest{URL: "https://localhost/chat"}.Head())
+	bytes := must(request.AppendHeaders(nil, head))
+	_, err := request.AppendBidirectional(nil)
+	fmt.Println("too early:", err)
 	if event, is := last(server, asked, bytes).(vesgrauf.EventSessionRequested); is {
 		path, _ := event.Fields.First(":path")
 		fmt.Println("requested:", path)
 	}
-	bytes = must(vesgrauf.AcceptSession().Append(nil))
+
+	// the server accepts
+	response := must(server.Response(0, vesgrauf.AskedSession))
+	bytes = must(response.AppendHeaders(nil, vesgrauf.AcceptSession().Head()))
 	asked.Answer(200)
 	if event, is := last(client, asking, bytes).(vesgrauf.EventSessionReady); is {
-		fmt.Println("ready:", event.Status)
+		fmt.Println("ready:", event.Status, request.Connected())
 	}
 
 	// a bidirectional stream of the session: 4 at the client
-	bytes = append(must(vesgrauf.AppendWebTransport(nil, 0)), "hello"...)
+	bytes = append(must(request.AppendBidirectional(nil)), "hello"...)
 	stream := server.Accept(4)
 	received := server.Receive(stream, bytes, true)
 	if event, is := received.Event.(vesgrauf.EventJoins); is {
@@ -68,11 +75,67 @@ func Example() {
 	if event, is := received.Event.(vesgrauf.EventStreamData); is {
 		fmt.Printf("data: %s\n", event.Bytes)
 	}
+
+	// the server closes the session
+	bytes = must(response.AppendClose(nil, 7, "bye"))
+	server.Abandon(asked)
+	if event, is := last(client, asking, bytes).(vesgrauf.EventSessionClosed); is {
+		fmt.Println("closed:", event.Code, event.Reason)
+	}
 	// Output:
 	// allowed: true
+	// too early: vesgrauf: the session is not open
 	// requested: /chat
-	// ready: 200
+	// ready: 200 <nil>
 	// data: hello
+	// closed: 7 bye
+}
+
+// A response with content, whose bytes are sent in two pieces.
+func ExampleSending() {
+	connection := must(vesgrauf.NewConnection(vesgrauf.ServerEndpoint(limits)))
+	sending := must(connection.Response(0, vesgrauf.AskedOther))
+	_, err := sending.AppendData(nil, 5)
+	fmt.Println("no head yet:", err == vesgrauf.SendUnexpected)
+	out := must(sending.AppendHeaders(nil, vesgrauf.FieldList{
+		{Name: ":status", Value: "200"}, {Name: "content-length", Value: "5"},
+	}))
+	out = must(sending.AppendData(out, 5)) // the head of a DATA frame
+	out = append(out, "he"...)
+	fmt.Println("sent:", sending.Sent(2), sending.Owed())
+	fmt.Println("missing:", sending.Finish() == vesgrauf.SendDataMissing)
+	out = append(out, "llo"...)
+	fmt.Println("sent:", sending.Sent(3), sending.Owed())
+	_, err = sending.AppendData(out, 1)
+	fmt.Println("too long:", err == vesgrauf.RuleContentTooLong)
+	fmt.Println("finished:", sending.Finish()) // the QUIC stream is to be ended after out
+	fmt.Printf("%q\n", out[len(out)-7:])
+	// Output:
+	// no head yet: true
+	// sent: <nil> 3
+	// missing: true
+	// sent: <nil> 0
+	// too long: true
+	// finished: <nil>
+	// "\x00\x05hello"
+}
+
+func ExampleControlSending() {
+	endpoint := vesgrauf.ServerEndpoint(limits)
+	control := must(vesgrauf.NewConnection(endpoint)).Control()
+	out := must(control.AppendSettings(nil, endpoint.Settings(16))) // the first bytes of the stream
+	_, err := control.AppendSettings(out, endpoint.Settings(16))
+	fmt.Println("again:", err)
+	// the connection is to end: no more requests are to come, and the one on the stream 0 was the last
+	out = must(control.AppendGoAway(out, vesgrauf.LargestRequest))
+	out = must(control.AppendGoAway(out, 4))
+	_, err = control.AppendGoAway(out, 8)
+	fmt.Println("8:", err)
+	fmt.Println(control.LastGoAway())
+	// Output:
+	// again: vesgrauf: this may not be sent now
+	// 8: vesgrauf: the ID is above the last one
+	// 4 true
 }
 
 func ExampleConnection_Receive() {
@@ -167,9 +230,14 @@ func ExampleSettings() {
 func ExampleSessionRequest() {
 	request := vesgrauf.SessionRequest{URL: "https://example.com:4433/chat?room=1"}
 	request.Fields = vesgrauf.FieldList{{Name: "origin", Value: "https://example.com"}}
-	frame := must(request.Append(nil))
-	fmt.Println(frame[0] == byte(vesgrauf.FrameHeaders))
-	// Output: true
+	head := must(request.Head())
+	fmt.Println(head.First(":authority"))
+	fmt.Println(head.First(":path"))
+	fmt.Println(head.First("origin"))
+	// Output:
+	// example.com:4433 true
+	// /chat?room=1 true
+	// https://example.com true
 }
 
 func ExampleFrameCursor() {

@@ -1,5 +1,7 @@
 package vesgrauf
 
+import "strconv"
+
 // What messages are made of: settings, fields, requests and responses, GOAWAY.
 
 // SettingID is the identifier of a setting: one of SettingH3Datagram and the others, or any number.
@@ -50,8 +52,8 @@ func ReadSettings(payload []byte) (Settings, error) { return cSettingsRead(paylo
 // identifier is one of HTTP/2, or a known or reserved one is repeated; and [ErrMemory].
 func (settings Settings) Append(out []byte) ([]byte, error) { return cSettingsWrite(out, settings) }
 
-// AppendControlStream appends what a control stream starts with: its header and the SETTINGS frame. The errors are
-// those of Append.
+// AppendControlStream appends what a control stream starts with: its header and the SETTINGS frame. A
+// [ControlSending] does so once. The errors are those of Append.
 func (settings Settings) AppendControlStream(out []byte) ([]byte, error) {
 	payload, err := settings.Append(nil)
 	if err != nil {
@@ -106,8 +108,8 @@ type FieldList []Field
 func DecodeFields(section []byte) (FieldList, error) { return cFieldsRead(section) }
 
 // Append appends the field section of the list: each text in the Huffman code if that is shorter. That a message may
-// have these fields is for the caller to check: [SessionRequest] and [SessionResponse] do so. The error is
-// [ErrInvalid] if a name or a value is not UTF-8, and [ErrMemory].
+// have these fields is for the caller to check: a [Sending] does so. The error is [ErrInvalid] if a name or a value is
+// not UTF-8, and [ErrMemory].
 func (list FieldList) Append(out []byte) ([]byte, error) { return cFieldsWrite(out, list) }
 
 // First returns the first value of a name, and whether there is one.
@@ -150,7 +152,20 @@ type SessionRequest struct {
 	Fields FieldList
 }
 
-// Append appends the HEADERS frame of the request.
+// Head returns the fields of the request, for [Sending.AppendHeaders]: the pseudo-header fields, and then Fields. The
+// errors are those of Append.
+func (request SessionRequest) Head() (FieldList, error) {
+	frame, err := request.Append(nil)
+	if err != nil {
+		return nil, err
+	}
+	// after the type, which is one byte, and the length
+	_, size := FirstVarint(frame[1:])
+	return DecodeFields(frame[1+size:])
+}
+
+// Append appends the HEADERS frame of the request, for programs with a connection of their own: what Head says,
+// encoded.
 //
 // The error is [ErrInvalid] if the URL is not one, or its scheme is not https; if the name of a field is empty,
 // starts with a colon, has an upper-case letter or is no token; or if a value has a control character other than a
@@ -201,7 +216,13 @@ func AcceptSession() SessionResponse {
 	return SessionResponse{200, FieldList{{"sec-webtransport-http3-draft", "draft02"}}}
 }
 
-// Append appends the HEADERS frame of the response. The error is [ErrInvalid] if the status is not from 100 to 599,
+// Head returns the fields of the response, for [Sending.AppendHeaders], which checks them: :status, and then Fields.
+func (response SessionResponse) Head() FieldList {
+	head := FieldList{{":status", strconv.FormatUint(uint64(response.Status), 10)}}
+	return append(head, response.Fields...)
+}
+
+// Append appends the HEADERS frame of the response, for programs with a connection of their own. The error is [ErrInvalid] if the status is not from 100 to 599,
 // or for a field that [SessionRequest.Append] rejects; and [ErrMemory].
 func (response SessionResponse) Append(out []byte) ([]byte, error) {
 	return cResponseWrite(out, response.Status, response.Fields)

@@ -78,8 +78,10 @@ type reading struct {
 	pushed *PushedStream
 	bytes  []byte
 	fin    bool
-	data   int
-	text   strings.Builder
+	// all of the content, and how much of it is not in the text yet
+	content []byte
+	data    int
+	text    strings.Builder
 }
 
 // player is a connection whose streams come in pieces. Requests for sessions are answered with a status.
@@ -216,14 +218,19 @@ func (p *player) expectEmpty(piece []byte) {
 func (read *reading) tell(event Event) {
 	switch event := event.(type) {
 	case EventData:
-		read.data += len(event.Bytes)
+		read.add(event.Bytes)
 	case EventStreamData:
-		read.data += len(event.Bytes)
+		read.add(event.Bytes)
 	case EventOpened, EventSkipped:
 	default:
 		read.flush()
 		read.text.WriteString(textOf(event) + "; ")
 	}
+}
+
+func (read *reading) add(piece []byte) {
+	read.content = append(read.content, piece...)
+	read.data += len(piece)
 }
 
 func (read *reading) flush() {

@@ -58,7 +58,7 @@ func Serve(connection quic.Connection, handler Handler) error {
 	return nil
 }
 
-// Connect begins a connection at a client, and waits until sessions are allowed.
+// Connect begins a connection at a client, and waits for the SETTINGS of the server.
 func Connect(ctx context.Context, connection quic.Connection) (*Connection, error) {
 	c, err := begin(connection, vesgrauf.ClientEndpoint(limits), Handler{})
 	if err != nil {
@@ -70,11 +70,6 @@ func Connect(ctx context.Context, connection quic.Connection) (*Connection, erro
 		return nil, errClosed
 	case <-ctx.Done():
 		return nil, ctx.Err()
-	}
-	c.mutex.Lock()
-	defer c.mutex.Unlock()
-	if !c.h3.AllowsSessions() {
-		return nil, errNoSessions
 	}
 	return c, nil
 }
@@ -93,7 +88,7 @@ func begin(connection quic.Connection, endpoint vesgrauf.Endpoint, handler Handl
 	if err != nil {
 		return nil, err
 	}
-	bytes, err := endpoint.Settings(maxSessions).AppendControlStream(nil)
+	bytes, err := h3.Control().AppendSettings(nil, endpoint.Settings(maxSessions))
 	if err != nil {
 		return nil, err
 	}

@@ -19,7 +19,7 @@ type Request struct {
 
 // Respond writes the header section of the response.
 func (request *Request) Respond(response vesgrauf.SessionResponse) error {
-	bytes, err := response.Append(nil)
+	bytes, err := request.message.AppendHeaders(nil, response.Head())
 	if err != nil {
 		return err
 	}
@@ -34,14 +34,11 @@ func (request *Request) Respond(response vesgrauf.SessionResponse) error {
 
 // Write writes content of the response, in a DATA frame.
 func (request *Request) Write(bytes []byte) (int, error) {
-	head, err := vesgrauf.AppendFrameHead(nil, vesgrauf.FrameData, uint64(len(bytes)))
-	if err != nil {
-		return 0, err
+	frame, err := request.message.AppendContent(nil, bytes)
+	if err == nil {
+		_, err = request.Stream.Write(frame)
 	}
-	if _, err = request.Stream.Write(head); err != nil {
-		return 0, err
-	}
-	return request.Stream.Write(bytes)
+	return len(bytes), err
 }
 
 // Ending is how a session ended.
@@ -107,8 +104,7 @@ func (session *Session) Open(ctx context.Context) (*Stream, error) {
 	}
 	state := vesgrauf.StreamOfSession(session.stream.id)
 	s := newStream(session.connection, uint64(stream.StreamID()), state, stream, stream)
-	head, err := vesgrauf.AppendWebTransport(nil, session.stream.id)
-	return session.begin(s, head, err)
+	return session.begin(s, session.stream.message.AppendBidirectional)
 }
 
 // OpenUni opens a unidirectional stream of the session.
@@ -118,36 +114,38 @@ func (session *Session) OpenUni(ctx context.Context) (*Stream, error) {
 		return nil, err
 	}
 	s := newStream(session.connection, uint64(stream.StreamID()), nil, stream, nil)
-	header := vesgrauf.StreamHeader{Kind: vesgrauf.StreamWebTransport, Session: session.stream.id}
-	head, err := header.Append(nil)
-	return session.begin(s, head, err)
+	return session.begin(s, session.stream.message.AppendUnidirectional)
 }
 
 // begin registers a stream that was opened here, and writes what it begins with.
-func (session *Session) begin(s *Stream, head []byte, err error) (*Stream, error) {
+func (session *Session) begin(s *Stream, head func(out []byte) ([]byte, error)) (*Stream, error) {
 	c := session.connection
 	s.session = session
 	c.mutex.Lock()
 	session.own[s] = true
-	isOver := c.sessions[session.stream.id] != session
+	bytes, err := head(nil)
+	if c.sessions[session.stream.id] != session {
+		err = errClosed
+	}
 	c.mutex.Unlock()
-	if isOver {
+	if err != nil {
 		s.cancel(vesgrauf.WebTransportSessionGone)
-		return nil, errClosed
+		return nil, err
 	}
-	if err == nil {
-		_, err = s.Write(head)
-	}
+	_, err = s.Write(bytes)
 	return s, err
 }
 
 // Send sends a datagram. It waits until quic-go has put it in a packet.
 func (session *Session) Send(payload []byte) error {
-	bytes, err := vesgrauf.Datagram{Session: session.stream.id, Payload: payload}.Append(nil)
+	c := session.connection
+	c.mutex.Lock()
+	head, err := session.stream.message.AppendDatagram(nil)
+	c.mutex.Unlock()
 	if err != nil {
 		return err
 	}
-	return session.connection.quic.SendMessage(bytes)
+	return c.quic.SendMessage(append(head, payload...))
 }
 
 // Datagrams has the datagrams that come.
@@ -155,18 +153,16 @@ func (session *Session) Datagrams() <-chan []byte { return session.datagrams }
 
 // Close closes the session, with a code and a reason of the application.
 func (session *Session) Close(code uint32, reason string) error {
-	capsule, err := vesgrauf.CloseWebTransportSession{Code: code, Reason: reason}.Append(nil)
+	c := session.connection
+	c.mutex.Lock()
+	bytes, err := session.stream.message.AppendClose(nil, code, reason)
+	c.mutex.Unlock()
 	if err != nil {
 		return err
 	}
-	frame, err := vesgrauf.AppendFrame(nil, vesgrauf.FrameData, capsule)
-	if err != nil {
-		return err
-	}
-	if _, err = session.stream.Write(frame); err == nil {
+	if _, err = session.stream.Write(bytes); err == nil {
 		err = session.stream.Close()
 	}
-	c := session.connection
 	c.mutex.Lock()
 	defer c.mutex.Unlock()
 	c.h3.Abandon(session.stream.state)
@@ -176,7 +172,7 @@ func (session *Session) Close(code uint32, reason string) error {
 
 // Open asks the server for the session at a URL, and waits for its answer.
 func (c *Connection) Open(ctx context.Context, url string) (*Session, error) {
-	bytes, err := vesgrauf.SessionRequest{URL: url}.Append(nil)
+	fields, err := vesgrauf.SessionRequest{URL: url}.Head()
 	if err != nil {
 		return nil, err
 	}
@@ -188,8 +184,16 @@ func (c *Connection) Open(ctx context.Context, url string) (*Session, error) {
 	s := newStream(c, uint64(stream.StreamID()), c.h3.Open(vesgrauf.AskedSession), stream, stream)
 	s.isOfClient = true
 	c.streams[s.id] = s
+	var bytes []byte
+	if s.message, err = c.h3.Request(s.id); err == nil {
+		bytes, err = s.message.AppendHeaders(nil, fields)
+	}
 	c.mutex.Unlock()
-	if _, err = s.Write(bytes); err != nil {
+	if err == nil {
+		_, err = s.Write(bytes)
+	}
+	if err != nil {
+		s.cancel(vesgrauf.H3RequestCancelled)
 		return nil, err
 	}
 	for {
@@ -200,10 +204,10 @@ func (c *Connection) Open(ctx context.Context, url string) (*Session, error) {
 		switch event := event.(type) {
 		case vesgrauf.EventSessionReady:
 			c.mutex.Lock()
-			session := newSession(s, event.Fields)
+			session, err := newSession(s, event.Fields), s.message.Connected()
 			c.mutex.Unlock()
 			go c.follow(s)
-			return session, nil
+			return session, err
 		case vesgrauf.EventRejected:
 			s.Close()
 			go c.follow(s)
@@ -261,6 +265,9 @@ func (c *Connection) serve(s *Stream) {
 		case vesgrauf.EventHeaders:
 			request := &Request{s, event.Fields}
 			c.handler.Request(request)
+			if s.message.Finish() != nil {
+				s.resetWith(vesgrauf.H3InternalError) // the response is not whole
+			}
 			s.Close()
 			io.Copy(io.Discard, s) // what is left of its content
 			c.forget(s)

@@ -11,9 +11,8 @@ import (
 )
 
 var (
-	errClosed     = errors.New("the connection is closed")
-	errNoSessions = errors.New("the server allows no sessions")
-	errStream     = errors.New("the stream has an error")
+	errClosed = errors.New("the connection is closed")
+	errStream = errors.New("the stream has an error")
 )
 
 // ResetError says that the peer reset a stream of a session with a code of the application, or with another code.
@@ -34,9 +33,10 @@ func resetError(number quic.StreamErrorCode) *ResetError {
 type Stream struct {
 	id         uint64
 	connection *Connection
-	isOfClient bool             // it is that of a session that was asked for here
-	session    *Session         // of a stream that was opened here
-	state      *vesgrauf.Stream // guarded by the connection's mutex; nil if nothing is received
+	isOfClient bool              // it is that of a session that was asked for here
+	session    *Session          // of a stream that was opened here
+	state      *vesgrauf.Stream  // guarded by the connection's mutex; nil if nothing is received
+	message    *vesgrauf.Sending // guarded by it if the message opens a session
 
 	// of the goroutine that reads
 	receive quic.ReceiveStream
@@ -180,6 +180,12 @@ func (s *Stream) step() (vesgrauf.Event, <-chan struct{}) {
 	case vesgrauf.EventSettings:
 		close(c.isReady)
 		c.change()
+	case vesgrauf.EventHeaders:
+		s.respondTo(vesgrauf.AskedOf(event.Fields))
+	case vesgrauf.EventSessionRequested:
+		s.respondTo(vesgrauf.AskedSession)
+	case vesgrauf.EventTooLarge:
+		s.respondTo(vesgrauf.AskedOther)
 	case vesgrauf.EventDatagram:
 		c.deliver(s.id, event.Payload)
 	case vesgrauf.EventSessionClosed:
@@ -188,6 +194,13 @@ func (s *Stream) step() (vesgrauf.Event, <-chan struct{}) {
 		c.endSession(s.id, Ending{Lost: true})
 	}
 	return received.Event, changed
+}
+
+// respondTo begins the response to a request, once; a client has begun its request. The mutex is locked.
+func (s *Stream) respondTo(asked vesgrauf.Asked) {
+	if s.message == nil {
+		s.message, _ = s.connection.h3.Response(s.id, asked) // no error ended the connection
+	}
 }
 
 // readMore appends what comes next on the stream. quic-go credits the peer with what is read.

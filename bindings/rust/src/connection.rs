@@ -5,6 +5,7 @@ mod resumption;
 pub use self::pushed::{Pushed, PushedStream};
 use crate::error::Code;
 use crate::event::{event_of, unknown, Event, Purpose, Received};
+use crate::fields::FieldList;
 use crate::settings::{SettingId, Settings};
 use crate::stream::Stream;
 use crate::sys;
@@ -113,7 +114,7 @@ impl Endpoint {
     }
 }
 
-/// What an own request asks for, as far as the meaning of its response depends on it.
+/// What a request asks for, as far as the meaning of its response depends on it.
 #[derive(Clone, Copy, Debug, PartialEq, Eq)]
 pub enum Asked {
     /// A HEAD request, whose responses have no content.
@@ -124,6 +125,27 @@ pub enum Asked {
     Session,
     /// Any other request.
     Other,
+}
+
+impl Asked {
+    /// Returns what a request with these fields asks for, by its `:method`: one that came as
+    /// [`Event::Headers`]. One that came as [`Event::SessionRequested`] is [`Asked::Session`].
+    pub fn of(fields: &FieldList) -> Self {
+        match fields.first(b":method") {
+            Some(b"HEAD") => Asked::Head,
+            Some(b"CONNECT") => Asked::Connect,
+            _ => Asked::Other,
+        }
+    }
+
+    pub(crate) fn number(self) -> u32 {
+        match self {
+            Asked::Other => sys::WT_ASKED_OTHER,
+            Asked::Head => sys::WT_ASKED_HEAD,
+            Asked::Connect => sys::WT_ASKED_CONNECT,
+            Asked::Session => sys::WT_ASKED_SESSION,
+        }
+    }
 }
 
 /// What is known of the session of a stream or a datagram.
@@ -212,14 +234,14 @@ impl std::error::Error for InvalidEndpoint {}
 
 /// The receiving half of a connection: what is next on each stream of the peer, with messages and
 /// sessions. It has no socket and no table of streams: the caller keeps a [`Stream`] for each stream, and
-/// the bytes that were not consumed.
+/// the bytes that were not consumed. What is sent is a [`Sending`](crate::Sending)'s.
 ///
 /// # Panics
 ///
 /// A call panics only if the library breaks what its header says.
 #[derive(Clone, Debug)]
 pub struct Connection {
-    state: sys::Connection,
+    pub(crate) state: sys::Connection,
     /// Memory for the fields, the texts, reasons and datagrams of one call.
     fields: Vec<sys::Field>,
     out: Vec<u8>,
@@ -246,15 +268,14 @@ impl Connection {
 
     /// Creates the state of the response to an own request, by what the request asks for.
     pub fn open(&self, asked: Asked) -> Stream {
-        Stream::new(sys::stream_of_request(
-            &self.state,
-            match asked {
-                Asked::Other => sys::WT_ASKED_OTHER,
-                Asked::Head => sys::WT_ASKED_HEAD,
-                Asked::Connect => sys::WT_ASKED_CONNECT,
-                Asked::Session => sys::WT_ASKED_SESSION,
-            },
-        ))
+        Stream::new(sys::stream_of_request(&self.state, asked.number()))
+    }
+
+    /// Returns whether an error ended the connection. A stop of the own control stream would be one, but none
+    /// comes after another: a copy of the state is asked.
+    pub(crate) fn is_over(&self) -> bool {
+        let mut copy = self.state;
+        sys::stopped(&mut copy, sys::WT_PURPOSE_CONTROL).0 == sys::WT_OK
     }
 
     /// Returns whether the settings of both ends allow sessions, which they do not before the SETTINGS of

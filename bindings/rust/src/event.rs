@@ -124,18 +124,19 @@ pub enum Event<'a> {
     Settings(&'a [u8]),
     /// GOAWAY: at a client the ID of the first request that is not processed, at a server that of a push
     /// (RFC 9114, section 5.2). A client sends no new request. What is sent is
-    /// [`Goaway`](crate::goaway::Goaway).
+    /// [`ControlSending::goaway`](crate::ControlSending::goaway).
     GoAway(u64),
     /// Another frame of the control stream: its type and its payload.
     Frame(u64, &'a [u8]),
     /// A field section of the message: what it is, and its fields. At a server a CONNECT request waits
     /// then for [`Stream::answer`](crate::Stream::answer).
     Headers(HeadersKind, FieldList),
-    /// At a server, the header section of a request for a session. Write a
-    /// [`SessionResponse`](crate::session::SessionResponse), and then call
+    /// At a server, the header section of a request for a session. Send a
+    /// [`SessionResponse`](crate::session::SessionResponse) by a [`Sending`](crate::Sending), and then call
     /// [`Stream::answer`](crate::Stream::answer).
     SessionRequested(FieldList),
-    /// At a client, the header section of the response that accepts a session, with its status.
+    /// At a client, the header section of the response that accepts a session, with its status: call
+    /// [`Sending::connected`](crate::Sending::connected).
     SessionReady(u32, FieldList),
     /// At a client, that of a final response that does not accept a session, with its status. What
     /// follows is the rest of an ordinary response.

@@ -12,9 +12,7 @@ use core::fmt;
 /// ```
 /// use vesgrauf::fields::FieldList;
 ///
-/// let mut list = FieldList::new();
-/// list.push(b":status", b"200");
-/// list.push(b"set-cookie", b"a=1");
+/// let mut list = FieldList::from([(":status", "200"), ("set-cookie", "a=1")]);
 /// list.push(b"set-cookie", b"b=2");
 /// let mut section = Vec::new();
 /// list.encode(&mut section)?;
@@ -79,11 +77,7 @@ impl FieldList {
     }
 
     /// Appends the field section of the list: each text in the Huffman code if that is shorter. That a
-    /// message may have these fields is for the caller to check: [`SessionRequest`] and
-    /// [`SessionResponse`] do so.
-    ///
-    /// [`SessionRequest`]: crate::session::SessionRequest
-    /// [`SessionResponse`]: crate::session::SessionResponse
+    /// message may have these fields is for the caller to check: a [`Sending`](crate::Sending) does so.
     ///
     /// # Errors
     ///
@@ -146,6 +140,20 @@ impl FieldList {
     fn line(&self, field: &sys::Field) -> (&[u8], &[u8]) {
         let text = |offset: usize, length: usize| &self.texts[offset..offset + length];
         (text(field.name_offset, field.name_length), text(field.value_offset, field.value_length))
+    }
+}
+
+impl<N: AsRef<[u8]>, V: AsRef<[u8]>> FromIterator<(N, V)> for FieldList {
+    fn from_iter<I: IntoIterator<Item = (N, V)>>(lines: I) -> Self {
+        let mut list = FieldList::new();
+        lines.into_iter().for_each(|(name, value)| list.push(name.as_ref(), value.as_ref()));
+        list
+    }
+}
+
+impl<N: AsRef<[u8]>, V: AsRef<[u8]>, const SIZE: usize> From<[(N, V); SIZE]> for FieldList {
+    fn from(lines: [(N, V); SIZE]) -> Self {
+        lines.into_iter().collect()
     }
 }
 

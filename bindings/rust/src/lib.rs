@@ -15,39 +15,40 @@
 //! | what is read at most | [`Limits`], in an [`Endpoint`] |
 //! | a QUIC library that gives each byte once | [`PushedStream`], [`Connection::receive_pushed`] |
 //! | the settings of the peer, 0-RTT | [`settings::PeerSettings`], [`Connection::resuming`] |
-//! | what is sent | [`Endpoint::settings`], [`session`], [`frame`], [`stream_header`], [`datagram`], [`capsule`], [`goaway`] |
+//! | what is sent | [`Sending`] for a message and its session, [`ControlSending`]; what they do not send is [`Refused`] |
 //! | clients that reset their requests | [`budget::RequestBudget`] |
-//! | fields of messages | [`fields::FieldList`] |
+//! | fields of messages | [`fields::FieldList`], [`session::SessionRequest`], [`session::SessionResponse`] |
 //! | error codes, names, those of applications | [`error::Code`], [`error::application_codes`] |
-//! | one stream, below a connection of your own | [`frame::FrameCursor`], [`capsule::CapsuleCursor`], [`settings::Settings`], [`varint`] |
+//! | one stream, below a connection of your own | [`frame`], [`stream_header`], [`datagram`], [`capsule`], [`goaway`], [`settings::Settings`], [`varint`] |
 //!
 //! # A server
 //!
 //! QUIC is configured with the ALPN protocol [`WEBTRANSPORT_ALPN`], with datagrams, and so that the peer may
 //! open at least three unidirectional streams beside those of its sessions. For each QUIC connection a server
-//! keeps a [`Connection`], and for each stream a [`Stream`] with the bytes that were not consumed.
+//! keeps a [`Connection`] and a [`ControlSending`], for each stream a [`Stream`] with the bytes that were not
+//! consumed, and for each request a [`Sending`].
 //!
-//! 1. At the start it opens a unidirectional stream and sends what
-//!    [`Settings::write_control_stream`](settings::Settings::write_control_stream) writes. It stays open.
+//! 1. At the start it opens a unidirectional stream and sends what [`ControlSending::settings`] appends. It
+//!    stays open.
 //! 2. For each stream of the peer: [`Connection::accept`], and [`Connection::receive`] with its bytes.
-//! 3. It does what the comment of each [`Event`] says.
+//! 3. It does what the comment of each [`Event`] says. It answers a request by a [`Sending`]: the bytes of
+//!    [`Sending::headers`], and after those of a CONNECT [`Stream::answer`]. The [`Sending`] of a session has
+//!    the first bytes of its streams and datagrams.
 //! 4. It reads streams that [wait](Event::Waits) again: for a session after that was answered or ended, for
 //!    SETTINGS after they came, for an answer after [`Stream::answer`]. One that waits for its session is given
 //!    to [`Connection::join`] first, with what is [known](Connection::known) now.
 //! 5. A reset of a stream, a request to stop it and a datagram go to [`Connection::reset`],
 //!    [`Connection::stop`] (or [`Connection::stopped`]) and [`Connection::datagram`].
-//! 6. To close a session it writes what
-//!    [`CloseWebTransportSession`](capsule::CloseWebTransportSession) shows on the session's stream, ends its
-//!    half of the stream, and calls [`Connection::abandon`]. In each case the streams of a session that is over
-//!    are reset and stopped.
+//! 6. To close a session it sends what [`Sending::close`] appends on the session's stream, ends its half of the
+//!    stream, and calls [`Connection::abandon`]. In each case the streams of a session that is over are reset
+//!    and stopped.
 //! 7. After the end of a stream its [`Stream`] may be dropped, that of a session too: a server's
 //!    [`Connection`] knows which requests have begun. A client keeps those of its sessions. One that is dropped
 //!    before its end is [abandoned](Connection::abandon) first.
 //! 8. It counts requests that are answered, and those that are reset before, in a
 //!    [`RequestBudget`](budget::RequestBudget).
-//! 9. To end the connection it writes [`Goaway`](goaway::Goaway) frames on its control stream, answers the
-//!    requests that it processes, and closes the connection with
-//!    [`H3_NO_ERROR`](error::Code::H3_NO_ERROR).
+//! 9. To end the connection it sends what [`ControlSending::goaway`] appends, answers the requests that it
+//!    processes, and closes the connection with [`H3_NO_ERROR`](error::Code::H3_NO_ERROR).
 //!
 //! Only the bytes that were consumed are to be credited to the peer, so that QUIC's flow control bounds what
 //! waits: with a library such as quinn, which credits what is read, a stream is read no further while bytes of
@@ -75,7 +76,7 @@
 //!
 //! ```
 //! use vesgrauf::session::{SessionRequest, SessionResponse};
-//! use vesgrauf::{Asked, Connection, Endpoint, Event, Limits, Stream, Waits};
+//! use vesgrauf::{Asked, Connection, ControlSending, Endpoint, Event, Limits, Refused, Sending, Stream};
 //!
 //! const LIMITS: Limits = Limits { max_section: 65_536, max_fields: 65_536, max_datagram: 1_500 };
 //!
@@ -99,30 +100,34 @@
 //!
 //! // each sends its SETTINGS on its first unidirectional stream: the client on 2, the server on 3
 //! let (mut bytes, mut control) = (Vec::new(), server.accept(2));
-//! client_end.settings(0).write_control_stream(&mut bytes)?;
+//! ControlSending::new(&client).settings(&client_end.settings(0), &mut bytes)?;
 //! assert!(matches!(last(&mut server, &mut control, &bytes), Event::Settings(_)));
 //! let (mut bytes, mut control) = (Vec::new(), client.accept(3));
-//! server_end.settings(16).write_control_stream(&mut bytes)?;
+//! ControlSending::new(&server).settings(&server_end.settings(16), &mut bytes)?;
 //! assert!(matches!(last(&mut client, &mut control, &bytes), Event::Settings(_)));
 //! assert!(client.allows_sessions());
 //!
-//! // the client asks on its stream 0, and the server accepts
+//! // the client asks on its stream 0, and may not send on the session before the answer
 //! let (mut bytes, mut asking) = (Vec::new(), client.open(Asked::Session));
-//! SessionRequest::new("https://localhost/chat").write(&mut bytes)?;
+//! let mut request = Sending::request(&client, 0)?;
+//! request.headers(&SessionRequest::new("https://localhost/chat").fields()?, &mut bytes)?;
+//! assert_eq!(request.bidirectional(&mut Vec::new()), Err(Refused::SessionNotOpen));
 //! let mut asked = server.accept(0);
 //! match last(&mut server, &mut asked, &bytes) {
 //!     Event::SessionRequested(fields) => assert_eq!(fields.first(b":path"), Some(&b"/chat"[..])),
 //!     event => panic!("{event:?}"),
 //! }
-//! assert_eq!(asked.waits(), Some(Waits::Answer));
-//! let mut bytes = Vec::new();
-//! SessionResponse::ok().write(&mut bytes)?;
+//!
+//! // the server accepts
+//! let (mut bytes, mut response) = (Vec::new(), Sending::response(&server, 0, Asked::Session)?);
+//! response.headers(&SessionResponse::ok().fields(), &mut bytes)?;
 //! asked.answer(200);
 //! assert!(matches!(last(&mut client, &mut asking, &bytes), Event::SessionReady(200, _)));
+//! request.connected()?;
 //!
 //! // a bidirectional stream of the session: 4 at the client
 //! let mut bytes = Vec::new();
-//! vesgrauf::frame::write_webtransport(0, &mut bytes)?;
+//! request.bidirectional(&mut bytes)?;
 //! bytes.extend_from_slice(b"hello");
 //! let mut stream = server.accept(4);
 //! let received = server.receive(&mut stream, &bytes, true);
@@ -131,6 +136,15 @@
 //! assert_eq!(server.join(&mut stream, known), Event::Joined(0));
 //! let received = server.receive(&mut stream, &bytes[received.consumed..], true);
 //! assert_eq!(received.event, Event::StreamData(b"hello"));
+//!
+//! // the server closes the session
+//! let mut bytes = Vec::new();
+//! response.close(7, "bye", &mut bytes)?;
+//! server.abandon(&mut asked);
+//! match last(&mut client, &mut asking, &bytes) {
+//!     Event::SessionClosed(close) => assert_eq!((close.code(), close.reason()), (7, "bye")),
+//!     event => panic!("{event:?}"),
+//! }
 //! # Ok(())
 //! # }
 //! ```
@@ -173,6 +187,7 @@ pub mod fields;
 pub mod frame;
 pub mod goaway;
 pub mod malformed;
+pub mod sending;
 pub mod session;
 pub mod settings;
 pub mod stream;
@@ -185,6 +200,7 @@ pub use connection::{
     Asked, Connection, DatagramFor, Endpoint, Known, Limits, Pushed, PushedStream, Side,
 };
 pub use event::{Close, Event, HeadersKind, Purpose, Received, Waits};
+pub use sending::{ControlSending, Refused, Sending};
 pub use stream::Stream;
 
 /// The ALPN protocol ID that a QUIC connection for WebTransport negotiates (RFC 9114, section 3.1).

@@ -3,20 +3,22 @@
 use crate::error::{ReadError, WriteError};
 use crate::fields::FieldList;
 use crate::sys;
-use alloc::string::String;
+use crate::varint::first_varint;
+use alloc::string::{String, ToString};
 use alloc::vec::Vec;
 use core::fmt;
 
-/// The request for a session, as a client writes it.
+/// The request for a session, as a client sends it.
 ///
 /// ```
 /// use vesgrauf::session::SessionRequest;
 ///
 /// let mut request = SessionRequest::new("https://example.com:4433/chat?room=1");
 /// request.insert(b"origin", b"https://example.com");
-/// let mut frame = Vec::new();
-/// request.write(&mut frame)?;
-/// assert_eq!(frame[0], 0x01); // a HEADERS frame
+/// let fields = request.fields()?;
+/// assert_eq!(fields.first(b":authority"), Some(&b"example.com:4433"[..]));
+/// assert_eq!(fields.first(b":path"), Some(&b"/chat?room=1"[..]));
+/// assert_eq!(fields.get(5), Some((&b"origin"[..], &b"https://example.com"[..])));
 /// # Ok::<(), vesgrauf::error::WriteError>(())
 /// ```
 #[derive(Clone, Debug)]
@@ -37,8 +39,23 @@ impl SessionRequest {
         self.fields.push(name, value);
     }
 
-    /// Appends the HEADERS frame of the request: the pseudo-header fields, and then the fields in their
-    /// order. The URL is read as the URL Standard describes.
+    /// Returns the fields of the request, for [`Sending::headers`](crate::Sending::headers): the
+    /// pseudo-header fields, and then the fields in their order. The URL is read as the URL Standard
+    /// describes.
+    ///
+    /// # Errors
+    ///
+    /// Those of [`write`](Self::write).
+    pub fn fields(&self) -> Result<FieldList, WriteError> {
+        let mut frame = Vec::new();
+        self.write(&mut frame)?;
+        // after the type, which is one byte, and the length
+        let (_, size) = first_varint(&frame[1..]).ok_or(WriteError::Invalid)?;
+        FieldList::decode(&frame[1 + size..]).map_err(|_| WriteError::Memory)
+    }
+
+    /// Appends the HEADERS frame of the request, for programs with a connection of their own: what
+    /// [`fields`](Self::fields) says, encoded.
     ///
     /// # Errors
     ///
@@ -144,16 +161,14 @@ impl fmt::Display for HeadersParseError {
 #[cfg(feature = "std")]
 impl std::error::Error for HeadersParseError {}
 
-/// The response to a request, as a server writes it: a status, and fields.
+/// The response to a request, as a server sends it: a status, and fields.
 ///
 /// ```
 /// use vesgrauf::session::SessionResponse;
 ///
-/// let mut frame = Vec::new();
-/// SessionResponse::with_status_code(404).write(&mut frame)?;
-/// assert_eq!(frame[..2], [0x01, 0x08]); // a HEADERS frame, and the length of its field section
-/// assert_eq!(SessionResponse::read_status(&frame[2..]), Ok(404));
-/// # Ok::<(), vesgrauf::error::WriteError>(())
+/// let mut response = SessionResponse::with_status_code(404);
+/// response.add(b"content-length", b"0");
+/// assert_eq!(response.fields(), [(":status", "404"), ("content-length", "0")].into());
 /// ```
 #[derive(Clone, Debug)]
 pub struct SessionResponse {
@@ -186,7 +201,15 @@ impl SessionResponse {
         self.fields.push(name, value);
     }
 
-    /// Appends the HEADERS frame of the response.
+    /// Returns the fields of the response, for [`Sending::headers`](crate::Sending::headers), which checks
+    /// them: `:status`, and then the fields in their order.
+    pub fn fields(&self) -> FieldList {
+        let status = self.status.to_string();
+        let head = [(&b":status"[..], status.as_bytes())];
+        head.into_iter().chain(&self.fields).collect()
+    }
+
+    /// Appends the HEADERS frame of the response, for programs with a connection of their own.
     ///
     /// # Errors
     ///

@@ -129,12 +129,16 @@ impl Settings {
     /// [`WriteError::Invalid`] if a number is 2^62 or more, an identifier is one of HTTP/2, or a known or
     /// reserved one is repeated; [`WriteError::Memory`].
     pub fn write(&self, out: &mut Vec<u8>) -> Result<(), WriteError> {
-        let list = self.list.iter().map(|&(SettingId(id), value)| sys::Setting { id, value });
-        let list: Vec<_> = list.collect();
-        WriteError::result(sys::settings_write(&list, out))
+        WriteError::result(sys::settings_write(&self.words(), out))
     }
 
-    /// Appends what a control stream starts with: its header and the SETTINGS frame.
+    /// Returns the structs of the library.
+    pub(crate) fn words(&self) -> Vec<sys::Setting> {
+        self.list.iter().map(|&(SettingId(id), value)| sys::Setting { id, value }).collect()
+    }
+
+    /// Appends what a control stream starts with: its header and the SETTINGS frame. A
+    /// [`ControlSending`](crate::ControlSending) does so once.
     ///
     /// # Errors
     ///

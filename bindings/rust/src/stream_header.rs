@@ -113,6 +113,6 @@ impl StreamHeader {
     /// the type of [`StreamKind::Exercise`] is not reserved.
     pub fn write(&self, out: &mut Vec<u8>) -> Result<(), WriteError> {
         let (kind, session) = (self.kind.id(), self.session);
-        WriteError::result(sys::stream_header_write(sys::StreamHeader { kind, session }, out))
+        WriteError::result(sys::stream_header_write(&sys::StreamHeader { kind, session }, out))
     }
 }

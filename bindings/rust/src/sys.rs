@@ -15,20 +15,19 @@ mod tests;
 pub use self::constants::*;
 use self::declarations::*;
 pub use self::declarations::{
-    Capsule, CapsuleReader, Connection, Endpoint, Event, Field, Frame, Hold, PeerSettings, Reader,
-    RequestBudget, Setting, Stream, StreamHeader,
+    Capsule, CapsuleReader, Connection, Control, Endpoint, Event, Field, Frame, Hold, PeerSettings,
+    Reader, RequestBudget, Sending, Setting, Stream, StreamHeader,
 };
 pub use self::room::Room;
-use self::room::{expect_ok, name};
+use self::room::{event, expect_ok, is_true, name};
 use alloc::string::String;
 use alloc::vec::Vec;
-use core::cell::Cell;
 
 /// Appends what a call writes into the room that it is given, and returns the answer of the call. If
 /// that is not `WT_OK`, the bytes are unchanged. `guess`: how many bytes it is likely to write.
-fn append<F>(out: &mut Vec<u8>, guess: usize, call: F) -> i32
+fn append<F>(out: &mut Vec<u8>, guess: usize, mut call: F) -> i32
 where
-    F: Fn(*mut u8, usize, &mut usize) -> i32,
+    F: FnMut(*mut u8, usize, &mut usize) -> i32,
 {
     out.reserve(guess);
     loop {
@@ -51,6 +50,72 @@ where
 // SAFETY of every call below: the pointers are those of references and slices, with their lengths, for
 // the time of the call; those that are written are of exclusive borrows, or of the room of `append`.
 
+/// Defines functions that append what a call writes: `name(arguments) => call(what is passed), guess`.
+macro_rules! writers {
+    ($($name:ident($($argument:ident: $kind:ty),*) => $call:ident($($passed:expr),*), $guess:expr;)*) => {$(
+        pub fn $name($($argument: $kind,)* out: &mut Vec<u8>) -> i32 {
+            append(out, $guess, |out, room, used| unsafe { $call($($passed,)* out, room, used) })
+        }
+    )*};
+}
+
+/// The same for calls that say why they wrote nothing: the functions return their answer and, with
+/// WT_REFUSED, the reason.
+macro_rules! senders {
+    ($($name:ident($($argument:ident: $kind:ty),*) => $call:ident($($passed:expr),*), $guess:expr;)*) => {$(
+        pub fn $name($($argument: $kind,)* out: &mut Vec<u8>) -> (i32, u32) {
+            let mut why = 0;
+            let answer = append(out, $guess, |out, room, used| unsafe {
+                $call($($passed,)* out, room, used, &mut why)
+            });
+            (answer, why)
+        }
+    )*};
+}
+
+writers! {
+    varint_write(value: u64) => wt_varint_write(value), 8;
+    stream_header_write(header: &StreamHeader) => wt_stream_header_write(header), 16;
+    datagram_write(session: u64, payload: &[u8]) =>
+        wt_datagram_write(session, payload.as_ptr(), payload.len()), payload.len() + 8;
+    datagram_write_head(session: u64) => wt_datagram_write_head(session), 8;
+    frame_write(kind: u64, payload: &[u8]) =>
+        wt_frame_write(kind, payload.as_ptr(), payload.len()), payload.len() + 16;
+    frame_write_head(kind: u64, length: u64) => wt_frame_write_head(kind, length), 16;
+    session_frame_write(session: u64) => wt_session_frame_write(session), 16;
+    settings_write(list: &[Setting]) => wt_settings_write(list.as_ptr(), list.len()), 64;
+    fields_write(fields: &[Field], texts: &[u8]) =>
+        wt_fields_write(fields.as_ptr(), fields.len(), texts.as_ptr(), texts.len()), texts.len() + 64;
+    request_write(url: &[u8], fields: &[Field], texts: &[u8]) =>
+        wt_request_write(url.as_ptr(), url.len(), fields.as_ptr(), fields.len(), texts.as_ptr(),
+            texts.len()), texts.len() + url.len() + 64;
+    response_write(status: u32, fields: &[Field], texts: &[u8]) =>
+        wt_response_write(status, fields.as_ptr(), fields.len(), texts.as_ptr(), texts.len()),
+        texts.len() + 64;
+    close_write(code: u32, reason: &[u8]) =>
+        wt_close_write(code, reason.as_ptr(), reason.len()), reason.len() + 16;
+    goaway_write(side: u8, id: u64, last: &mut u64) => wt_goaway_write(side, id, last), 16;
+}
+
+senders! {
+    control_settings(control: &mut Control, list: &[Setting]) =>
+        wt_control_settings(control, list.as_ptr(), list.len()), 64;
+    control_goaway(control: &mut Control, id: u64) => wt_control_goaway(control, id), 10;
+    sending_headers(sending: &mut Sending, fields: &[Field], texts: &[u8]) =>
+        wt_sending_headers(sending, fields.as_ptr(), fields.len(), texts.as_ptr(), texts.len()),
+        texts.len() + 64;
+    sending_trailers(sending: &mut Sending, fields: &[Field], texts: &[u8]) =>
+        wt_sending_trailers(sending, fields.as_ptr(), fields.len(), texts.as_ptr(), texts.len()),
+        texts.len() + 64;
+    sending_data(sending: &mut Sending, length: u64) => wt_sending_data(sending, length), 9;
+    sending_unidirectional(sending: &Sending) => wt_sending_unidirectional(sending), 10;
+    sending_bidirectional(sending: &Sending) => wt_sending_bidirectional(sending), 10;
+    sending_datagram(sending: &Sending) => wt_sending_datagram(sending), 8;
+    sending_drain(sending: &Sending) => wt_sending_drain(sending), 7;
+    sending_close(sending: &mut Sending, code: u32, reason: &[u8]) =>
+        wt_sending_close(sending, code, reason.as_ptr(), reason.len()), reason.len() + 16;
+}
+
 pub fn version() -> u32 {
     unsafe { wt_version() }
 }
@@ -61,10 +126,6 @@ pub fn varint_read(bytes: &[u8]) -> Option<(u64, usize)> {
         WT_OK => Some((value, consumed)),
         _ => None,
     }
-}
-
-pub fn varint_write(value: u64, out: &mut Vec<u8>) -> i32 {
-    append(out, 8, |out, room, used| unsafe { wt_varint_write(value, out, room, used) })
 }
 
 pub fn varint_size(value: u64) -> usize {
@@ -79,26 +140,11 @@ pub fn stream_header_read(bytes: &[u8]) -> (i32, StreamHeader, usize, u64) {
     (answer, header, consumed, code)
 }
 
-pub fn stream_header_write(header: StreamHeader, out: &mut Vec<u8>) -> i32 {
-    append(out, 16, |out, room, used| unsafe { wt_stream_header_write(&header, out, room, used) })
-}
-
 pub fn datagram_read(bytes: &[u8]) -> (i32, u64, usize, u64) {
     let (mut session, mut offset, mut code) = (0, 0, 0);
     let (start, length) = (bytes.as_ptr(), bytes.len());
     let answer = unsafe { wt_datagram_read(start, length, &mut session, &mut offset, &mut code) };
     (answer, session, offset, code)
-}
-
-pub fn datagram_write(session: u64, payload: &[u8], out: &mut Vec<u8>) -> i32 {
-    let (start, length) = (payload.as_ptr(), payload.len());
-    append(out, length + 8, |out, room, used| unsafe {
-        wt_datagram_write(session, start, length, out, room, used)
-    })
-}
-
-pub fn datagram_write_head(session: u64, out: &mut Vec<u8>) -> i32 {
-    append(out, 8, |out, room, used| unsafe { wt_datagram_write_head(session, out, room, used) })
 }
 
 pub fn reader_new(kind: u8) -> Reader {
@@ -122,21 +168,6 @@ pub fn read_end(reader: &Reader, rest: &[u8]) -> (i32, u64) {
     (answer, code)
 }
 
-pub fn frame_write(kind: u64, payload: &[u8], out: &mut Vec<u8>) -> i32 {
-    let (start, length) = (payload.as_ptr(), payload.len());
-    append(out, length + 16, |out, room, used| unsafe {
-        wt_frame_write(kind, start, length, out, room, used)
-    })
-}
-
-pub fn frame_write_head(kind: u64, length: u64, out: &mut Vec<u8>) -> i32 {
-    append(out, 16, |out, room, used| unsafe { wt_frame_write_head(kind, length, out, room, used) })
-}
-
-pub fn session_frame_write(session: u64, out: &mut Vec<u8>) -> i32 {
-    append(out, 16, |out, room, used| unsafe { wt_session_frame_write(session, out, room, used) })
-}
-
 /// Reads settings into an array: the answer, their number or the room needed, and the error code.
 pub fn settings_read(payload: &[u8], settings: &mut [Setting]) -> (i32, usize, u64) {
     let (mut count, mut code) = (0, 0);
@@ -144,11 +175,6 @@ pub fn settings_read(payload: &[u8], settings: &mut [Setting]) -> (i32, usize, u
     let (to, room) = (settings.as_mut_ptr(), settings.len());
     let answer = unsafe { wt_settings_read(start, length, to, room, &mut count, &mut code) };
     (answer, count, code)
-}
-
-pub fn settings_write(settings: &[Setting], out: &mut Vec<u8>) -> i32 {
-    let (start, count) = (settings.as_ptr(), settings.len());
-    append(out, 64, |out, room, used| unsafe { wt_settings_write(start, count, out, room, used) })
 }
 
 pub fn setting_name(id: u64) -> Option<String> {
@@ -163,48 +189,27 @@ pub fn fields_read(
     texts: &mut [u8],
 ) -> (i32, usize, usize, u64) {
     let (mut count, mut used, mut code) = (0, 0, 0);
+    #[rustfmt::skip] // a pointer with its length on each line
     let answer = unsafe {
         wt_fields_read(
-            section.as_ptr(),
-            section.len(),
-            fields.as_mut_ptr(),
-            fields.len(),
-            texts.as_mut_ptr(),
-            texts.len(),
-            &mut count,
-            &mut used,
-            &mut code,
+            section.as_ptr(), section.len(),
+            fields.as_mut_ptr(), fields.len(),
+            texts.as_mut_ptr(), texts.len(),
+            &mut count, &mut used, &mut code,
         )
     };
     (answer, count, used, code)
 }
 
-pub fn fields_write(fields: &[Field], texts: &[u8], out: &mut Vec<u8>) -> i32 {
-    let (list, count) = (fields.as_ptr(), fields.len());
-    let (start, length) = (texts.as_ptr(), texts.len());
-    append(out, length + 64, |out, room, used| unsafe {
-        wt_fields_write(list, count, start, length, out, room, used)
-    })
-}
-
-pub fn request_write(url: &[u8], fields: &[Field], texts: &[u8], out: &mut Vec<u8>) -> i32 {
-    let (list, count) = (fields.as_ptr(), fields.len());
-    let (start, length) = (texts.as_ptr(), texts.len());
-    let (url, url_length) = (url.as_ptr(), url.len());
-    append(out, length + url_length + 64, |out, room, used| unsafe {
-        wt_request_write(url, url_length, list, count, start, length, out, room, used)
-    })
-}
-
 /// Appends the authority and the path of a request: the answer, the size of the authority, and the
 /// error code.
 pub fn request_read(section: &[u8], out: &mut Vec<u8>) -> (i32, usize, u64) {
-    let (authority, code) = (Cell::new(0), Cell::new(0));
+    let (mut authority, mut code) = (0, 0);
     let (start, length) = (section.as_ptr(), section.len());
     let answer = append(out, length, |out, room, used| unsafe {
-        wt_request_read(start, length, out, room, authority.as_ptr(), used, code.as_ptr())
+        wt_request_read(start, length, out, room, &mut authority, used, &mut code)
     });
-    (answer, authority.get(), code.get())
+    (answer, authority, code)
 }
 
 pub fn request_check(section: &[u8]) -> (i32, i32, u64) {
@@ -216,14 +221,6 @@ pub fn request_check(section: &[u8]) -> (i32, i32, u64) {
 
 pub fn request_fault_name(fault: i32) -> Option<String> {
     name(|out, room, used| unsafe { wt_request_fault_name(fault, out, room, used) })
-}
-
-pub fn response_write(status: u32, fields: &[Field], texts: &[u8], out: &mut Vec<u8>) -> i32 {
-    let (list, count) = (fields.as_ptr(), fields.len());
-    let (start, length) = (texts.as_ptr(), texts.len());
-    append(out, length + 64, |out, room, used| unsafe {
-        wt_response_write(status, list, count, start, length, out, room, used)
-    })
 }
 
 pub fn response_read(section: &[u8]) -> (i32, u16, u64) {
@@ -252,13 +249,6 @@ pub fn close_read(value: &[u8]) -> (i32, u32, u64) {
     let (start, length) = (value.as_ptr(), value.len());
     let answer = unsafe { wt_close_read(start, length, &mut app_error_code, &mut code) };
     (answer, app_error_code, code)
-}
-
-pub fn close_write(app_error_code: u32, reason: &[u8], out: &mut Vec<u8>) -> i32 {
-    let (start, length) = (reason.as_ptr(), reason.len());
-    append(out, length + 16, |out, room, used| unsafe {
-        wt_close_write(app_error_code, start, length, out, room, used)
-    })
 }
 
 pub fn code_name(code: u64) -> Option<String> {
@@ -344,22 +334,16 @@ pub fn receive(
     room: Room<'_>,
 ) -> (i32, Event) {
     let mut event = Event::default();
+    #[rustfmt::skip]
     let answer = unsafe {
         wt_receive(
-            connection,
-            stream,
-            room.held.as_mut_ptr(),
-            room.held.len(),
-            core::ptr::null_mut(),
-            0,
-            bytes.as_ptr(),
-            bytes.len(),
-            fin.into(),
-            &mut event,
-            room.fields.as_mut_ptr(),
-            room.fields.len(),
-            room.out.as_mut_ptr(),
-            room.out.len(),
+            connection, stream,
+            room.held.as_mut_ptr(), room.held.len(),
+            core::ptr::null_mut(), 0,
+            bytes.as_ptr(), bytes.len(),
+            fin.into(), &mut event,
+            room.fields.as_mut_ptr(), room.fields.len(),
+            room.out.as_mut_ptr(), room.out.len(),
         )
     };
     (answer, event)
@@ -375,25 +359,17 @@ pub fn receive_pushed(
     room: Room<'_>,
 ) -> (i32, Event) {
     let mut event = Event::default();
+    #[rustfmt::skip]
     let answer = unsafe {
         wt_receive_pushed(
-            connection,
-            stream,
-            room.held.as_mut_ptr(),
-            room.held.len(),
-            core::ptr::null_mut(),
-            0,
-            hold,
-            bytes.as_mut_ptr(),
-            bytes.len(),
-            chunk.as_ptr(),
-            chunk.len(),
-            fin.into(),
-            &mut event,
-            room.fields.as_mut_ptr(),
-            room.fields.len(),
-            room.out.as_mut_ptr(),
-            room.out.len(),
+            connection, stream,
+            room.held.as_mut_ptr(), room.held.len(),
+            core::ptr::null_mut(), 0,
+            hold, bytes.as_mut_ptr(), bytes.len(),
+            chunk.as_ptr(), chunk.len(),
+            fin.into(), &mut event,
+            room.fields.as_mut_ptr(), room.fields.len(),
+            room.out.as_mut_ptr(), room.out.len(),
         )
     };
     (answer, event)
@@ -458,13 +434,6 @@ pub fn datagram_use(known: u32) -> i32 {
     unsafe { wt_datagram_use(known) }
 }
 
-pub fn goaway_write(side: u8, id: u64, last: &mut u64, out: &mut Vec<u8>) -> i32 {
-    let last = Cell::from_mut(last);
-    append(out, 16, |out, room, used| unsafe {
-        wt_goaway_write(side, id, last.as_ptr(), out, room, used)
-    })
-}
-
 pub fn request_answered(budget: &mut RequestBudget) {
     expect_ok(unsafe { wt_request_answered(budget) });
 }
@@ -479,14 +448,46 @@ pub fn request_reset(budget: &mut RequestBudget) -> Option<u64> {
     }
 }
 
-/// Returns the event that a call writes, which cannot fail for states that the library made.
-fn event(call: impl FnOnce(&mut Event) -> i32) -> Event {
-    let mut event = Event::default();
-    expect_ok(call(&mut event));
-    event
+// What is sent. A call returns its answer, and with WT_REFUSED the reason.
+
+#[cfg(test)]
+pub fn send_reason_name(why: u32) -> Option<String> {
+    name(|out, room, used| unsafe { wt_send_reason_name(why, out, room, used) })
 }
 
-fn is_true(answer: i32) -> bool {
-    assert!(answer >= 0, "libwtransport rejected a state of its own");
-    answer == 1
+pub fn control_new(connection: &Connection) -> Control {
+    let mut control = Control::default();
+    expect_ok(unsafe { wt_control_new(connection, &mut control) });
+    control
+}
+
+pub fn sending_request(connection: &Connection, id: u64) -> (i32, Sending) {
+    let (mut sending, mut why) = (Sending::default(), 0);
+    (unsafe { wt_sending_request(connection, id, &mut sending, &mut why) }, sending)
+}
+
+pub fn sending_response(connection: &Connection, id: u64, asked: u32) -> (i32, Sending) {
+    let (mut sending, mut why) = (Sending::default(), 0);
+    (unsafe { wt_sending_response(connection, id, asked, &mut sending, &mut why) }, sending)
+}
+
+pub fn sending_sent(sending: &mut Sending, length: u64) -> (i32, u32) {
+    let mut why = 0;
+    (unsafe { wt_sending_sent(sending, length, &mut why) }, why)
+}
+
+pub fn sending_owed(sending: &Sending) -> u64 {
+    let mut owed = 0;
+    expect_ok(unsafe { wt_sending_owed(sending, &mut owed) });
+    owed
+}
+
+pub fn sending_finish(sending: &mut Sending) -> (i32, u32) {
+    let mut why = 0;
+    (unsafe { wt_sending_finish(sending, &mut why) }, why)
+}
+
+pub fn sending_connected(sending: &mut Sending) -> (i32, u32) {
+    let mut why = 0;
+    (unsafe { wt_sending_connected(sending, &mut why) }, why)
 }

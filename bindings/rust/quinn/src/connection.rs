@@ -1,17 +1,18 @@
 //! A connection of HTTP/3 and WebTransport over one of quinn.
 use crate::reader::{Item, Reader};
-use crate::request::Request;
+use crate::request::{Outcome, Request};
 use crate::session::{Queues, Session};
 use crate::{code, number};
-use bytes::Bytes;
 use quinn::{RecvStream, SendStream};
 use std::collections::HashMap;
 use std::sync::{Arc, Mutex, MutexGuard};
 use tokio::sync::{mpsc, Notify};
 use vesgrauf::error::Code;
+use vesgrauf::fields::FieldList;
 use vesgrauf::session::SessionRequest;
 use vesgrauf::{
-    Asked, Connection, DatagramFor, Endpoint, Event, Known, Limits, Purpose, Received, Side, Stream,
+    Asked, Connection, ControlSending, DatagramFor, Endpoint, Event, Known, Limits, Purpose,
+    Received, Sending, Stream,
 };
 
 /// What is read at most.
@@ -93,19 +94,6 @@ impl Shared {
     }
 }
 
-/// Why a client has no session.
-#[derive(Debug)]
-pub enum Refused {
-    /// The server answered with this status.
-    Status(u32),
-    /// The server's SETTINGS do not allow sessions.
-    NotAllowed,
-    /// The URL is not one.
-    Url,
-    /// The connection, or the request, ended.
-    Lost,
-}
-
 /// A connection of HTTP/3 and WebTransport.
 pub struct Http {
     shared: Arc<Shared>,
@@ -148,43 +136,40 @@ impl Http {
     }
 
     /// Asks for the session at a URL, at a client.
-    pub async fn connect(&self, url: &str) -> Result<Session, Refused> {
+    pub async fn connect(&self, url: &str) -> Outcome<Session> {
         self.await_settings().await?;
-        let mut bytes = Vec::new();
-        SessionRequest::new(url).write(&mut bytes).map_err(|_| Refused::Url)?;
-        let (mut send, recv) = self.shared.quic.open_bi().await.map_err(|_| Refused::Lost)?;
-        let id = number(send.id());
+        let fields = SessionRequest::new(url).fields()?;
+        let (mut send, recv) = self.shared.quic.open_bi().await?;
+        let (id, mut bytes) = (number(send.id()), Vec::new());
         let (queues, ends) = Queues::new();
-        self.shared.with(|state| {
-            let stream = state.http.open(Asked::Session);
-            state.streams.insert(id, stream);
+        let mut sending = self.shared.with(|state| {
+            state.streams.insert(id, state.http.open(Asked::Session));
             state.sessions.insert(id, queues); // streams may come right after the response
-        });
+            Sending::request(&state.http, id)
+        })?;
         let mut reader = Reader::new(&self.shared, id, recv, true);
-        send.write_all(&bytes).await.map_err(|_| Refused::Lost)?;
-        match reader.next().await {
-            Item::SessionReady(_) => Ok(Session::begin(reader, send, ends)),
-            item => {
-                self.shared.with(|state| state.sessions.remove(&id));
-                let _ = send.reset(code(Code::H3_REQUEST_CANCELLED));
-                Err(match item {
-                    Item::Rejected(status) => Refused::Status(status),
-                    _ => Refused::Lost,
-                })
-            }
+        sending.headers(&fields, &mut bytes)?;
+        send.write_all(&bytes).await?;
+        let item = reader.next().await;
+        if let Item::SessionReady(_) = item {
+            sending.connected()?;
+            return Ok(Session::begin(reader, send, sending, ends));
         }
+        self.shared.with(|state| state.sessions.remove(&id));
+        let _ = send.reset(code(Code::H3_REQUEST_CANCELLED));
+        Err(format!("no session: {item:?}").into())
     }
 
     /// Waits for the server's SETTINGS.
-    async fn await_settings(&self) -> Result<(), Refused> {
+    async fn await_settings(&self) -> Outcome<()> {
         loop {
             let changed = self.shared.changed.notified();
-            if self.shared.with(|state| state.http.allows_sessions()) {
+            if self.shared.with(|state| state.http.settings().came) {
                 return Ok(());
             }
             tokio::select! {
                 _ = changed => {}
-                _ = self.shared.quic.closed() => return Err(Refused::NotAllowed),
+                error = self.shared.quic.closed() => return Err(error.into()),
             }
         }
     }
@@ -197,9 +182,9 @@ impl Http {
 
 /// Sends the own SETTINGS, and keeps the control stream open.
 async fn control(shared: Arc<Shared>, endpoint: Endpoint) {
-    let mut bytes = Vec::new();
-    let sessions = if endpoint.side == Side::Server { SESSIONS } else { 0 };
-    endpoint.settings(sessions).write_control_stream(&mut bytes).expect("they are valid");
+    let (settings, mut bytes) = (endpoint.settings(SESSIONS), Vec::new());
+    let mut control = shared.with(|state| ControlSending::new(&state.http));
+    control.settings(&settings, &mut bytes).expect("they are valid, and the first bytes");
     if let Ok(mut send) = shared.quic.open_uni().await {
         if send.write_all(&bytes).await.is_ok() && send.stopped().await.is_ok() {
             let fault = shared.with(|state| state.http.stopped(Purpose::Control));
@@ -253,12 +238,11 @@ async fn read_both_ways(
             let shared = reader.shared.clone();
             shared.deliver(session, |queues| queues.both_ways(send, reader));
         }
-        Item::Request(fields) => drop(requests.send(Request::new(fields, false, reader, send))),
-        Item::SessionRequested(fields) => {
-            drop(requests.send(Request::new(fields, true, reader, send)))
+        Item::Request(asked, fields) => {
+            let _ = requests.send(Request { asked, fields, reader, send });
         }
         Item::TooLarge => {
-            let request = Request::new(Default::default(), false, reader, send);
+            let request = Request { asked: Asked::Other, fields: FieldList::new(), reader, send };
             let _ = request.respond(431, &[], b"").await; // RFC 6585, section 5
         }
         Item::Failed(with) => drop(send.reset(code(with))),
@@ -291,13 +275,5 @@ async fn read_datagrams(shared: Arc<Shared>) {
             // early ones are dropped
             DatagramFor::Early | DatagramFor::Discard => {}
         }
-    }
-}
-
-/// Sends a datagram of a session. Too long ones, and those that the peer does not take, are dropped.
-pub(crate) fn send_datagram(shared: &Shared, session: u64, payload: &[u8]) {
-    let mut bytes = Vec::new();
-    if vesgrauf::datagram::Datagram::new(session, payload).write(&mut bytes).is_ok() {
-        let _ = shared.quic.send_datagram(Bytes::from(bytes));
     }
 }

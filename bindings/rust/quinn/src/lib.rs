@@ -16,8 +16,8 @@ mod request;
 mod session;
 pub mod tls;
 
-pub use connection::{Http, Refused};
-pub use request::Request;
+pub use connection::Http;
+pub use request::{Outcome, Request};
 pub use session::{Closed, Receive, Send, Session, StreamError};
 
 /// Returns a number of the library as one of quinn. Both are below 2^62.

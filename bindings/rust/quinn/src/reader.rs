@@ -6,7 +6,7 @@ use quinn::{ReadError, RecvStream};
 use std::sync::Arc;
 use vesgrauf::error::Code;
 use vesgrauf::fields::FieldList;
-use vesgrauf::{Close, Event, HeadersKind, Waits};
+use vesgrauf::{Asked, Close, Event, HeadersKind, Waits};
 
 /// How many bytes are read from QUIC at once.
 const CHUNK: usize = 64 * 1024;
@@ -14,10 +14,8 @@ const CHUNK: usize = 64 * 1024;
 /// What a stream gives, for the one who owns it.
 #[derive(Debug)]
 pub enum Item {
-    /// At a server, a request other than for a session.
-    Request(FieldList),
-    /// At a server, a request for a session.
-    SessionRequested(FieldList),
+    /// At a server, a request, by what it asks for.
+    Request(Asked, FieldList),
     /// At a client, the response that accepts a session.
     SessionReady(u32),
     /// At a client, one that does not.
@@ -177,8 +175,8 @@ impl Reader {
             _ => self.shared.changed.notify_waiters(),
         }
         Step::Item(match event {
-            Event::Headers(HeadersKind::Request, fields) => Item::Request(fields),
-            Event::SessionRequested(fields) => Item::SessionRequested(fields),
+            Event::Headers(HeadersKind::Request, list) => Item::Request(Asked::of(&list), list),
+            Event::SessionRequested(list) => Item::Request(Asked::Session, list),
             Event::SessionReady(status, _) => Item::SessionReady(status),
             Event::Rejected(status, _) => Item::Rejected(status),
             Event::Joined(session) => Item::Joined(session),

@@ -1,5 +1,5 @@
 //! A session: its streams, its datagrams and its end.
-use crate::connection::{send_datagram, Shared};
+use crate::connection::Shared;
 use crate::reader::{Item, Reader};
 use crate::{code, number};
 use bytes::Bytes;
@@ -8,17 +8,17 @@ use std::future::Future;
 use std::sync::Arc;
 use std::time::Duration;
 use tokio::sync::{mpsc, watch, Mutex};
-use vesgrauf::capsule::CloseWebTransportSession;
 use vesgrauf::error::{application_codes, Code};
-use vesgrauf::frame::{write_frame, write_webtransport, FrameKind};
-use vesgrauf::stream_header::StreamHeader;
-use vesgrauf::Stream;
+use vesgrauf::{Refused, Sending, Stream};
 
 /// How many datagrams wait for the application. More are dropped.
 const DATAGRAMS: usize = 256;
 
 /// How long the peer has to end its half of the stream of a session that is over.
 const ENDING: Duration = Duration::from_secs(5);
+
+/// A call that appends the first bytes of something of a session.
+type Head = fn(&Sending, &mut Vec<u8>) -> Result<(), Refused>;
 
 /// How a session ended.
 #[derive(Clone, Debug, PartialEq, Eq)]
@@ -87,12 +87,15 @@ pub struct Session {
     both_ways: Mutex<mpsc::UnboundedReceiver<(SendStream, Reader)>>,
     one_way: Mutex<mpsc::UnboundedReceiver<Reader>>,
     datagrams: Mutex<mpsc::Receiver<Bytes>>,
-    closes: mpsc::UnboundedSender<(u32, String)>,
+    /// What may be sent; not locked while anything waits.
+    sending: std::sync::Mutex<Sending>,
+    /// The last bytes of its stream.
+    closes: mpsc::UnboundedSender<Vec<u8>>,
     over: watch::Receiver<Option<Closed>>,
 }
 
 impl Session {
-    pub(crate) fn begin(reader: Reader, send: SendStream, ends: Ends) -> Self {
+    pub(crate) fn begin(reader: Reader, send: SendStream, sending: Sending, ends: Ends) -> Self {
         let (closes, closing) = mpsc::unbounded_channel();
         let (end, over) = watch::channel(None);
         let (shared, id) = (reader.shared.clone(), reader.id);
@@ -100,6 +103,7 @@ impl Session {
         Session {
             shared,
             id,
+            sending: std::sync::Mutex::new(sending),
             both_ways: Mutex::new(ends.both_ways),
             one_way: Mutex::new(ends.one_way),
             datagrams: Mutex::new(ends.datagrams),
@@ -116,26 +120,31 @@ impl Session {
         Receive { reader, over: self.over.clone() }
     }
 
+    /// Returns the first bytes of something of the session.
+    fn head(&self, of: Head) -> Result<Vec<u8>, StreamError> {
+        let mut bytes = Vec::new();
+        of(&self.sending.lock().unwrap(), &mut bytes).map_err(|_| StreamError::SessionGone)?;
+        Ok(bytes)
+    }
+
     /// Opens a bidirectional stream.
     pub async fn open_bi(&self) -> Result<(Send, Receive), StreamError> {
-        let mut bytes = Vec::new();
-        write_webtransport(self.id, &mut bytes).expect("it is the ID of a session");
+        let head = self.head(Sending::bidirectional)?;
         let (send, recv) = self.shared.quic.open_bi().await.map_err(|_| StreamError::Lost)?;
         let id = number(send.id());
         self.shared.with(|state| state.streams.insert(id, Stream::of_session(self.id)));
         let receive = self.receive(Reader::new(&self.shared, id, recv, false));
         let mut send = self.send(send);
-        send.write_all(&bytes).await?;
+        send.write_all(&head).await?;
         Ok((send, receive))
     }
 
     /// Opens a unidirectional stream.
     pub async fn open_uni(&self) -> Result<Send, StreamError> {
-        let mut bytes = Vec::new();
-        StreamHeader::new_webtransport(self.id).write(&mut bytes).expect("it is an ID");
+        let head = self.head(Sending::unidirectional)?;
         let send = self.shared.quic.open_uni().await.map_err(|_| StreamError::Lost)?;
         let mut send = self.send(send);
-        send.write_all(&bytes).await?;
+        send.write_all(&head).await?;
         Ok(send)
     }
 
@@ -158,14 +167,20 @@ impl Session {
         until_over(&self.over, async { self.datagrams.lock().await.recv().await }).await?
     }
 
-    /// Sends a datagram, which may be lost.
+    /// Sends a datagram, which may be lost. One that is too long, or that the peer does not take, is dropped.
     pub fn send_datagram(&self, payload: &[u8]) {
-        send_datagram(&self.shared, self.id, payload);
+        if let Ok(mut bytes) = self.head(Sending::datagram) {
+            bytes.extend_from_slice(payload);
+            let _ = self.shared.quic.send_datagram(bytes.into());
+        }
     }
 
-    /// Closes the session, with a code and a reason of at most 1,024 bytes.
+    /// Closes the session, with a code and a reason of at most 1,024 bytes; if that was done before, it waits.
     pub async fn close(&self, code: u32, reason: &str) -> Closed {
-        let _ = self.closes.send((code, reason.into()));
+        let mut bytes = Vec::new();
+        if self.sending.lock().unwrap().close(code, reason, &mut bytes).is_ok() {
+            let _ = self.closes.send(bytes);
+        }
         self.closed().await
     }
 
@@ -208,7 +223,7 @@ async fn until_over<T>(
 async fn run(
     mut reader: Reader,
     mut send: SendStream,
-    closing: mpsc::UnboundedReceiver<(u32, String)>,
+    closing: mpsc::UnboundedReceiver<Vec<u8>>,
     end: watch::Sender<Option<Closed>>,
 ) {
     let (shared, id) = (reader.shared.clone(), reader.id);
@@ -224,7 +239,7 @@ async fn run(
 async fn until_closed(
     reader: &mut Reader,
     send: &mut SendStream,
-    mut closing: mpsc::UnboundedReceiver<(u32, String)>,
+    mut closing: mpsc::UnboundedReceiver<Vec<u8>>,
 ) -> Closed {
     let (shared, id) = (reader.shared.clone(), reader.id);
     loop {
@@ -247,8 +262,8 @@ async fn until_closed(
                 }
                 return Closed::Lost;
             }
-            Some((code, reason)) = closing.recv() => {
-                if write_close(send, code, &reason).await.is_ok() {
+            Some(bytes) = closing.recv() => {
+                if send.write_all(&bytes).await.is_ok() {
                     // until the peer has it: the connection may be closed right after
                     let _ = tokio::time::timeout(ENDING, send.finish()).await;
                     shared.with(|state| state.abandon(id));
@@ -266,14 +281,6 @@ async fn finish(mut reader: Reader, mut send: SendStream, here: bool) {
     }
     let _ = send.finish().await;
     while matches!(reader.next().await, Item::Data(_) | Item::Datagram(_)) {}
-}
-
-/// Writes the capsule that closes a session, in a DATA frame.
-async fn write_close(send: &mut SendStream, code: u32, reason: &str) -> Result<(), ()> {
-    let (mut capsule, mut bytes) = (Vec::new(), Vec::new());
-    CloseWebTransportSession::new(code, reason).write(&mut capsule).map_err(|_| ())?;
-    write_frame(FrameKind::Data, &capsule, &mut bytes).map_err(|_| ())?;
-    send.write_all(&bytes).await.map_err(|_| ())
 }
 
 /// The own half of a stream of a session. Dropped, it ends the half, or resets it if the session is over.

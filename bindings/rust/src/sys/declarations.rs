@@ -129,6 +129,18 @@ pub struct RequestBudget {
     pub resets: u64,
 }
 
+#[repr(C)]
+#[derive(Clone, Copy, Debug, Default, PartialEq, Eq)]
+pub struct Sending {
+    pub words: [u64; 12],
+}
+
+#[repr(C)]
+#[derive(Clone, Copy, Debug, Default, PartialEq, Eq)]
+pub struct Control {
+    pub words: [u64; 8],
+}
+
 #[rustfmt::skip] // a line for each call, which a test reads
 extern "C" {
     pub fn wt_version() -> u32;
@@ -191,4 +203,23 @@ extern "C" {
     pub fn wt_goaway_write(side: u8, id: u64, last: *mut u64, out: *mut u8, room: usize, used: *mut usize) -> i32;
     pub fn wt_request_answered(budget: *mut RequestBudget) -> i32;
     pub fn wt_request_reset(budget: *mut RequestBudget, error_code: *mut u64) -> i32;
+    #[cfg(test)]
+    pub fn wt_send_reason_name(why: u32, out: *mut i8, room: usize, used: *mut usize) -> i32;
+    pub fn wt_control_new(connection: *const Connection, control: *mut Control) -> i32;
+    pub fn wt_control_settings(control: *mut Control, settings: *const Setting, count: usize, out: *mut u8, room: usize, used: *mut usize, why: *mut u32) -> i32;
+    pub fn wt_control_goaway(control: *mut Control, id: u64, out: *mut u8, room: usize, used: *mut usize, why: *mut u32) -> i32;
+    pub fn wt_sending_request(connection: *const Connection, id: u64, sending: *mut Sending, why: *mut u32) -> i32;
+    pub fn wt_sending_response(connection: *const Connection, id: u64, asked: u32, sending: *mut Sending, why: *mut u32) -> i32;
+    pub fn wt_sending_headers(sending: *mut Sending, fields: *const Field, fields_length: usize, texts: *const u8, texts_length: usize, out: *mut u8, room: usize, used: *mut usize, why: *mut u32) -> i32;
+    pub fn wt_sending_data(sending: *mut Sending, length: u64, out: *mut u8, room: usize, used: *mut usize, why: *mut u32) -> i32;
+    pub fn wt_sending_sent(sending: *mut Sending, length: u64, why: *mut u32) -> i32;
+    pub fn wt_sending_owed(sending: *const Sending, owed: *mut u64) -> i32;
+    pub fn wt_sending_trailers(sending: *mut Sending, fields: *const Field, fields_length: usize, texts: *const u8, texts_length: usize, out: *mut u8, room: usize, used: *mut usize, why: *mut u32) -> i32;
+    pub fn wt_sending_finish(sending: *mut Sending, why: *mut u32) -> i32;
+    pub fn wt_sending_connected(sending: *mut Sending, why: *mut u32) -> i32;
+    pub fn wt_sending_unidirectional(sending: *const Sending, out: *mut u8, room: usize, used: *mut usize, why: *mut u32) -> i32;
+    pub fn wt_sending_bidirectional(sending: *const Sending, out: *mut u8, room: usize, used: *mut usize, why: *mut u32) -> i32;
+    pub fn wt_sending_datagram(sending: *const Sending, out: *mut u8, room: usize, used: *mut usize, why: *mut u32) -> i32;
+    pub fn wt_sending_drain(sending: *const Sending, out: *mut u8, room: usize, used: *mut usize, why: *mut u32) -> i32;
+    pub fn wt_sending_close(sending: *mut Sending, code: u32, reason: *const u8, length: usize, out: *mut u8, room: usize, used: *mut usize, why: *mut u32) -> i32;
 }

@@ -1,5 +1,5 @@
 //! What the calls of `sys` write to, and what their answers mean.
-use super::{append, Field, WT_OK};
+use super::{append, Event, Field, WT_OK};
 use alloc::string::String;
 use alloc::vec::Vec;
 
@@ -25,4 +25,16 @@ where
 /// Panics if the library rejects a state that it made.
 pub fn expect_ok(answer: i32) {
     assert!(answer == WT_OK, "libwtransport rejected a state of its own: {answer}");
+}
+
+/// Returns the event that a call writes, which cannot fail for states that the library made.
+pub fn event(call: impl FnOnce(&mut Event) -> i32) -> Event {
+    let mut event = Event::default();
+    expect_ok(call(&mut event));
+    event
+}
+
+pub fn is_true(answer: i32) -> bool {
+    assert!(answer >= 0, "libwtransport rejected a state of its own");
+    answer == 1
 }

@@ -130,6 +130,8 @@ fn structs_are_those_of_the_header() {
             in_array "uint8_t", reserved "uint8_t[6]" }),
         layout!(RequestBudget "wt_request_budget" { excess "uint64_t", answers "uint64_t",
             resets "uint64_t" }),
+        layout!(Sending "wt_sending" { words "uint64_t[12]" }),
+        layout!(Control "wt_control" { words "uint64_t[8]" }),
     ];
     // `type` is no name of Rust
     let listed: Vec<String> = lines("struct ")

@@ -41,11 +41,13 @@ impl Random {
     }
 }
 
-/// The events of a stream as text, and a piece of its content.
+/// The events of a stream as text, and its content.
 #[derive(Default)]
 pub struct Events {
-    data: Vec<u8>,
-    text: String,
+    pub text: String,
+    pub content: Vec<u8>,
+    /// How many bytes of the content are not in the text yet.
+    data: usize,
 }
 
 /// A stream of the peer: what was not consumed, whether it ended, and its events.
@@ -53,7 +55,7 @@ pub struct Read {
     pub pushed: PushedStream,
     bytes: Vec<u8>,
     fin: bool,
-    events: Events,
+    pub events: Events,
 }
 
 /// A connection whose streams come in pieces. Requests for sessions are answered with `status`.
@@ -111,9 +113,7 @@ impl Player {
 
     /// Returns the events of a stream as text, in which pieces of content that follow each other are one.
     pub fn text(&mut self, id: u64) -> String {
-        let events = &mut self.streams.get_mut(&id).unwrap().events;
-        flush(events);
-        events.text.clone()
+        flush(&mut self.streams.get_mut(&id).unwrap().events).into()
     }
 
     fn wake(&mut self, id: u64) {
@@ -176,9 +176,12 @@ impl Player {
 }
 
 /// Appends an event to the text of its stream.
-fn tell(events: &mut Events, event: &Event<'_>) {
+pub fn tell(events: &mut Events, event: &Event<'_>) {
     match event {
-        Event::Data(bytes) | Event::StreamData(bytes) => events.data.extend_from_slice(bytes),
+        Event::Data(bytes) | Event::StreamData(bytes) => {
+            events.content.extend_from_slice(bytes);
+            events.data += bytes.len();
+        }
         Event::Opened(_) | Event::Skipped => {}
         event => {
             flush(events);
@@ -187,9 +190,11 @@ fn tell(events: &mut Events, event: &Event<'_>) {
     }
 }
 
-fn flush(events: &mut Events) {
-    if !events.data.is_empty() {
-        write!(events.text, "data {}; ", events.data.len()).unwrap();
-        events.data.clear();
+/// Returns the events as text, in which pieces of content that follow each other are one.
+pub fn flush(events: &mut Events) -> &str {
+    if events.data > 0 {
+        write!(events.text, "data {}; ", events.data).unwrap();
+        events.data = 0;
     }
+    &events.text
 }

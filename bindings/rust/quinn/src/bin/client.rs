@@ -118,7 +118,7 @@ async fn connection(
 /// One session from its request to its end.
 async fn session(http: &Http, counts: &Counts, key: u64, by_server: bool) -> Outcome {
     let url = "https://localhost/echo";
-    let session = http.connect(url).await.map_err(|error| format!("no session: {error:?}"))?;
+    let session = http.connect(url).await.map_err(|error| error.to_string())?;
     let echoes = async {
         for stream in 0..STREAMS {
             echo(&session, key + stream).await?;

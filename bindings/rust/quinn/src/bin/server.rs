@@ -133,9 +133,8 @@ async fn session(server: Arc<Server>, request: Request) {
             server.streams.fetch_add(1, Relaxed);
             let (server, session) = (server.clone(), session.clone());
             tokio::spawn(async move {
-                if let Err(StreamError::Peer(code)) = echo(&session, send, receive).await {
+                if let Err(StreamError::Peer(_)) = echo(&session, send, receive).await {
                     server.resets.fetch_add(1, Relaxed);
-                    drop(code);
                 }
             });
         }
