@@ -1,0 +1,11 @@
+use Rattle.wtp_pairs.proofs.DataLemmas.{data_read, content_read, end_read}
+use Rattle.wtp_pairs.proofs.laws.content_is_received.Goals as goal
+
+pub returns-clause-data : goal.returns-clause-data
+returns-clause-data c = data_read
+
+pub returns-clause-bytes : goal.returns-clause-bytes
+returns-clause-bytes c = content_read
+
+pub returns-clause-end : goal.returns-clause-end
+returns-clause-end c = end_read
