@@ -45,9 +45,9 @@ use Rattle.wtp_webtransport.specs.Receiving.{Outcome, Receives, counted, EndBy, 
 use Rattle.wtp_webtransport.proofs.CallLemmas.{goes_of}
 use Rattle.wtp_pairs.specs.Reads.{IsGoing}
 use Rattle.wtp_pairs.specs.Messages.{IsBehind, IsInContent, AgreesAt, IsFor, Agrees, IsWithin, IsSectionRead, IsPieceOf, IsDataRead, IsContentRead, IsMessage, WithContent, WithTrailers}
-use Rattle.wtp_pairs.proofs.CallLemmas.{Finds, find, frames_seen, before}
+use Rattle.wtp_pairs.proofs.CallLemmas.{Finds, find, frames_seen}
 use Rattle.wtp_pairs.proofs.ReaderLemmas.{data_first, data_part, trailers_first, trailers_part}
-use Rattle.wtp_pairs.proofs.MessageLemmas.{AfterIt, agrees_at, level, same_message, section_call, section_waits, section_role}
+use Rattle.wtp_pairs.proofs.MessageLemmas.{AfterIt, agrees_at, level, same_message, section_reads, section_waits, section_role}
 use Rattle.wtp_pairs.proofs.ContentLemmas.{after_piece, content_piece}
 
 -- ---- in the content
@@ -220,14 +220,10 @@ trailers_read limit e c old new fields t going within a h =
     let u : Stream = with_part (with_frames t (frames.Frames next true)) (part.Body new.message) in
     let role_is : new.role ≡ old.role = ap (λ (s : Sending). s.role) h.others in (
       u,
-      record {
-        whole = λ more fin o g memory.
-            section_call limit e c t (reads_data e at.interims reading.Body at.streamed 0) next at.given old.message new.message section.Trailers fields (headers_wire fields) more fin o going within a.read frames_is (AfterIt part_is)
-            (trailers_first e at.interims at.streamed (section_of fields) more h.framed within.encoded) h.are.comes g memory
-            ∙ ap (λ (k : ℕ). (k, Headers headers.Trailers fields, c, u)) (before (headers_wire fields) more);
-        part = λ x b o parts some g. section_waits limit c t (reads_data e at.interims reading.Body at.streamed 0) at.given old.message x o going a.read frames_is (AfterIt part_is)
-            (trailers_part e at.interims at.streamed (section_of fields) x b h.framed within.encoded parts some) g;
-      },
+      section_reads limit e c t (reads_data e at.interims reading.Body at.streamed 0) next at.given old.message new.message section.Trailers fields (Headers headers.Trailers fields) u going within a.read frames_is (AfterIt part_is)
+          (λ more. trailers_first e at.interims at.streamed (section_of fields) more h.framed within.encoded)
+          (λ x b parts some. trailers_part e at.interims at.streamed (section_of fields) x b h.framed within.encoded parts some)
+          h.are.comes refl (λ start end bytes. refl),
       agrees_at e new u sent.Trailers 0 new.message
           (section_role old.message.stage old.message new.message fields section.Trailers h.are.comes ∙ a.own ∙ sym role_is)
           (ap (λ (s : Sending). s.place) h.others) (ap (λ (s : Sending). s.owed) h.others ∙ h.none) refl a.read

@@ -1,5 +1,5 @@
 -- The heads of messages, as the other end receives them.
-use Rattle.std.proofs.Common.{◌≡◌, ℕ, ◌+◌, ◌<◌, ◌&&◌, Bool, true, false, cond, List, ◌++◌, Option, Some, None, Ok, refl, sym, ap, subst, ◌∙◌, arith}
+use Rattle.std.proofs.Common.{◌≡◌, ℕ, ◌+◌, ◌<◌, ◌&&◌, Bool, true, false, cond, List, Option, Some, None, Ok, refl, sym, ap, subst, ◌∙◌, arith}
 use Rattle.wtp_qpack.specs.Field.{Field}
 use Rattle.wtp_qpack.specs.FieldSection.{section_of}
 use Rattle.wtp_frames.specs.declared.endpoint.Endpoint.{Endpoint}
@@ -33,10 +33,13 @@ use Rattle.wtp_webtransport.specs.Events.{Told, Headers, SessionRequested}
 use Rattle.wtp_webtransport.specs.Sessions.{asks_by, asks_connect, asks_session, allows_sessions}
 use Rattle.wtp_webtransport.specs.Streams.{with_frames, with_part, with_session, connects}
 use Rattle.wtp_webtransport.specs.Receiving.{span_in, takes, taken_of, request_by, interim_by, response_in, in_connection}
+use Rattle.wtp_webtransport.specs.Calls.{Continues, course_of}
+use Rattle.wtp_qpack.specs.FieldSection.{section_of}
+use Rattle.wtp_messages.specs.Message.{SectionComes}
 use Rattle.wtp_pairs.specs.Reads.{IsGoing}
 use Rattle.wtp_pairs.specs.Messages.{AgreesAt, IsFor, Agrees, IsWithin, IsSectionRead, response_told}
-use Rattle.wtp_pairs.proofs.CallLemmas.{before}
-use Rattle.wtp_pairs.proofs.MessageLemmas.{IsAnswer, Early, Final, request_found, response_comes, level, at_head, head_agrees, head_call, head_waits, starts_at, ends_at}
+use Rattle.wtp_pairs.proofs.MessageLemmas.{IsAnswer, Early, Final, BeforeIt, request_found, response_comes, level, at_head, head_agrees, section_reads}
+use Rattle.wtp_pairs.proofs.ReaderLemmas.{head_first, head_part}
 
 -- ---- requests
 
@@ -56,17 +59,15 @@ content_at e k m t = record {
 }
 
 -- the call, by what it takes
-pub taken_call : (limit : ℕ) (e : Endpoint) (c : Connection) (old new : Sending) (fields : List Field) (t u : Stream) (y : Section) (told : Told) (a : Agrees e old t) (h : SendsHead old fields new) → IsGoing c → IsWithin e limit fields → h.head.found ≡ y
+pub taken_call : (limit : ℕ) (e : Endpoint) (c : Connection) (old new : Sending) (fields : List Field) (t u : Stream) (y : Section) (told : Told) (a : Agrees e old t) (h : SendsHead old fields new) → IsGoing c → IsWithin e limit fields → h.head.found ≡ y → course_of told ≡ Continues
     → ((start end : ℕ) (bytes : List ℕ) → takes c (head_stream e (interims_of old.place) t) new.message fields (span_in start end bytes) (taken_of (Ok y)) ≡ (end, told, c, u))
     → IsSectionRead limit c t (headers_wire fields) told c u
-taken_call limit e c old new fields t u y told a h going within is gives = record {
-  whole = λ more fin o g memory.
-      head_call limit e c old new fields t more fin o a h going within g memory
-      ∙ ap (λ (x : Section). takes c (head_stream e (interims_of old.place) t) new.message fields (span_in (starts_at (headers_wire fields) more (section_of fields)) (ends_at (headers_wire fields) more) (headers_wire fields ++ more)) (taken_of (Ok x))) is
-      ∙ gives (starts_at (headers_wire fields) more (section_of fields)) (ends_at (headers_wire fields) more) (headers_wire fields ++ more)
-      ∙ ap (λ (n : ℕ). (n, told, c, u)) (before (headers_wire fields) more);
-  part = λ x b o parts some g. head_waits limit e c old new fields t x b o a h going within parts some g;
-}
+taken_call limit e c old new fields t u y told a h going within is continues gives =
+    let at = (at_head e old fields new t a h).0 in
+    section_reads limit e c t (awaiting e (interims_of old.place)) (reads_data e (interims_of old.place) reading.Body false 0) at.given old.message new.message y fields told u going within a.read at.frames (BeforeIt at.part)
+    (λ more. head_first e (interims_of old.place) (section_of fields) more h.framed within.encoded)
+    (λ x b parts some. head_part e (interims_of old.place) (section_of fields) x b h.framed within.encoded parts some)
+    (subst (λ (z : Section). SectionComes old.message.stage old.message fields (Ok z) new.message) is h.head.comes) continues gives
 
 -- a request that is no CONNECT
 pub request_read : (limit : ℕ) (e : Endpoint) (c : Connection) (old new : Sending) (fields : List Field) (t : Stream) (extended : Bool) → IsGoing c → IsWithin e limit fields → Agrees e old t → old.role ≡ role.Request extended → SendsHead old fields new → is_connect fields ≡ false
@@ -75,7 +76,7 @@ request_read limit e c old new fields t extended going within a is h plain =
     let found_is = request_found old.message.stage extended old.message new.message fields h.head.found old.peer (interims_of old.place) (a.own ∙ is) h.head.comes h.head.allowed in
     let u : Stream = with_part (head_stream e (interims_of old.place) t) (part.Body new.message) in (
       u,
-      taken_call limit e c old new fields t u (found.Request (found_is.0)) (Headers headers.Request fields) a h going within (found_is.1)
+      taken_call limit e c old new fields t u (found.Request (found_is.0)) (Headers headers.Request fields) a h going within (found_is.1) refl
           (λ start end bytes. ap (λ (b : Bool). request_by (asks_by c b (asks_for_session fields)) c (head_stream e (interims_of old.place) t) new.message fields (span_in start end bytes)) plain),
       head_agrees e old new fields t u sent.Content a h
           (sym h.head.leads ∙ ap (λ (y : Section). after_head old.role (interims_of old.place) fields y) (found_is.1) ∙ ap (λ (b : Bool). cond b (sent.Connecting (asks_for_session fields)) sent.Content) plain)
@@ -89,7 +90,7 @@ session_read limit e c old new fields t extended going within a is h connects_it
     let found_is = request_found old.message.stage extended old.message new.message fields h.head.found old.peer (interims_of old.place) (a.own ∙ is) h.head.comes h.head.allowed in
     let u : Stream = with_session (with_part (head_stream e (interims_of old.place) t) (part.Unanswered true new.message)) in (
       u,
-      taken_call limit e c old new fields t u (found.Request (found_is.0)) (SessionRequested fields) a h going within (found_is.1)
+      taken_call limit e c old new fields t u (found.Request (found_is.0)) (SessionRequested fields) a h going within (found_is.1) refl
           (λ start end bytes.
           ap (λ (b : Bool). request_by (asks_by c b (asks_for_session fields)) c (head_stream e (interims_of old.place) t) new.message fields (span_in start end bytes)) connects_it
           ∙ ap (λ (b : Bool). request_by (asks_connect c (c.endpoint.webtransport && b)) c (head_stream e (interims_of old.place) t) new.message fields (span_in start end bytes)) asks_it
@@ -156,7 +157,7 @@ interim_read limit e c old new fields t a status k going within client agrees is
         let u : Stream = with_frames t (frames.Frames (awaiting e (n + 1)) true) in
         let allowed : n < 64 = subst (λ (y : Section). IsAllowed old.peer n fields y) f h.head.allowed in (
           u,
-          taken_call limit e c old new fields t u (found.Interim r) (Headers (headers.Interim status) fields) agrees h going within f
+          taken_call limit e c old new fields t u (found.Interim r) (Headers (headers.Interim status) fields) agrees h going within f refl
               (λ start end bytes.
               ap (λ (b : Bool). interim_by c (head_stream e n t) r.status fields (span_in start end bytes) (cond b (c.streams, frames.Frames (reads_data e n reading.Body false 0) true, None) (tells_open c.streams (frames.Frames (reads_data e n reading.Body false 0) true)))) going.streams
               ∙ ap (λ (x : Reader × Option StreamFault). interim_by c (head_stream e n t) r.status fields (span_in start end bytes) (by_interim c.streams true x)) (one_more e n client allowed)
@@ -194,6 +195,13 @@ final_gives asked.Connect false c t m status fields start end bytes = refl
 final_gives asked.Session true c t m status fields start end bytes = refl
 final_gives asked.Session false c t m status fields start end bytes = refl
 final_gives asked.Other b c t m status fields start end bytes = refl
+
+final_continues : (a : Asked) (b : Bool) (status : ℕ) (fields : List Field) → course_of (response_told a b status fields) ≡ Continues
+final_continues asked.Head b status fields = refl
+final_continues asked.Connect b status fields = refl
+final_continues asked.Session true status fields = refl
+final_continues asked.Session false status fields = refl
+final_continues asked.Other b status fields = refl
 
 final_leads : (a : Asked) (status : ℕ) → after_response (role.Response a) status ≡ final_place a (is_success (Some status))
 final_leads asked.Head status = refl
@@ -268,7 +276,7 @@ response_read limit e c old new fields t a status going within agrees is h s fin
         let u : Stream = final_stream a (is_success (Some status)) t2 new.message in
         let asks : t.asked ≡ Some a = subst (λ (q : Role). IsFor q t.asked) is agrees.asked in (
           u,
-          taken_call limit e c old new fields t u (found.Response r) (response_told a (is_success (Some status)) status fields) agrees h going within f
+          taken_call limit e c old new fields t u (found.Response r) (response_told a (is_success (Some status)) status fields) agrees h going within f (final_continues a (is_success (Some status)) status fields)
               (λ start end bytes.
               ap (λ (w : ℕ). in_connection c (response_in t.asked (is_success (Some w)) t2 new.message w fields (span_in start end bytes))) same
               ∙ ap (λ (o : Option Asked). in_connection c (response_in o (is_success (Some status)) t2 new.message status fields (span_in start end bytes))) asks

@@ -1,5 +1,5 @@
 -- Field sections, as the other end receives them.
-use Rattle.std.proofs.Common.{◌≡◌, ℕ, ◌≤◌, Bool, false, List, Result, Ok, Err, refl, ap, subst, ◌∙◌, arith}
+use Rattle.std.proofs.Common.{◌≡◌, ℕ, ◌≤◌, Bool, false, List, Result, Ok, Err, refl, ap, subst, ◌∙◌, arith, ◌-◌}
 use Rattle.std.specs.List.{flat_map}
 use Rattle.wtp_qpack.specs.Field.{Field, AreOctets}
 use Rattle.wtp_qpack.specs.FieldLine.{encoded_line}
@@ -16,7 +16,9 @@ use Rattle.wtp_messages.specs.declared.message.Section.TheVariants as found
 use Rattle.wtp_messages.specs.Message.{SectionComes}
 use Rattle.wtp_webtransport.specs.declared.connection.Connection.{Connection}
 use Rattle.wtp_webtransport.specs.declared.stream.Stream.{Stream}
-use Rattle.wtp_webtransport.specs.Calls.{course_of, HasMemory, ruleless_taken}
+use Rattle.wtp_webtransport.specs.Calls.{ruleless_taken}
+use Rattle.wtp_webtransport.specs.declared.stream.Unread.TheVariants as unread
+use Rattle.wtp_webtransport.specs.Events.{NoMemory}
 use Rattle.wtp_webtransport.specs.Prefix.{names_table}
 use Rattle.wtp_webtransport.specs.Receiving.{Outcome, takes, taken_of, ReadGives, ResultGives, PrefixGives, DecodedGives, span_in}
 use Rattle.wtp_webtransport.proofs.ContentLemmas.{static_prefix}
@@ -32,16 +34,31 @@ no_table fields = static_prefix 0 (flat_map encoded_line fields) (omega arith)
 decoded : (limit : ℕ) (fields : List Field) (r : Result (List Field) FieldSectionError) → AreOctets fields → list_size fields ≤ limit → DecodesTo limit (section_of fields) r → (Lacks r → ⊥) → r ≡ Ok fields
 decoded limit fields r octets small h some = decoded_same limit (section_of fields) r (Ok fields) some (λ n. n) h (list_again limit fields octets small)
 
-lacks_not : (r : Result (List Field) FieldSectionError) (c : Connection) (s : Stream) (m : Message) (start end : ℕ) (bytes : List ℕ) (o : Outcome) → HasMemory o → ResultGives c s m (span_in start end bytes) r o → Lacks r → ⊥
-lacks_not (Err section_error.Memory) c s m start end bytes o h g l = h (ap (λ (w : Outcome). course_of w.1) g)
-lacks_not other c s m start end bytes o h g l = l
+-- what comes of a section that was sent: it is read, or memory was wanting
+pub data Comes (c : Connection) (s : Stream) (m : Message) (fields : List Field) (start end : ℕ) (bytes : List ℕ) (o : Outcome) : Type 0 where
+  Reads : ReadGives c s m fields (span_in start end bytes) o → Comes c s m fields start end bytes o
+  Lacking : o ≡ (start, NoMemory, c, record s { unread = unread.Section (end - start) }) → Comes c s m fields start end bytes o
 
-pub section_read : (limit : ℕ) (c : Connection) (s : Stream) (m : Message) (start end : ℕ) (bytes : List ℕ) (fields : List Field) (o : Outcome) → AreOctets fields → list_size fields ≤ limit → slice start end bytes ≡ section_of fields → HasMemory o → DecodedGives limit c s m (span_in start end bytes) bytes o → ReadGives c s m fields (span_in start end bytes) o
-section_read limit c s m start end bytes fields o octets small same memory h =
+comes_by : (limit : ℕ) (c : Connection) (s : Stream) (m : Message) (fields : List Field) (start end : ℕ) (bytes : List ℕ) (o : Outcome) (r : Result (List Field) FieldSectionError) → AreOctets fields → list_size fields ≤ limit → DecodesTo limit (section_of fields) r → ResultGives c s m (span_in start end bytes) r o → Comes c s m fields start end bytes o
+comes_by limit c s m fields start end bytes o (Ok xs) octets small h g =
+    Reads (subst (λ (r : Result (List Field) FieldSectionError). ResultGives c s m (span_in start end bytes) r o) (decoded limit fields (Ok xs) octets small h (λ n. n)) g)
+comes_by limit c s m fields start end bytes o (Err section_error.Memory) octets small h g = Lacking g
+comes_by limit c s m fields start end bytes o (Err section_error.TooLarge) octets small h g =
+    absurd (no_error section_error.TooLarge (decoded limit fields (Err section_error.TooLarge) octets small h (λ n. n)))
+  where
+    no_error : (e : FieldSectionError) → ◌≡◌ {A = Result (List Field) FieldSectionError} (Err e) (Ok fields) → ⊥
+    no_error e is = cc
+comes_by limit c s m fields start end bytes o (Err (section_error.Decoding e)) octets small h g =
+    absurd (no_error (section_error.Decoding e) (decoded limit fields (Err (section_error.Decoding e)) octets small h (λ n. n)))
+  where
+    no_error : (x : FieldSectionError) → ◌≡◌ {A = Result (List Field) FieldSectionError} (Err x) (Ok fields) → ⊥
+    no_error x is = cc
+
+pub section_comes : (limit : ℕ) (c : Connection) (s : Stream) (m : Message) (start end : ℕ) (bytes : List ℕ) (fields : List Field) (o : Outcome) → AreOctets fields → list_size fields ≤ limit → slice start end bytes ≡ section_of fields → DecodedGives limit c s m (span_in start end bytes) bytes o → Comes c s m fields start end bytes o
+section_comes limit c s m start end bytes fields o octets small same h =
     let at : names_table (slice start end bytes) ≡ false = ap names_table same ∙ no_table fields in
     let g : PrefixGives false limit c s m (span_in start end bytes) bytes o = subst (λ (b : Bool). PrefixGives b limit c s m (span_in start end bytes) bytes o) at h in
-    let is : g.0 ≡ Ok fields = decoded limit fields g.0 octets small (subst (λ (l : List ℕ). DecodesTo limit l g.0) same g.1) (lacks_not g.0 c s m start end bytes o memory g.2) in
-    subst (λ (r : Result (List Field) FieldSectionError). ResultGives c s m (span_in start end bytes) r o) is g.2
+    comes_by limit c s m fields start end bytes o g.0 octets small (subst (λ (l : List ℕ). DecodesTo limit l g.0) same g.1) g.2
 
 -- ---- it is accepted as what was sent
 

@@ -1,5 +1,5 @@
 -- How far the receiving end of a message's stream is, beside what the other end sent (RFC 9114, section 4.1).
-use Rattle.std.specs.Prelude.{◌≡◌, ℕ, ◌+◌, ◌<◌, ◌≤◌, Bool, true, false, List, ◌++◌, length, Option, Some}
+use Rattle.std.specs.Prelude.{◌≡◌, ℕ, ◌+◌, ◌-◌, ◌<◌, ◌≤◌, Bool, true, false, List, ◌++◌, length, Option, Some, drop}
 use Rattle.wtp_qpack.specs.Field.{Field, AreOctets}
 use Rattle.wtp_qpack.specs.FieldSection.{section_of}
 use Rattle.wtp_fields.specs.FieldList.{list_size}
@@ -26,7 +26,7 @@ use Rattle.wtp_webtransport.specs.declared.stream.Unread.TheVariants as unread
 use Rattle.wtp_webtransport.specs.Calls.{HasMemory}
 use Rattle.wtp_webtransport.specs.Capsules.{between}
 use Rattle.wtp_webtransport.specs.declared.event.HeadersKind.TheVariants as headers
-use Rattle.wtp_webtransport.specs.Events.{Told, Headers, SessionReady, Rejected, Data, More}
+use Rattle.wtp_webtransport.specs.Events.{Told, Headers, SessionReady, Rejected, Data, NoMemory, More}
 use Rattle.wtp_webtransport.specs.Receiving.{Outcome, Receives, counted}
 use Rattle.wtp_webtransport.specs.Streams.{stream_of, with_frames, with_head}
 
@@ -110,13 +110,36 @@ pub record IsWithin (e : Endpoint) (limit : ℕ) (fields : List Field) : Type 0 
   pub encoded : length (section_of fields) ≤ e.max_section
   pub decoded : list_size fields ≤ limit
 
--- As IsReadAs, for HEADERS, which are decoded into memory. Where that fails, the call with the bytes that are
--- left returns the event.
+-- The call returned NoMemory after the first bytes of what was sent. With the rest of them the next call returns
+-- the event, or NoMemory again; before all of them came it needs more.
+pub record IsUnread (limit : ℕ) (c : Connection) (sent : List ℕ) (told : Told) (d : Connection)
+    (t : Stream) (o : Outcome) : Type 0 where
+  pub event : o.1 ≡ NoMemory
+  pub connection : o.2 ≡ c
+  pub within : o.0 ≤ length sent
+  pub again :
+      (more : List ℕ) (fin : Bool) (p : Outcome)
+      → Receives limit c o.3 (drop o.0 sent ++ more) fin p → HasMemory p
+      → p ≡ (length sent - o.0, told, d, t)
+  pub still :
+      (more : List ℕ) (fin : Bool) (p : Outcome)
+      → Receives limit c o.3 (drop o.0 sent ++ more) fin p → (HasMemory p → ⊥)
+      → p ≡ (0, NoMemory, c, o.3)
+  pub part :
+      (a b : List ℕ) (fin : Bool) (p : Outcome)
+      → a ++ b ≡ drop o.0 sent → 0 < length b
+      → Receives limit c o.3 a fin p → p ≡ (0, More, c, o.3)
+
+-- As IsReadAs, for HEADERS, which are decoded into memory; where that fails, the section is read once more.
 pub record IsSectionRead (limit : ℕ) (c : Connection) (s : Stream) (sent : List ℕ) (told : Told)
     (d : Connection) (t : Stream) : Type 0 where
   pub whole :
       (more : List ℕ) (fin : Bool) (o : Outcome)
       → Receives limit c s (sent ++ more) fin o → HasMemory o → o ≡ (length sent, told, d, t)
+  pub lacking :
+      (more : List ℕ) (fin : Bool) (o : Outcome)
+      → Receives limit c s (sent ++ more) fin o → (HasMemory o → ⊥)
+      → IsUnread limit c sent told d t o
   pub part :
       (a b : List ℕ) (o : Outcome)
       → a ++ b ≡ sent → 0 < length b
