@@ -44,7 +44,7 @@ use Rattle.wtp_pairs.proofs.CallLemmas.{Finds, found_some, frames_seen, same_byt
 abbrev piece_run : Streams → List ℕ → Reader → Bool → List ℕ → StreamRun
 piece_run c piece r given rest = record { seen = bytes_seen piece; connection = c; stream = frames.Frames r given; left = rest }
 
-abbrev piece_of : List ℕ → Reader → List ℕ → Run
+abbrev pub piece_of : List ℕ → Reader → List ℕ → Run
 piece_of piece r rest = record { items = map Byte piece; reader = r; left = rest }
 
 piece_seen : (c : Streams) (f : Frames) (piece rest bytes : List ℕ) (r next : Reader) (given : Bool) → c.over ≡ false → f ≡ frames.Frames r given → first r bytes ≡ piece_of piece next rest → first_seen c f bytes ≡ piece_run c piece next given rest
@@ -60,10 +60,10 @@ some_seen [] l = absurd (omega (arith, l))
 some_seen (x ∷ piece) l = refl
 
 -- where the piece is in the bytes
-abbrev last_of : List ℕ → List ℕ → ℕ
+abbrev pub last_of : List ℕ → List ℕ → ℕ
 last_of bytes rest = length bytes - length rest
 
-abbrev start_of : List ℕ → List ℕ → List ℕ → ℕ
+abbrev pub start_of : List ℕ → List ℕ → List ℕ → ℕ
 start_of bytes piece rest = last_of bytes rest - length piece
 
 -- the call that finds it
@@ -79,7 +79,7 @@ piece_found limit c t piece rest bytes next given o some f =
       gives = subst (λ (x : Found). FoundGives limit x c (with_frames t (frames.Frames next given)) bytes o) is f.gives;
     }
 
-piece_call : (limit : ℕ) (c : Connection) (t : Stream) (r next : Reader) (given : Bool) (piece rest bytes : List ℕ) (fin : Bool) (o : Outcome) → IsGoing c → t.unread ≡ unread.Nothing → due_by t.part (length bytes == 0) ≡ due_by part.NoMessage (length bytes == 0) → t.frames ≡ frames.Frames r given → first r bytes ≡ piece_of piece next rest → 0 < length piece → Receives limit c t bytes fin o → Piece limit c t piece rest bytes next given o
+pub piece_call : (limit : ℕ) (c : Connection) (t : Stream) (r next : Reader) (given : Bool) (piece rest bytes : List ℕ) (fin : Bool) (o : Outcome) → IsGoing c → t.unread ≡ unread.Nothing → due_by t.part (length bytes == 0) ≡ due_by part.NoMessage (length bytes == 0) → t.frames ≡ frames.Frames r given → first r bytes ≡ piece_of piece next rest → 0 < length piece → Receives limit c t bytes fin o → Piece limit c t piece rest bytes next given o
 piece_call limit c t r next given piece rest bytes fin o going read idle is at some h =
     piece_found limit c t piece rest bytes next given o some
     (found_some limit c t bytes fin (piece_run c.streams piece next given rest) o (goes_of limit c t bytes fin o h going.events read idle) (piece_seen c.streams t.frames piece rest bytes r next given going.streams is at) (some_seen piece some))

@@ -56,7 +56,7 @@ in_content : (e : Endpoint) (s : Sending) (t : Stream) → Agrees e s t → s.pl
 in_content e s t a is = subst (λ (p : Place). AgreesAt e p s.owed s.message t) is a.at
 
 -- the bytes of a piece are sent
-piece_leads : (s : Sending) (piece : List ℕ) → length piece ≤ s.owed → Leads (SentBytes piece) s (after_piece s (length piece))
+pub piece_leads : (s : Sending) (piece : List ℕ) → length piece ≤ s.owed → Leads (SentBytes piece) s (after_piece s (length piece))
 piece_leads s piece l = rw (le-ltb s.owed (length piece) l) refl
 
 -- within a frame
@@ -253,7 +253,7 @@ record Ends (e : Endpoint) (s : Sending) (t : Stream) : Type 0 where
   may : by_end reader.endpoint.side reader.place (reader.remaining + 0) ≡ Ok tt
   whole : end_of s.message.stage s.message.content.left ≡ Ok tt
 
-end_seen : (c : Streams) (f : Frames) (r : Reader) (given : Bool) → c.over ≡ false → f ≡ frames.Frames r given → by_end r.endpoint.side r.place (r.remaining + 0) ≡ Ok tt → first_found true c f [] ≡ all_given c frames.Over (Ended ∷ [])
+pub end_seen : (c : Streams) (f : Frames) (r : Reader) (given : Bool) → c.over ≡ false → f ≡ frames.Frames r given → by_end r.endpoint.side r.place (r.remaining + 0) ≡ Ok tt → first_found true c f [] ≡ all_given c frames.Over (Ended ∷ [])
 end_seen c f r given over is may =
     ap (λ (x : StreamRun). at_end true x) (frames_seen c f r given [] over is ∙ ap (λ (x : Run). of_frames c given x) (first_none r))
     ∙ ap (λ (b : Bool). cond b (rests c (frames.Frames r given) []) (by_fault c (by_end r.endpoint.side r.place (r.remaining + 0)))) over

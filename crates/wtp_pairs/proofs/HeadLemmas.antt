@@ -104,9 +104,9 @@ session_read limit e c old new fields t extended going within a is h connects_it
               interims = interims_of old.place;
               streamed = false;
               given = true;
-              session = true;
               frames = refl;
               part = refl;
+              capsules = λ e. refl;
             },
             refl,
           ),
@@ -125,6 +125,40 @@ session_read limit e c old new fields t extended going within a is h connects_it
 
     enabled_by : (c : Connection) → allows_sessions c ≡ true → c.endpoint.webtransport ≡ true
     enabled_by c h = first_of c.endpoint.webtransport c.endpoint.datagrams (first_of (c.endpoint.webtransport && c.endpoint.datagrams) _ (second_of c.configured _ h))
+
+-- any other CONNECT request
+pub connect_read : (limit : ℕ) (e : Endpoint) (c : Connection) (old new : Sending) (fields : List Field) (t : Stream) (extended : Bool) → IsGoing c → IsWithin e limit fields → Agrees e old t → old.role ≡ role.Request extended → SendsHead old fields new → is_connect fields ≡ true → asks_for_session fields ≡ false
+    → (u : Stream) × IsSectionRead limit c t (headers_wire fields) (Headers headers.Request fields) c u × Agrees e new u
+connect_read limit e c old new fields t extended going within a is h connects_it asks_it =
+    let found_is = request_found old.message.stage extended old.message new.message fields h.head.found old.peer (interims_of old.place) (a.own ∙ is) h.head.comes h.head.allowed in
+    let u : Stream = with_part (head_stream e (interims_of old.place) t) (part.Unanswered false new.message) in (
+      u,
+      taken_call limit e c old new fields t u (found.Request (found_is.0)) (Headers headers.Request fields) a h going within (found_is.1) refl
+          (λ start end bytes.
+          ap (λ (b : Bool). request_by (asks_by c b (asks_for_session fields)) c (head_stream e (interims_of old.place) t) new.message fields (span_in start end bytes)) connects_it
+          ∙ ap (λ (b : Bool). request_by (asks_connect c (c.endpoint.webtransport && b)) c (head_stream e (interims_of old.place) t) new.message fields (span_in start end bytes)) asks_it
+          ∙ ap (λ (b : Bool). request_by (asks_connect c b) c (head_stream e (interims_of old.place) t) new.message fields (span_in start end bytes)) (and_false c.endpoint.webtransport)),
+      head_agrees e old new fields t u (sent.Connecting false) a h
+          (sym h.head.leads ∙ ap (λ (y : Section). after_head old.role (interims_of old.place) fields y) (found_is.1) ∙ rw (connects_it, asks_it) refl)
+          a.read refl (
+            record {
+              interims = interims_of old.place;
+              streamed = false;
+              given = true;
+              frames = refl;
+              part = refl;
+              capsules = λ e. absurd (no_true e);
+            },
+            refl,
+          ),
+    )
+  where
+    and_false : (b : Bool) → (b && false) ≡ false
+    and_false true = refl
+    and_false false = refl
+
+    no_true : false ≡ true → ⊥
+    no_true e = cc
 
 -- ---- responses
 

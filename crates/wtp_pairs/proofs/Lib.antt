@@ -9,4 +9,5 @@ pub mod HeadLemmas
 pub mod ContentLemmas
 pub mod StartLemmas
 pub mod DataLemmas
+pub mod ConnectLemmas
 pub mod CloseLemmas

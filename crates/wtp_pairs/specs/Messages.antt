@@ -53,14 +53,14 @@ pub record IsInContent (e : Endpoint) (place : Reading) (owed : ℕ) (m : Messag
   pub behind : IsBehind message owed m
   pub streaming : 0 < owed → streamed ≡ true
 
--- a CONNECT request that waits for its answer
-pub record IsAsking (e : Endpoint) (m : Message) (t : Stream) : Type 0 where
+-- a CONNECT request that waits for its answer, which asks for a session or does not
+pub record IsAsking (e : Endpoint) (session : Bool) (m : Message) (t : Stream) : Type 0 where
   pub interims : ℕ
   pub streamed : Bool
   pub given : Bool
-  pub session : Bool
   pub frames : t.frames ≡ frames.Frames (reads_data e interims reading.Body streamed 0) given
   pub part : t.part ≡ part.Unanswered session m
+  pub capsules : session ≡ true → t.capsules ≡ Some between
 
 -- in a tunnel
 pub record IsTunnel (e : Endpoint) (owed : ℕ) (t : Stream) : Type 0 where
@@ -83,7 +83,7 @@ pub record IsSession (e : Endpoint) (t : Stream) : Type 0 where
 abbrev pub AgreesAt : Endpoint → Place → ℕ → Message → Stream → Type 0
 AgreesAt e (sent.Head k) owed m t = IsBeforeHead e k m t × (owed ≡ 0)
 AgreesAt e sent.Content owed m t = IsInContent e reading.Body owed m t
-AgreesAt e (sent.Connecting session) owed m t = IsAsking e m t × (owed ≡ 0)
+AgreesAt e (sent.Connecting session) owed m t = IsAsking e session m t × (owed ≡ 0)
 AgreesAt e sent.Tunnel owed m t = IsTunnel e owed t
 AgreesAt e sent.Session owed m t = IsSession e t × (owed ≡ 0)
 AgreesAt e sent.Trailers owed m t = IsInContent e reading.AfterTrailers owed m t × (owed ≡ 0)

@@ -27,17 +27,18 @@ ghost use Rattle.wtp_sending.specs.declared.message.Place.TheVariants as sent;
 ghost use Rattle.wtp_sending.specs.declared.message.Sending.{Sending};
 ghost use Rattle.wtp_sending.specs.declared.peer.Peer.{Peer};
 ghost use Rattle.wtp_sending.specs.Control.{after_settings, goaway_bytes, after_goaway};
-ghost use Rattle.wtp_sending.specs.Message.{sending_of, headers_wire, is_head, SendsHead, SendsTrailers, after_data, after_end};
+ghost use Rattle.wtp_sending.specs.Message.{sending_of, headers_wire, is_head, SendsHead, SendsTrailers, after_data, after_end, opens, placed};
 ghost use Rattle.wtp_sending.specs.Session.{uni_head, bi_head, datagram_head, drain_wire, close_data};
 ghost use Rattle.wtp_webtransport.specs.declared.connection.Connection.{Connection};
 ghost use Rattle.wtp_webtransport.specs.declared.stream.Stream.{Stream};
+ghost use Rattle.wtp_webtransport.specs.declared.stream.Part.TheVariants as part;
 ghost use Rattle.wtp_webtransport.specs.declared.event.HeadersKind.TheVariants as headers;
 ghost use Rattle.wtp_webtransport.specs.Events.{Opened, Joins, Joined, Settings, GoAway, Headers, SessionRequested, SessionClosed, Draining, StreamData, End};
 ghost use Rattle.wtp_webtransport.specs.Joining.{takes, after_datagram, joins};
 ghost use Rattle.wtp_webtransport.specs.Receiving.{Outcome, Receives, last};
 ghost use Rattle.wtp_webtransport.specs.Said.{said};
 ghost use Rattle.wtp_webtransport.specs.Sessions.{allows_sessions};
-ghost use Rattle.wtp_webtransport.specs.Streams.{stream_of, request_stream, session_stream, with_streams, with_frames};
+ghost use Rattle.wtp_webtransport.specs.Streams.{stream_of, request_stream, session_stream, with_streams, with_frames, with_part, answered};
 ghost use Rattle.wtp_pairs.specs.Messages.{Agrees, IsWithin, IsSectionRead, IsDataRead, IsContentRead, IsSession, IsMessage, after_frame, response_told, request_opened};
 ghost use Rattle.wtp_pairs.specs.Reads.{IsGoing, IsReadAs, IsControlRead, joining_stream, after_values};
 
@@ -101,7 +102,8 @@ pub fn control_streams_are_received()
 /// exactly their fields, and the stream agrees again (RFC 9114, sections 4.1 and 4.4):
 ///
 /// - `request`: those of a request that is no CONNECT; `session`: those of a request for a session, which the
-///   settings of both ends allow.
+///   settings of both ends allow; `connect`: those of any other CONNECT request.
+/// - `accepted`: both ends open the tunnel or the session, by an answer with a 2xx status.
 /// - `interim` and `response`: those of a response with this status.
 /// - `trailers`: those at the end of a message.
 pub fn sections_are_received()
@@ -126,6 +128,15 @@ pub fn sections_are_received()
         → is_connect fields ≡ true → asks_for_session fields ≡ true → allows_sessions c ≡ true
         → (u : Stream) × IsSectionRead limit c t (headers_wire fields) (SessionRequested fields) c u
         × Agrees e new u }
+    ensures connect { (limit : ℕ) (e : Endpoint) (c : Connection) (old new : Sending)
+        (fields : List Field) (t : Stream) (extended : Bool) → IsGoing c → IsWithin e limit fields
+        → Agrees e old t → old.role ≡ role.Request extended → SendsHead old fields new
+        → is_connect fields ≡ true → asks_for_session fields ≡ false
+        → (u : Stream) × IsSectionRead limit c t (headers_wire fields) (Headers headers.Request fields) c u
+        × Agrees e new u }
+    ensures accepted { (e : Endpoint) (old new : Sending) (t : Stream) (session : Bool) (status : ℕ)
+        → Agrees e old t → old.place ≡ sent.Connecting session → placed old (opens old.place) ≡ Ok new
+        → is_success (Some status) ≡ true → Agrees e new (answered t status) }
     ensures interim { (limit : ℕ) (e : Endpoint) (c : Connection) (old new : Sending)
         (fields : List Field) (t : Stream) (a : Asked) (status k : ℕ) → IsGoing c
         → IsWithin e limit fields → e.side ≡ Client → Agrees e old t → old.role ≡ role.Response a
@@ -151,6 +162,7 @@ pub fn sections_are_received()
 /// - `data`: the head of a DATA frame, with or without bytes of its payload.
 /// - `bytes`: bytes of the payload.
 /// - `end`: no bytes, and the end of the stream.
+/// - `tunnel_data`, `tunnel_bytes` and `tunnel_end`: the same in a tunnel.
 pub fn content_is_received()
     ensures data { (limit : ℕ) (e : Endpoint) (c : Connection) (old new : Sending) (n : ℕ) (t : Stream)
         → IsGoing c → Agrees e old t → old.place ≡ sent.Content → after_data old n ≡ Ok new
@@ -160,13 +172,28 @@ pub fn content_is_received()
     ensures end { (limit : ℕ) (e : Endpoint) (c : Connection) (old new : Sending) (t : Stream) (o : Outcome)
         → IsGoing c → Agrees e old t → IsMessage old.place → after_end old ≡ Ok new
         → Receives limit c t [] true o → o ≡ last c (with_frames t frames.Over) End 0 }
+    ensures tunnel_data { (limit : ℕ) (e : Endpoint) (c : Connection) (old new : Sending) (n : ℕ)
+        (t : Stream) → IsGoing c → Agrees e old t → old.place ≡ sent.Tunnel → after_data old n ≡ Ok new
+        → IsDataRead limit e c t n new }
+    ensures tunnel_bytes { (limit : ℕ) (e : Endpoint) (c : Connection) (s : Sending) (t : Stream)
+        → IsGoing c → Agrees e s t → s.place ≡ sent.Tunnel → 0 < s.owed → IsContentRead limit e c t s }
+    ensures tunnel_end { (limit : ℕ) (e : Endpoint) (c : Connection) (old new : Sending) (t : Stream)
+        (o : Outcome) → IsGoing c → Agrees e old t → old.place ≡ sent.Tunnel → after_end old ≡ Ok new
+        → Receives limit c t [] true o → o ≡ last c (with_frames t frames.Over) End 0 }
 {}
 
 /// What is sent of an open session on its own stream is said of it at the other end, whatever follows and
 /// however it is cut: after CLOSE `SessionClosed` with its code and its reason, and nothing else; after DRAIN
 /// `Draining`, and then what follows. `wtp_webtransport::laws::sessions_may_be_cut` says that the calls on
-/// these bytes return exactly what `said` has (draft-ietf-webtrans-http3-02, section 5).
+/// these bytes return exactly what `said` has. The end without CLOSE closes it with code 0 and no reason
+/// (draft-ietf-webtrans-http3-02, section 5).
 pub fn closes_are_received()
+    ensures agrees { (e : Endpoint) (s : Sending) (t : Stream) → Agrees e s t → s.place ≡ sent.Session
+        → IsSession e t }
+    ensures end { (limit : ℕ) (e : Endpoint) (c : Connection) (old new : Sending) (t : Stream) (o : Outcome)
+        → IsGoing c → Agrees e old t → old.place ≡ sent.Session → after_end old ≡ Ok new
+        → Receives limit c t [] true o
+        → o ≡ (0, SessionClosed (0, []), c, with_part (with_frames t frames.Over) part.Ending) }
     ensures close { (end : Bool) (e : Endpoint) (c : Connection) (s : Stream) (code : ℕ)
         (reason more : List ℕ) → IsSession e s → c.streams.over ≡ false → code < 2 ^ 32
         → length reason ≤ 1024 → IsUtf8 reason

@@ -1,3 +1,4 @@
+use Rattle.wtp_pairs.proofs.ConnectLemmas.{tunnel_data, tunnel_read, tunnel_end}
 use Rattle.wtp_pairs.proofs.DataLemmas.{data_read, content_read, end_read}
 use Rattle.wtp_pairs.proofs.laws.content_is_received.Goals as goal
 
@@ -9,3 +10,12 @@ returns-clause-bytes c = content_read
 
 pub returns-clause-end : goal.returns-clause-end
 returns-clause-end c = end_read
+
+pub returns-clause-tunnel_data : goal.returns-clause-tunnel_data
+returns-clause-tunnel_data c = tunnel_data
+
+pub returns-clause-tunnel_bytes : goal.returns-clause-tunnel_bytes
+returns-clause-tunnel_bytes c = tunnel_read
+
+pub returns-clause-tunnel_end : goal.returns-clause-tunnel_end
+returns-clause-tunnel_end c = tunnel_end

@@ -1,5 +1,6 @@
+use Rattle.wtp_pairs.proofs.ConnectLemmas.{accepted}
 use Rattle.wtp_pairs.proofs.StartLemmas.{opened, asked, answered}
-use Rattle.wtp_pairs.proofs.HeadLemmas.{request_read, session_read, interim_read, response_read}
+use Rattle.wtp_pairs.proofs.HeadLemmas.{request_read, session_read, interim_read, response_read, connect_read}
 use Rattle.wtp_pairs.proofs.DataLemmas.{trailers_read}
 use Rattle.wtp_pairs.proofs.laws.sections_are_received.Goals as goal
 
@@ -26,3 +27,9 @@ returns-clause-response c = response_read
 
 pub returns-clause-trailers : goal.returns-clause-trailers
 returns-clause-trailers c = trailers_read
+
+pub returns-clause-connect : goal.returns-clause-connect
+returns-clause-connect c = connect_read
+
+pub returns-clause-accepted : goal.returns-clause-accepted
+returns-clause-accepted c = accepted
