@@ -1,0 +1,13 @@
+pub mod FrameLemmas
+pub mod CallLemmas
+pub mod ReaderLemmas
+pub mod SessionLemmas
+pub mod ControlLemmas
+pub mod SectionLemmas
+pub mod MessageLemmas
+pub mod HeadLemmas
+pub mod ContentLemmas
+pub mod StartLemmas
+pub mod DataLemmas
+pub mod ConnectLemmas
+pub mod CloseLemmas
