@@ -5,3 +5,4 @@ pub mod PageLemmas
 pub mod ShownLemmas
 pub mod LineLemmas
 pub mod DigitLemmas
+pub mod JoinLemmas

@@ -1,12 +1,12 @@
 -- The number of lines in a text.
-use Rattle.std.proofs.Common.{arith, suc, ◌≡◌, ℕ, ◌+◌, ◌<◌, ◌^◌, Bool, true, false, cond, nat_eq, List, [], ◌∷◌, ◌++◌, get_or, length, Result, Ok, Err, is_ok, IfOk, refl, ap, ap₂, ◌∙◌}
+use Rattle.std.proofs.Common.{arith, suc, ◌≡◌, ℕ, ◌+◌, ◌<◌, ◌^◌, Bool, true, false, cond, nat_eq, List, [], ◌∷◌, ◌++◌, get_or, length, Result, Ok, Err, is_ok, IfOk, OnErr, inl, refl, sym, subst, ap, ap₂, ◌∙◌}
 use Rattle.wt_inspection_views.specs.Characters.{needs_escape}
 use Rattle.std.specs.Str.{NoCharPasses}
 use Rattle.std.proofs.lemmas.List.Sums.{sum_by-append}
 use Rattle.std.proofs.lemmas.Str.{NoCharPasses-byte}
-use Rattle.wt_inspection_views.specs.Escaped.{IsLine, line_mark}
+use Rattle.wt_inspection_views.specs.Escaped.{AddsLine, AreLines, IsLine, line_mark, marked_line}
 use Rattle.wt_inspection_views.specs.Escaped.{line_count}
-use Rattle.wt_inspection_views.proofs.CleanLemmas.{no_escape-plain}
+use Rattle.wt_inspection_views.proofs.CleanLemmas.{AreLines-pushed, no_escape-plain}
 use Rattle.std.proofs.lemmas.List.Sums.{sum_by-cons}
 
 no_feeds : (bytes : List ℕ) → ((i : ℕ) → i < length bytes → nat_eq (get_or bytes i 0) 10 ≡ false) → line_count bytes ≡ 0
@@ -34,3 +34,16 @@ pub line_count-pushed : {A E : Type 0} (old new line : List ℕ) (r : Result A E
 line_count-pushed old new line (Ok a) one e =
     ap line_count e ∙ (sum_by-append (λ (c : ℕ). cond (nat_eq c 10) 1 0) old line ∙ ap (λ (x : ℕ). line_count old + x) one)
 line_count-pushed old new line (Err e) one k = tt
+
+-- ---- a line that was appended, unless allocation failed
+
+pub plain_line : (words : List ℕ) → NoCharPasses needs_escape words → IsLine words (marked_line words)
+plain_line words none = (words, inl (refl, none), refl)
+
+pub adds_lines : {A E : Type 0} (old new words : List ℕ) (r : Result A E) → ((k : ℕ) → get_or words k 0 < 2 ^ 8) → AreLines old → IfOk r (λ _. AddsLine words old new) → OnErr r (new ≡ old) → AreLines new
+adds_lines old new words (Ok a) fits are (line, is, e) kept = AreLines-pushed old new words line true fits are is e
+adds_lines old new words (Err e) fits are added kept = subst AreLines (sym kept) are
+
+pub adds_one : {A E : Type 0} (old new words : List ℕ) (r : Result A E) → ((k : ℕ) → get_or words k 0 < 2 ^ 8) → IfOk r (λ _. AddsLine words old new) → IfOk r (λ _. line_count new ≡ line_count old + 1)
+adds_one old new words (Ok a) fits (line, is, e) = line_count-pushed {A = ℕ} {E = ℕ} old new line (Ok 0) (line_count-line words line fits is) e
+adds_one old new words (Err e) fits added = tt

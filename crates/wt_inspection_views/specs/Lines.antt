@@ -7,3 +7,11 @@ use Rattle.wt_inspection_views.specs.declared.text.lines.Lines.{Lines}
 abbrev pub Gains : ℕ → Lines → Lines → Type 0
 Gains n old new =
     IsTrue new.is_whole → IsTrue old.is_whole × (line_count new.text ≡ line_count old.text + n)
+
+-- there are n lines, unless an allocation failed
+abbrev pub HasTextLines : ℕ → Lines → Type 0
+HasTextLines n lines = IsTrue lines.is_whole → line_count lines.text ≡ n
+
+-- n lines were appended, whatever there was before
+abbrev pub AddsTextLines : ℕ → Lines → Lines → Type 0
+AddsTextLines n old new = (k : ℕ) → HasTextLines k old → HasTextLines (k + n) new

@@ -16,6 +16,7 @@ use Rattle.wt_inspection_model.specs.declared.item.Signal.{Signal}
 use Rattle.wt_inspection_model.specs.declared.item.Signal.TheVariants as signal-is
 use Rattle.wt_inspection_model.specs.declared.item.capsule.CapsuleItem.{CapsuleItem}
 use Rattle.wt_inspection_model.specs.declared.item.capsule.CloseReason.{CloseReason}
+use Rattle.wt_inspection_model.specs.declared.item.ending.Warning.{Warning}
 use Rattle.wt_inspection_model.specs.declared.item.fields.FieldSection.{FieldSection}
 use Rattle.wt_inspection_model.specs.declared.item.fields.Index.{Index}
 use Rattle.wt_inspection_model.specs.declared.item.fields.Index.TheVariants.{Relative, PostBase}
@@ -104,11 +105,15 @@ abbrev pub item_lines : Bool → List ℕ → Item → ℕ
 item_lines payload bytes item =
     content_lines item.content + hex_lines (length (shown_of payload bytes item))
 
+-- the number of lines for items and warnings
+abbrev pub lines_of : Bool → List ℕ → List Item → List Warning → ℕ
+lines_of payload bytes items warnings =
+    sum_by (item_lines payload bytes) items + length warnings
+
 -- the number of lines for an inspection: its items, its warnings, and one for how the input ends
 abbrev pub inspection_lines : Bool → List ℕ → Inspection → ℕ
 inspection_lines payload bytes inspection =
-    sum_by (item_lines payload bytes) inspection.items.items
-    + length inspection.warnings.items + 1
+    lines_of payload bytes inspection.items.items inspection.warnings.items + 1
 
 -- the line of a priority has its displayed form
 abbrev pub IsPriorityLine : List ℕ → List ℕ → Type 0

@@ -8,7 +8,8 @@ mod parts;
 
 use crate::split_warnings;
 use crate::text::shown_of;
-use object::{Lines, Object};
+pub use object::Lines;
+use object::Object;
 use parts::{add_capsule, add_capsules, add_section, add_settings, add_signal};
 use std::alloc::{AllocError, Global};
 use wt_inspection_model::item::{
@@ -44,36 +45,52 @@ pub fn write_json(
     let mut lines = Lines::new(alloc);
     let mut warnings = inspection.warnings.as_slice();
     for item in &inspection.items {
-        let shown = shown_of(item, bytes, payload);
-        warnings = write_all_of(&mut lines, item, shown, warnings);
+        warnings = write_all_of(&mut lines, item, bytes, payload, warnings);
     }
-    write_warnings(&mut lines, warnings);
-    write_end(&mut lines, inspection.end, bytes.len());
+    add_warnings(&mut lines, warnings);
+    add_end(&mut lines, inspection.end, bytes.len());
     lines.into_bytes()
 }
 
-/// Appends the lines of an item, with `shown` as its payload bytes, and of the warnings about it.
-/// Returns the remaining warnings.
+/// Appends the lines of an item and of the warnings about it. Returns the remaining warnings.
 fn write_all_of<'a>(
     lines: &mut Lines,
     item: &Item,
-    shown: &[u8],
+    bytes: &[u8],
+    payload: bool,
     warnings: &'a [Warning],
 ) -> &'a [Warning]
     ensures fewer { length result.now ≤ length warnings.now }
     ensures lines { AddsLines (1 + (length warnings.now - length result.now)) lines.old lines.new }
 {
     let (here, later) = split_warnings(item, warnings);
-    write_item(lines, item, shown);
-    write_warnings(lines, here);
+    add_item_lines(lines, item, bytes, payload, here);
     later
+}
+
+/// Appends the line of an item of `bytes`, and those of the warnings about it. If `payload` is set,
+/// an item with application data has its hexadecimal digits.
+///
+/// The text that [`write_json`] returns has these lines for each item, and after them those of
+/// [`add_warnings`] and [`add_end`].
+pub fn add_item_lines(
+    lines: &mut Lines,
+    item: &Item,
+    bytes: &[u8],
+    payload: bool,
+    warnings: &[Warning],
+)
+    ensures { AddsLines (1 + length warnings.now) lines.old lines.new }
+{
+    write_item(lines, item, shown_of(item, bytes, payload));
+    add_warnings(lines, warnings)
 }
 
 /// Appends the line of an item, with `shown` as its payload bytes.
 fn write_item(lines: &mut Lines, item: &Item, shown: &[u8])
     ensures { AddsLines 1 lines.old lines.new }
 {
-    let mut object = Object::new(lines.alloc);
+    let mut object = lines.begin();
     object.add_number("at", item.at as u64);
     object.add_number("length", item.length as u64);
     add_content(&mut object, &item.content);
@@ -201,19 +218,19 @@ fn add_datagram(object: &mut Object, head: DatagramHead)
 }
 
 /// Appends the lines of warnings.
-fn write_warnings(lines: &mut Lines, warnings: &[Warning])
+pub fn add_warnings(lines: &mut Lines, warnings: &[Warning])
     ensures { AddsLines (length warnings.now) lines.old lines.new }
 {
     for warning in warnings {
-        write_warning(lines, warning);
+        add_warning(lines, warning);
     }
 }
 
 /// Appends the line of a warning.
-fn write_warning(lines: &mut Lines, warning: &Warning)
+fn add_warning(lines: &mut Lines, warning: &Warning)
     ensures { AddsLines 1 lines.old lines.new }
 {
-    let mut object = Object::new(lines.alloc);
+    let mut object = lines.begin();
     object.add_number("at", warning.at as u64);
     add_rule(&mut object, warning);
     object.add_text("why", warning.rule.why());
@@ -253,16 +270,16 @@ fn add_place(object: &mut Object, line: Option<usize>)
 }
 
 /// Appends the line that says how an input of this length ends.
-fn write_end(lines: &mut Lines, end: End, length: usize)
+pub fn add_end(lines: &mut Lines, end: End, length: usize)
     ensures { AddsLines 1 lines.old lines.new }
 {
-    let mut object = Object::new(lines.alloc);
-    add_end(&mut object, end, length);
+    let mut object = lines.begin();
+    add_ending(&mut object, end, length);
     lines.add(object)
 }
 
 /// Appends how an input of this length ends.
-fn add_end(object: &mut Object, end: End, length: usize)
+fn add_ending(object: &mut Object, end: End, length: usize)
     ensures { AddsMembers object.old object.new }
 {
     match end {

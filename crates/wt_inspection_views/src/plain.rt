@@ -1,5 +1,7 @@
 //! Text for a terminal.
-ghost use Rattle.std.specs.Prelude.{◌≡◌, ◌+◌, ℕ, List, [], IfOk, OnErr, string_bytes};
+ghost use Rattle.std.specs.Prelude.{◌≡◌, ◌+◌, ℕ, List, [], IfOk, OnErr, length, string_bytes};
+ghost use Rattle.std.specs.Str.{NoCharPasses};
+ghost use Rattle.wt_inspection_views.specs.Characters.{needs_escape};
 ghost use Rattle.wt_inspection_views.specs.Escaped.{AddsLine, AreLines, IsLine, line_count};
 ghost use Rattle.wt_inspection_views.specs.Escaped.{line_mark};
 
@@ -42,6 +44,13 @@ impl PlainText {
         }
     }
 
+    /// Returns the length of the text, in bytes.
+    pub fn len(&self) -> usize
+        ensures { result ≡ length self.now }
+    {
+        self.text.len()
+    }
+
     /// Appends a line with these words. If a character of them needs an escape, they are appended
     /// as by [`add_escaped`].
     ///
@@ -51,8 +60,7 @@ impl PlainText {
         ensures one_line { IfOk result (λ _. line_count self.new ≡ line_count self.old + 1) }
         ensures kept { OnErr result (self.new ≡ self.old) }
     {
-        let line = line_of(self.alloc, words)?;
-        self.text.push_str(line.as_str())
+        push_line(self.alloc, &mut self.text, words)
     }
 
     /// Returns the text.
@@ -64,17 +72,45 @@ impl PlainText {
     }
 }
 
-/// Returns a line with these words: the mark, the words, and a line feed.
+/// Appends a line with these words.
+///
+/// Returns [`AllocError`] if allocation fails. The text is then unchanged.
+fn push_line(alloc: Global, text: &mut String, words: &str) -> Result<(), AllocError>
+    ensures added { IfOk result
+        (λ _. AddsLine words.now (string_bytes text.old) (string_bytes text.new)) }
+    ensures kept { OnErr result (string_bytes text.new ≡ string_bytes text.old) }
+{
+    if needs_no_escape(words) {
+        add_plain(text, words)
+    } else {
+        let line = line_of(alloc, words)?;
+        text.push_str(line.as_str())
+    }
+}
+
+/// Appends a line with these words, of which no character needs an escape.
+///
+/// Returns [`AllocError`] if allocation fails. The text is then unchanged.
+fn add_plain(text: &mut String, words: &str) -> Result<(), AllocError>
+    requires { NoCharPasses needs_escape words.now }
+    ensures added { IfOk result
+        (λ _. AddsLine words.now (string_bytes text.old) (string_bytes text.new)) }
+    ensures kept { OnErr result (string_bytes text.new ≡ string_bytes text.old) }
+{
+    text.reserve(words.len().saturating_add(LINE_OVERHEAD))?;
+    text.push_str(mark_text())?;
+    text.push_str(words)?;
+    text.push('\n')
+}
+
+/// Returns a line with the displayed form of these words: the mark, that form, and a line feed.
 fn line_of(alloc: Global, words: &str) -> Result<String, AllocError>
+    requires { ¬ (NoCharPasses needs_escape words.now) }
     ensures { IfOk result (λ l. IsLine words.now (string_bytes l)) }
 {
     let mut line = String::with_capacity(alloc, words.len().saturating_add(LINE_OVERHEAD))?;
     line.push_str(mark_text())?;
-    if needs_no_escape(words) {
-        line.push_str(words)?;
-    } else {
-        add_escaped(&mut line, words.as_bytes())?;
-    }
+    add_escaped(&mut line, words.as_bytes())?;
     line.push('\n')?;
     Ok(line)
 }

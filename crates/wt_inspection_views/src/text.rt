@@ -1,19 +1,22 @@
 //! Displays inspections as text.
 ghost use Rattle.std.specs.Prelude.{◌≡◌, ◌+◌, IfOk, IsTrue, length, string_bytes, sum_by};
 ghost use Rattle.wt_inspection_views.specs.Escaped.{AreLines, line_count};
-ghost use Rattle.wt_inspection_views.specs.Lines.{Gains};
+ghost use Rattle.wt_inspection_views.specs.Lines.{AddsTextLines, Gains};
 ghost use Rattle.wt_inspection_views.specs.TextLines.{capsule_lines, content_lines, hex_lines};
 ghost use Rattle.wt_inspection_views.specs.TextLines.{inspection_lines, parts_lines};
+ghost use Rattle.wt_inspection_views.specs.TextLines.{item_lines as lines_of_item};
 ghost use Rattle.wt_inspection_views.specs.TextLines.{payload_of as payload_of_item};
 ghost use Rattle.wt_inspection_views.specs.TextLines.{shown_of as shown_of_item};
 
 mod lines;
 pub(crate) mod parts;
+mod words;
 
 use crate::{bytes_of, split_warnings};
-use lines::Lines;
+pub use lines::Lines;
 use parts::{
-    add_capsule, add_fields, add_hex, add_settings, add_signal, add_warnings, count_bytes,
+    add_capsule, add_fields, add_hex, add_settings, add_signal, add_warnings as add_each_warning,
+    count_bytes,
 };
 use std::alloc::{AllocError, Global};
 use wt_inspection_model::item::{
@@ -50,30 +53,58 @@ pub fn write_text(
     let mut text = Lines::new(alloc);
     let mut warnings = inspection.warnings.as_slice();
     for item in &inspection.items {
-        let shown = shown_of(item, bytes, payload);
-        warnings = add_all_of(&mut text, item, shown, warnings);
+        warnings = add_all_of(&mut text, item, bytes, payload, warnings);
     }
     add_warnings(&mut text, warnings);
     add_end(&mut text, inspection.end, bytes.len());
     text.into_text()
 }
 
-/// Appends an item, its payload bytes and its warnings. Returns the remaining warnings.
+/// Appends an item and its warnings. Returns the remaining warnings.
 fn add_all_of<'a>(
     text: &mut Lines,
     item: &Item,
-    shown: &[u8],
+    bytes: &[u8],
+    payload: bool,
     warnings: &'a [Warning],
 ) -> &'a [Warning]
     ensures { IsTrue text.new.is_whole → IsTrue text.old.is_whole
         × (line_count text.new.text + length result.now ≡ line_count text.old.text
-        + (content_lines item.now.content + hex_lines (length shown.now)) + length warnings.now) }
+        + lines_of_item payload bytes.now item.now + length warnings.now) }
 {
     let (here, later) = split_warnings(item, warnings);
-    add_item(text, item);
-    add_hex(text, shown);
-    add_warnings(text, here);
+    add_item_lines(text, item, bytes, payload, here);
     later
+}
+
+/// Appends the lines of an item of `bytes`, and of the warnings about it. If `payload` is set,
+/// payload bytes are shown too.
+///
+/// The text that [`write_text`] returns has these lines for each item, and after them those of
+/// [`add_warnings`] and [`add_end`].
+pub fn add_item_lines(
+    text: &mut Lines,
+    item: &Item,
+    bytes: &[u8],
+    payload: bool,
+    warnings: &[Warning],
+)
+    ensures gains { Gains (lines_of_item payload bytes.now item.now + length warnings.now) text.old
+        text.new }
+    ensures adds { AddsTextLines (lines_of_item payload bytes.now item.now + length warnings.now)
+        text.old text.new }
+{
+    add_item(text, item);
+    add_hex(text, shown_of(item, bytes, payload));
+    add_warnings(text, warnings)
+}
+
+/// Appends the lines of warnings.
+pub fn add_warnings(text: &mut Lines, warnings: &[Warning])
+    ensures gains { Gains (length warnings.now) text.old text.new }
+    ensures adds { AddsTextLines (length warnings.now) text.old text.new }
+{
+    add_each_warning(text, warnings)
 }
 
 /// Returns the lines of an item.
@@ -169,78 +200,15 @@ fn words_of_stream(alloc: Global, head: StreamHead) -> Result<String, AllocError
 fn add_frame(text: &mut Lines, at: usize, frame: &FrameItem)
     ensures { Gains (1 + parts_lines frame.now.parts) text.old text.new }
 {
-    add_frame_head(text, at, frame);
+    text.add_frame(at, frame, label_of(&frame.parts));
     add_parts(text, &frame.parts)
 }
 
-/// Appends the first line of a frame.
-fn add_frame_head(text: &mut Lines, at: usize, frame: &FrameItem)
-    ensures { Gains 1 text.old text.new }
-{
-    let name = frame.name.as_str();
-    let size = size_of_frame(text.alloc, frame);
-    match frame.name {
-        FrameName::Read(FrameKind::Exercise(_)) | FrameName::Unknown | FrameName::Http2 => {
-            add_numbered(text, at, frame, size)
-        }
-        _ => match &frame.parts {
-            Parts::Fields(section) => {
-                text.add_head(
-                    at,
-                    section_label(section),
-                    named_size(text.alloc, name, size),
-                )
-            }
-            _ => text.add_head(at, name, size),
-        },
-    }
-}
-
-/// Returns a name and a size as text.
-fn named_size(
-    alloc: Global,
-    name: &str,
-    size: Result<String, AllocError>,
-) -> Result<String, AllocError> {
-    let size = size?;
-    format!(in alloc; "{name}, {size}")
-}
-
-/// Appends the line of a frame whose type has no unique name. It shows the number of the type.
-fn add_numbered(text: &mut Lines, at: usize, frame: &FrameItem, size: Result<String, AllocError>)
-    ensures { Gains 1 text.old text.new }
-{
-    let name = frame.name.as_str();
-    match format!(in text.alloc; "{name} frame") {
-        Ok(what) => {
-            text.add_head(
-                at,
-                what.as_str(),
-                numbered_size(text.alloc, frame.number, size),
-            )
-        }
-        Err(_) => text.mark_failed(),
-    }
-}
-
-/// Returns the number of a type and a size as text.
-fn numbered_size(
-    alloc: Global,
-    number: u64,
-    size: Result<String, AllocError>,
-) -> Result<String, AllocError> {
-    let size = size?;
-    format!(in alloc; "{number:#x}, {size}")
-}
-
-/// Returns the payload length of a frame as text, and how many bytes are present unless all are.
-fn size_of_frame(alloc: Global, frame: &FrameItem) -> Result<String, AllocError> {
-    let present = frame.present;
-    let size = count_bytes(alloc, frame.announced)?;
-    if present as u64 == frame.announced {
-        Ok(size)
-    } else {
-        format!(in alloc; "{size}, {present} of them present")
+/// Returns what the fields of a frame are, if it has some.
+fn label_of(parts: &Parts) -> Option<&'static str> {
+    match parts {
+        Parts::Fields(section) => Some(section_label(section)),
+        _ => None,
     }
 }
 
@@ -302,8 +270,9 @@ fn words_of_datagram(alloc: Global, head: DatagramHead) -> Result<String, AllocE
 }
 
 /// Appends the line that says how an input of this length ends.
-fn add_end(text: &mut Lines, end: End, length: usize)
-    ensures { Gains 1 text.old text.new }
+pub fn add_end(text: &mut Lines, end: End, length: usize)
+    ensures gains { Gains 1 text.old text.new }
+    ensures adds { AddsTextLines 1 text.old text.new }
 {
     match end {
         End::Complete => text.add_formatted(format!(in text.alloc; "{length:<5} end")),

@@ -1,5 +1,5 @@
 //! Lines of JSON, one object per line.
-ghost use Rattle.std.specs.Prelude.{◌≡◌, ℕ, Bool, true, false, List, [], ◌∷◌, IfOk};
+ghost use Rattle.std.specs.Prelude.{◌≡◌, ℕ, Bool, true, false, List, [], ◌∷◌, IfOk, length};
 ghost use Rattle.std.specs.List.{flat_map, list_any};
 ghost use Rattle.std.specs.Prelude.{OnErr, OnOk, IsTrue, string_bytes};
 ghost use Rattle.json.specs.Token.{Token};
@@ -11,6 +11,7 @@ use crate::escaped::add_hex_byte;
 use crate::latch::Latch;
 use json::Writer;
 use std::alloc::{AllocError, Global};
+use std::mem;
 
 /// The initial capacity of an object, in bytes.
 const INITIAL_CAPACITY: usize = 256;
@@ -18,13 +19,14 @@ const INITIAL_CAPACITY: usize = 256;
 /// The largest number that each reader of JSON has exactly: 2^53 - 1 (RFC 8259, section 6).
 const LARGEST_NUMBER: u64 = 0x1f_ffff_ffff_ffff;
 
-/// Lines of JSON. A failed allocation is recorded, and [`into_bytes`](Lines::into_bytes) reports
-/// it, so [`add`](Lines::add) returns nothing.
+/// Lines of JSON. A failed allocation is recorded, and [`take`](Lines::take) and
+/// [`into_bytes`](Lines::into_bytes) report it, so what appends lines returns nothing.
 #[derive(Drop)]
-pub(super) struct Lines {
-    /// The allocator of the lines.
-    pub(super) alloc: Global,
+pub struct Lines {
+    alloc: Global,
     text: Vec<u8>,
+    /// Room for an object, which is empty between objects.
+    room: Vec<u8>,
     is_whole: Latch,
 }
 
@@ -34,14 +36,44 @@ impl Lines {
 
     /// Creates an empty list of lines.
     #[tactic(auto, unfolding(crate::specs::Objects::HasLines))]
-    pub(super) fn new(alloc: Global) -> Self
-        ensures { HasLines 0 result }
+    pub fn new(alloc: Global) -> Self
+        ensures lines { HasLines 0 result }
+        ensures whole { result.is_whole ≡ true }
     {
         Lines {
             alloc,
             text: Vec::new(alloc),
+            room: Vec::new(alloc),
             is_whole: Latch::new(),
         }
+    }
+
+    /// Returns the length of the text, in bytes.
+    pub fn len(&self) -> usize
+        ensures { result ≡ length self.now.text.items }
+    {
+        self.text.len()
+    }
+
+    /// Returns the lines and leaves none, or [`AllocError`] if an allocation failed.
+    pub fn take(&mut self) -> Result<Vec<u8>, AllocError>
+        ensures lines { (n : ℕ) → HasLines n self.old
+            → IfOk result (λ text. AreJsonLines n text.items) }
+        ensures none { HasLines 0 self.new }
+        ensures whole { self.new.is_whole ≡ true }
+    {
+        mem::replace(self, Lines::new(self.alloc)).into_bytes()
+    }
+
+    /// Begins the object of the next line.
+    #[tactic(auto, unfolding(crate::specs::Objects::HasLines))]
+    pub(super) fn begin(&mut self) -> Object
+        ensures object { IsAt (in_object []) result }
+        ensures lines { (n : ℕ) → HasLines n self.old → HasLines n self.new }
+    {
+        let mut room = mem::replace(&mut self.room, Vec::new(self.alloc));
+        room.clear();
+        Object::new(self.alloc, room)
     }
 
     /// Ends an object and appends it as a line. Records a failed allocation.
@@ -64,12 +96,13 @@ impl Lines {
     {
         let line = object.into_line()?;
         self.text.extend_from_slice(line.as_slice())?;
+        self.room = line;
         Ok(())
     }
 
     /// Returns the lines, or [`AllocError`] if an allocation failed.
     #[tactic(auto, unfolding(crate::specs::Objects::HasLines))]
-    pub(super) fn into_bytes(self) -> Result<Vec<u8>, AllocError>
+    pub fn into_bytes(self) -> Result<Vec<u8>, AllocError>
         ensures { (n : ℕ) → HasLines n self → IfOk result (λ text. AreJsonLines n text.items) }
     {
         self.is_whole.finish(self.text)
@@ -78,8 +111,8 @@ impl Lines {
 
 /// A JSON object whose members are appended in order. A failed allocation is recorded, and
 /// [`into_line`](Object::into_line) reports it, so the methods that append members return
-/// nothing. Each object has its own writer: the kit's writer initializes up to 16 KiB after a
-/// long text, and removes them when it ends.
+/// nothing. Each object has its own writer, over room that is empty: the kit's writer initializes up
+/// to 16 KiB after a long text, and removes them when it ends.
 #[derive(Drop)]
 pub(super) struct Object {
     /// The allocator of the object.
@@ -95,14 +128,15 @@ impl Object {
     ghost use Rattle.wt_inspection_views.specs.Objects.{AddsElements, AddsMembers, AddsName};
     ghost use Rattle.wt_inspection_views.specs.Objects.{AddsValue, IsAt};
 
-    /// Creates an empty object.
+    /// Creates an empty object, which is written to this room.
     #[tactic(auto, unfolding(crate::specs::Objects::IsAt))]
-    pub(super) fn new(alloc: Global) -> Self
+    fn new(alloc: Global, room: Vec<u8>) -> Self
+        requires { room.items ≡ [] }
         ensures { IsAt (in_object []) result }
     {
-        let mut text = Vec::new(alloc);
-        let reserved = text.reserve(INITIAL_CAPACITY);
-        let mut out = Writer::new(text);
+        let mut room = room;
+        let reserved = room.reserve(INITIAL_CAPACITY);
+        let mut out = Writer::new(room);
         let begun = out.begin_object();
         Object {
             alloc,

@@ -182,36 +182,8 @@ pub(crate) fn name_setting(alloc: Global, setting: &SettingLine) -> Result<Strin
 pub(super) fn add_capsule(text: &mut Lines, at: Option<usize>, capsule: &CapsuleItem)
     ensures { Gains (capsule_lines capsule.now) text.old text.new }
 {
-    add_capsule_head(text, at, capsule);
+    text.add_capsule(at, capsule);
     add_close(text, &capsule.close)
-}
-
-/// Appends the first line of a capsule.
-fn add_capsule_head(text: &mut Lines, at: Option<usize>, capsule: &CapsuleItem)
-    ensures { Gains 1 text.old text.new }
-{
-    let more = words_of_capsule(text.alloc, capsule);
-    match at {
-        Some(at) => text.add_head(at, "capsule", more),
-        None => text.add_formatted(indented(text.alloc, more)),
-    }
-}
-
-/// Returns the type and size of a capsule.
-fn words_of_capsule(alloc: Global, capsule: &CapsuleItem) -> Result<String, AllocError> {
-    let name = capsule.name;
-    let number = capsule.number;
-    let size = count_bytes(alloc, capsule.announced)?;
-    match name {
-        "reserved" | "unknown" => format!(in alloc; "{name} {number:#x}, {size}"),
-        _ => format!(in alloc; "{name}, {size}"),
-    }
-}
-
-/// Returns the indented line of a capsule, ended by `more`.
-fn indented(alloc: Global, more: Result<String, AllocError>) -> Result<String, AllocError> {
-    let more = more?;
-    format!(in alloc; "        capsule          {more}")
 }
 
 /// Appends the lines of the reason for closing a session, if there is one.
@@ -247,28 +219,7 @@ pub(super) fn add_warnings(text: &mut Lines, warnings: &[Warning])
     ensures { Gains (length warnings.now) text.old text.new }
 {
     for warning in warnings {
-        add_warning(text, warning);
-    }
-}
-
-/// Appends the line of a warning. Field lines are numbered from 1.
-fn add_warning(text: &mut Lines, warning: &Warning)
-    ensures { Gains 1 text.old text.new }
-{
-    text.add_formatted(words_of_warning(text.alloc, warning))
-}
-
-/// Returns the line of a warning: the field line, the error code, and the reason. A hint has no
-/// code.
-fn words_of_warning(alloc: Global, warning: &Warning) -> Result<String, AllocError> {
-    let why = warning.rule.why();
-    match (warning.rule.code(), warning.line) {
-        (Some(code), Some(line)) => {
-            let place = line.saturating_add(1);
-            format!(in alloc; "        warning: field {place}: {code}: {why}")
-        }
-        (Some(code), None) => format!(in alloc; "        warning: {code}: {why}"),
-        (None, _) => format!(in alloc; "        hint: {why}"),
+        text.add_warning(warning);
     }
 }
 

@@ -1,5 +1,5 @@
 use Rattle.wt_inspection_views.specs.Objects.{AddsLines}
-use Rattle.wt_inspection_views.proofs.json_lines.write_warnings.Given as goal
+use Rattle.wt_inspection_views.proofs.json_lines.add_warnings.Given as goal
 
 abbrev pub invariant-loop-warning : goal.invariant-loop-warning
 invariant-loop-warning l = AddsLines l.warning-index l.fn.lines l.lines
