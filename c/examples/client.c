@@ -53,7 +53,8 @@ void quic_close(h3_connection *c, uint64_t code) {
 /* Asks for the session at https://example.com/chat, if the settings of both ends allow sessions. */
 static void ask(void) {
   if (wt_connection_allows_sessions(&connection.wt) == 1) {
-    h3_request(quic_open(&connection, true), "example.com", "/chat", false);
+    if (!h3_request(quic_open(&connection, true), "example.com", "/chat", false))
+      quic_close(&connection, WT_H3_INTERNAL_ERROR);
   } else {
     puts("the server has no sessions");
     quic_close(&connection, WT_H3_NO_ERROR);

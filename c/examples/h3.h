@@ -75,7 +75,8 @@ void quic_stop(h3_stream *s, uint64_t code);
 /* Lets the peer send as many bytes more, on the stream and the connection. */
 void quic_consume(h3_stream *s, size_t length);
 
-/* Opens a stream, at once or when the peer allows it, and adds it by h3_add. */
+/* Opens a stream, at once or when the peer allows it, and adds it by h3_add. Never null: what is sent
+   on it before the peer allows it waits. */
 h3_stream *quic_open(h3_connection *c, bool bidirectional);
 
 void quic_send_datagram(h3_connection *c, const uint8_t *bytes, size_t length);
@@ -169,17 +170,20 @@ static inline void h3_respond(h3_stream *s, uint32_t status, const char *name, c
 }
 
 /* Sends the request for the session at an authority and a path, on a bidirectional stream that QUIC
-   opened, after WT_EVENT_SETTINGS and if wt_connection_allows_sessions. */
-static inline void h3_request(h3_stream *s, const char *authority, const char *path, bool fin) {
+   opened, after WT_EVENT_SETTINGS and if wt_connection_allows_sessions. Returns whether it may be
+   sent: the stream is ended if it may not. */
+static inline bool h3_request(h3_stream *s, const char *authority, const char *path, bool fin) {
   field_list f = {.count = 0};
   uint32_t why;
   if (!field_add(&f, ":method", "CONNECT") || !field_add(&f, ":scheme", "https") ||
       !field_add(&f, ":protocol", "webtransport") || !field_add(&f, ":authority", authority) ||
       !field_add(&f, ":path", path) ||
       wt_stream_of_request(&s->c->wt, WT_ASKED_SESSION, &s->wt) != WT_OK ||
-      wt_sending_request(&s->c->wt, s->id, &s->sending, &why) != WT_OK)
+      wt_sending_request(&s->c->wt, s->id, &s->sending, &why) != WT_OK) {
     h3_end_stream(s, WT_H3_INTERNAL_ERROR);
-  else h3_send_message(s, &f, NULL, 0, fin);
+    return false;
+  }
+  return h3_send_message(s, &f, NULL, 0, fin);
 }
 
 /* Opens a stream of a session that begins with these bytes. */

@@ -121,7 +121,8 @@ enum { WT_ASKED_OTHER = 0, WT_ASKED_HEAD = 1, WT_ASKED_CONNECT = 2, WT_ASKED_SES
 int wt_stream_of_request(const wt_connection *connection, uint32_t asked, wt_stream *stream);
 
 /* Begins the peer's half of a bidirectional stream that was opened here for a session: it has no
-   header. WT_OK. */
+   header. A unidirectional one has no such half, but may have a wt_stream too: wt_stream_belongs then
+   finds it when the session ends. WT_OK. */
 int wt_stream_of_session(uint64_t session, wt_stream *stream);
 
 /* What an event is. `number` is its number, and `detail` its detail. */
@@ -260,9 +261,10 @@ int wt_receive(wt_connection *connection, wt_stream *stream, uint8_t *held, size
                                   s->room, sizeof s->room, chunk, length, fin, &event, fields, 64,
                                   out, sizeof out);
        if (answer != WT_OK) return answer;
-       act(s, &event, (s->hold.in_array ? s->room : chunk) + event.offset, fields, out);
+       bytes = (s->hold.in_array ? s->room : chunk) + event.offset;
        chunk += s->hold.taken;
        length -= s->hold.taken;
+       act(s, &event, bytes, fields, out);
      } while (event.kind != WT_EVENT_MORE && event.kind != WT_EVENT_WAITS);
      if (length > 0) answer = wt_stream_overflow(&connection, &s->state, &event);
 
@@ -295,9 +297,10 @@ typedef struct wt_hold {
    none of the chunk was taken: hold->taken is 0, and the chunk is to be passed again, with its fin.
    Also WT_INVALID: *hold is not the hold of an array as long as `room`. The call uses all of `room`:
    what is there beside the bytes held, and those of the event, is not specified.
-   After wt_stream_reset, wt_stream_abandon and wt_stream_overflow the bytes that are held, and those
-   of the chunk that were not taken, are in no event->consumed: credit them for the connection's flow
-   control yourself, and begin the hold as {0} again. */
+   After wt_stream_reset, wt_stream_abandon and wt_stream_overflow the bytes that are held are in no
+   event->consumed: credit them for the connection's flow control yourself, and begin the hold as {0}
+   again. The same holds for the bytes of the chunk that were not taken, unless you pass them to
+   another call: the WT_EVENT_MORE of a stream that is over consumes them. */
 int wt_receive_pushed(wt_connection *connection, wt_stream *stream, uint8_t *held, size_t held_room,
                       uint8_t *table, size_t table_length, wt_hold *hold, uint8_t *room,
                       size_t room_length, const uint8_t *chunk, size_t length, uint8_t fin,

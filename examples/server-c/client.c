@@ -142,8 +142,9 @@ static void begin_session(session *of_it) {
 
 static void send_request(session *of_it) {
   of_it->due = 0;
-  h3_request(of_it->s, "localhost", "/echo", of_it->order == END_FIRST);
-  if (of_it->order != ENDED_STREAMS_FIRST) return;
+  if (!h3_request(of_it->s, "localhost", "/echo", of_it->order == END_FIRST) ||
+      of_it->order != ENDED_STREAMS_FIRST)
+    return;
   while (of_it->opened < EARLY && open_stream(of_it)) {
   }
   send_datagram(of_it);
