@@ -1,7 +1,7 @@
 //! A client: two requests and three sessions at once.
-use crate::end::{Application, Link};
 use std::alloc::Global;
 use std::collections::BTreeMap;
+use wt_ends::end::{Application, Link};
 use wtp_core::error::Code;
 use wtp_fields::fields::FieldList;
 use wtp_fields::headers::Headers;
@@ -116,10 +116,10 @@ impl Client {
 
     /// Notes the end of a stream.
     fn end(&mut self, link: &mut Link, id: u64) -> Result<(), Error> {
+        link.finish(id)?;
         if let Some(count) = self.content.remove(&id) {
             return self.note(format!(in link.alloc; "request {id}: {count} bytes came back")?);
         }
-        link.end(id)?;
         let Some(text) = self.texts.remove(&id) else {
             return Ok(());
         };
@@ -164,7 +164,7 @@ impl Application for Client {
             Event::Joined(session) => self.joined(id, session),
             Event::StreamData(bytes) => self.keep(id, bytes),
             Event::End => self.end(link, id),
-            Event::SessionLost => link.close(id, Code::H3_NO_ERROR),
+            Event::SessionLost | Event::Reset(_) => link.close(id, Code::H3_NO_ERROR),
             Event::StreamError(fault) => link.close(id, fault.code()),
             Event::Malformed(_) => link.close(id, Code::H3_MESSAGE_ERROR),
             Event::ConnectionError(fault) => Err(fault.into()),

@@ -3,20 +3,20 @@
 #![tactic(auto)]
 
 mod client;
-mod end;
-mod quic;
 mod server;
 
 use crate::client::Client;
-use crate::end::{End, TURNS};
-use crate::quic::Random;
 use crate::server::Server;
 use anyhow::{Result, bail};
 use std::alloc::Global;
 use std::env::{self, Env};
 use std::{io, mem};
+use wt_ends::end::{End, run};
+use wt_ends::network::Network;
 use wtp_frames::endpoint::Side;
-use wtp_streams::error::Error;
+
+/// The largest piece of a stream that comes at once, in bytes.
+const PIECE: usize = 900;
 
 fn main(rt: HostRuntime) -> Result<()> {
     let alloc = rt.alloc();
@@ -53,31 +53,10 @@ fn schedules(arguments: &[String]) -> Result<u64> {
 fn log_of(alloc: Global, seed: u64) -> Result<Vec<String>> {
     let mut client = End::new(alloc, Side::Client, Client::new(alloc))?;
     let mut server = End::new(alloc, Side::Server, Server)?;
-    if !run(&mut client, &mut server, seed)? {
+    if !run(&mut client, &mut server, &mut Network::new(seed, PIECE))? {
         bail!("the connection does not end");
     }
     let mut log = mem::replace(&mut client.app.log, Vec::new(alloc));
     log.sort()?;
     Ok(log)
-}
-
-/// Carries what is sent between the ends until nothing is left. Returns whether that was so in time.
-fn run(client: &mut End<Client>, server: &mut End<Server>, seed: u64) -> Result<bool, Error> {
-    let mut random = Random::new(seed);
-    for _turn in 0..TURNS {
-        let to = client
-            .link
-            .outgoing
-            .carry(&mut random, &mut server.incoming)?;
-        let back = server
-            .link
-            .outgoing
-            .carry(&mut random, &mut client.incoming)?;
-        server.serve()?;
-        client.serve()?;
-        if to && back {
-            return Ok(true);
-        }
-    }
-    Ok(false)
 }

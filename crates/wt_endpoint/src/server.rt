@@ -1,5 +1,5 @@
 //! A server: it echoes the content of requests, streams and datagrams.
-use crate::end::{Application, Link};
+use wt_ends::end::{Application, Link};
 use wtp_core::error::Code;
 use wtp_core::ids::StatusCode;
 use wtp_fields::fields::FieldList;
@@ -16,11 +16,12 @@ impl Application for Server {
             Event::SessionRequested(list) => answer_session(link, id, &list),
             Event::Headers(HeadersKind::Request, _) => respond(link, id, StatusCode::OK),
             Event::Data(bytes) => link.send_content(id, bytes),
-            Event::StreamData(bytes) => echo(link, id, bytes),
-            Event::End | Event::SessionClosed(_) => link.end(id),
-            Event::SessionLost => link.close(id, Code::H3_NO_ERROR),
+            Event::StreamData(bytes) if id % 4 < 2 => link.send_bytes(id, bytes),
+            Event::SessionClosed(_) => link.end(id),
+            Event::End => link.finish(id),
+            Event::SessionLost | Event::Reset(_) => link.close(id, Code::H3_NO_ERROR),
             Event::StreamError(fault) => link.close(id, fault.code()),
-            Event::Malformed(_) => link.close(id, Code::H3_MESSAGE_ERROR),
+            Event::Malformed(_) | Event::TooLarge(_) => link.close(id, Code::H3_MESSAGE_ERROR),
             Event::ConnectionError(fault) => Err(fault.into()),
             Event::NoMemory => Err(Error::Memory),
             _ => Ok(()),
@@ -49,13 +50,5 @@ fn respond(link: &mut Link, id: u64, status: StatusCode) -> Result<(), Error> {
     let list = FieldList::response(link.alloc, status)?;
     link.connection
         .respond(id, &list, link.outgoing.stream(id)?)?;
-    Ok(())
-}
-
-/// Sends bytes of a bidirectional stream back.
-fn echo(link: &mut Link, id: u64, bytes: &[u8]) -> Result<(), Error> {
-    if id % 4 < 2 {
-        link.outgoing.stream(id)?.extend_from_slice(bytes)?;
-    }
     Ok(())
 }

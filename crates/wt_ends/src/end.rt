@@ -1,5 +1,6 @@
 //! One end of a connection: what its QUIC library reports goes to the connection, and what the connection
 //! finds goes to an application.
+use crate::network::Network;
 use crate::quic::{Happened, Incoming, Outgoing};
 use std::alloc::Global;
 use wtp_connection::connection::datagrams::DatagramFor;
@@ -30,6 +31,16 @@ pub trait Application {
 
     /// Handles a datagram of an open session.
     fn datagram(&mut self, link: &mut Link, session: u64, payload: &[u8]) -> Result<(), Error>;
+
+    /// Sees what the QUIC library reports, before it is handled: the code of a reset, for example.
+    fn reported(&mut self, _happened: &Happened) -> Result<(), Error> {
+        Ok(())
+    }
+
+    /// Sees that a stream is closed, since its session is over.
+    fn gone(&mut self, _link: &mut Link, _id: u64) -> Result<(), Error> {
+        Ok(())
+    }
 }
 
 /// One end of a connection.
@@ -46,7 +57,7 @@ impl<A: Application + Drop> End<A> {
         let mut endpoint = Endpoint::new(side);
         endpoint.webtransport = true;
         endpoint.datagrams = true;
-        let mut outgoing = Outgoing::new(alloc, u64::from(side == Side::Server));
+        let mut outgoing = Outgoing::new(alloc, side);
         let mut connection = H3Connection::new(alloc, endpoint, true, Limits::new());
         let settings = Settings::builder(alloc)
             .enable_connect_protocol()?
@@ -61,7 +72,7 @@ impl<A: Application + Drop> End<A> {
                 connection,
                 outgoing,
             },
-            incoming: Incoming::new(alloc),
+            incoming: Incoming::new(alloc, side),
             app,
         })
     }
@@ -72,11 +83,12 @@ impl<A: Application + Drop> End<A> {
             let Some(happened) = self.incoming.next() else {
                 return Ok(());
             };
+            self.app.reported(&happened)?;
             match happened {
                 Happened::Opened(id) => self.link.connection.accept(id)?,
                 Happened::Readable(id) => self.read(id)?,
                 Happened::Reset(id, _) => self.reset(id)?,
-                Happened::Stopped(id, _) => self.stop(id)?,
+                Happened::Stopped(id, code) => self.stop(id, code)?,
                 Happened::Datagram(bytes) => self.datagram(bytes.as_slice())?,
             }
             self.read_again()?;
@@ -91,6 +103,7 @@ impl<A: Application + Drop> End<A> {
             let bytes = self.incoming.bytes(id);
             let fin = self.incoming.is_ended(id);
             let Some(received) = self.link.connection.receive(id, bytes, fin) else {
+                self.incoming.forget(id);
                 return Ok(());
             };
             let consumed = received.consumed;
@@ -105,8 +118,8 @@ impl<A: Application + Drop> End<A> {
         Ok(())
     }
 
-    /// Reads the streams whose wait is over.
-    fn read_again(&mut self) -> Result<(), Error> {
+    /// Reads the streams whose wait is over. Call it after an answer is sent, too.
+    pub fn read_again(&mut self) -> Result<(), Error> {
         for _turn in 0..TURNS {
             let Some(id) = self.link.connection.next_to_read() else {
                 return Ok(());
@@ -116,33 +129,35 @@ impl<A: Application + Drop> End<A> {
         Ok(())
     }
 
-    /// Closes the streams whose session is over.
-    fn close_streams(&mut self) -> Result<(), Error> {
+    /// Closes the streams whose session is over. Call it after a session is closed, too.
+    pub fn close_streams(&mut self) -> Result<(), Error> {
         for _turn in 0..TURNS {
             let Some(id) = self.link.connection.next_to_reset() else {
                 return Ok(());
             };
-            self.link
-                .outgoing
-                .close(id, Code::WEBTRANSPORT_SESSION_GONE)?;
+            self.link.close(id, Code::WEBTRANSPORT_SESSION_GONE)?;
+            self.app.gone(&mut self.link, id)?;
         }
         Ok(())
     }
 
     /// Handles a stream that the peer reset.
     fn reset(&mut self, id: u64) -> Result<(), Error> {
-        match self.link.connection.reset(id) {
-            Some(event) => self.app.handle(&mut self.link, id, event),
-            None => Ok(()),
-        }
+        let Some(event) = self.link.connection.reset(id) else {
+            return Ok(());
+        };
+        let handled = self.app.handle(&mut self.link, id, event);
+        self.link.settle(id, handled)
     }
 
-    /// Handles a stream whose own half the peer asked to stop.
-    fn stop(&mut self, id: u64) -> Result<(), Error> {
-        match self.link.connection.stop(id) {
-            Some(event) => self.app.handle(&mut self.link, id, event),
-            None => Ok(()),
-        }
+    /// Handles a stream whose own half the peer asked to stop: it is reset (RFC 9000, section 3.5).
+    fn stop(&mut self, id: u64, code: Code) -> Result<(), Error> {
+        self.link.outgoing.reset(id, code)?;
+        let Some(event) = self.link.connection.stop(id) else {
+            return Ok(());
+        };
+        let handled = self.app.handle(&mut self.link, id, event);
+        self.link.settle(id, handled)
     }
 
     /// Handles a datagram.
@@ -155,12 +170,7 @@ impl<A: Application + Drop> End<A> {
                 self.app
                     .datagram(&mut self.link, datagram.session, datagram.payload)
             }
-            DatagramFor::EndStream => {
-                self.link
-                    .outgoing
-                    .close(datagram.session, Code::H3_DATAGRAM_ERROR)?;
-                Ok(())
-            }
+            DatagramFor::EndStream => self.link.close(datagram.session, Code::H3_DATAGRAM_ERROR),
             DatagramFor::Early | DatagramFor::Discard => Ok(()),
         }
     }
@@ -177,21 +187,35 @@ impl Link {
         Ok(())
     }
 
-    /// Opens a stream of a session, sends these bytes on it, and ends the own half. Returns its ID.
-    pub fn open_stream(&mut self, session: u64, both: bool, bytes: &[u8]) -> Result<u64, Error> {
-        let id = if both {
+    /// Sends bytes on a stream of a session.
+    pub fn send_bytes(&mut self, id: u64, bytes: &[u8]) -> Result<(), Error> {
+        self.outgoing.stream(id)?.extend_from_slice(bytes)?;
+        Ok(())
+    }
+
+    /// Opens a stream of a session. Returns its ID.
+    pub fn begin_stream(&mut self, session: u64, both: bool) -> Result<u64, Error> {
+        if both {
             let id = self.outgoing.open_bidirectional();
             self.connection
                 .open_bidirectional(id, session, self.outgoing.stream(id)?)?;
-            id
-        } else {
-            let id = self.outgoing.open_unidirectional();
-            self.connection
-                .open_unidirectional(id, session, self.outgoing.stream(id)?)?;
-            id
-        };
-        self.outgoing.stream(id)?.extend_from_slice(bytes)?;
+            return Ok(id);
+        }
+        let id = self.outgoing.open_unidirectional();
+        self.connection
+            .open_unidirectional(id, session, self.outgoing.stream(id)?)?;
+        Ok(id)
+    }
+
+    /// Opens a stream of a session, sends these bytes on it, and ends the own half. Returns its ID.
+    pub fn open_stream(&mut self, session: u64, both: bool, bytes: &[u8]) -> Result<u64, Error> {
+        let id = self.begin_stream(session, both)?;
+        self.send_bytes(id, bytes)?;
         self.outgoing.end(id)?;
+        if !both {
+            // Nothing more is sent, and nothing comes.
+            self.connection.forget(id);
+        }
         Ok(id)
     }
 
@@ -233,4 +257,29 @@ impl Link {
         self.outgoing.end(id)?;
         Ok(())
     }
+
+    /// Ends the own half of a stream whose other half ended, and forgets the stream.
+    pub fn finish(&mut self, id: u64) -> Result<(), Error> {
+        self.end(id)?;
+        self.connection.forget(id);
+        Ok(())
+    }
+}
+
+/// Carries what is sent between the ends until nothing is left. Returns whether that was so in time.
+pub fn run<A: Application + Drop, B: Application + Drop>(
+    client: &mut End<A>,
+    server: &mut End<B>,
+    network: &mut Network,
+) -> Result<bool, Error> {
+    for _turn in 0..TURNS {
+        let to = client.link.outgoing.carry(network, &mut server.incoming)?;
+        let back = server.link.outgoing.carry(network, &mut client.incoming)?;
+        server.serve()?;
+        client.serve()?;
+        if to && back {
+            return Ok(true);
+        }
+    }
+    Ok(false)
 }
