@@ -429,6 +429,11 @@ fn requests_of_urls_past_refused_memory(rt: HostRuntime) {
         (b":path", b"/chat?x=1"),
     ];
     assert_list(&rt, &request_of_url(&rt, rt.alloc()), &fields, "a request");
+    let list = match FieldList::from_fields(rt.alloc(), &fields) {
+        Ok(list) => list,
+        Err(_) => FieldList::from_fields(rt.alloc(), &fields).expect(&rt, "memory"),
+    };
+    assert_list(&rt, &list, &fields, "the same fields");
     for (text, error) in [
         ("http://example.org/", UrlParseError::SchemeNotHttps),
         ("https://", UrlParseError::EmptyHost),

@@ -4,7 +4,6 @@ use std::collections::BTreeMap;
 use wt_ends::end::{Application, Link};
 use wtp_core::error::Code;
 use wtp_fields::fields::FieldList;
-use wtp_fields::headers::Headers;
 use wtp_fields::session::UrlParseError;
 use wtp_streams::error::Error;
 use wtp_webtransport::event::{Event, HeadersKind};
@@ -191,15 +190,16 @@ fn session_request(alloc: Global, url: &str) -> Result<FieldList, Error> {
 
 /// Returns the fields of a request with content.
 fn request(alloc: Global, path: &str) -> Result<FieldList, Error> {
-    let mut headers = Headers::new(alloc);
-    headers.insert(":method", "POST")?;
-    headers.insert(":scheme", "https")?;
-    headers.insert(":authority", "example.com")?;
-    headers.insert(":path", path)?;
     let length = format!(in alloc; "{CONTENT}")?;
-    headers.insert("content-length", length.as_str())?;
-    let Ok(frame) = headers.generate_frame(alloc) else {
-        return Err(Error::Memory);
-    };
-    Ok(FieldList::decode(alloc, frame.payload(), 65_536)?)
+    let list = FieldList::from_fields(
+        alloc,
+        &[
+            (b":method", b"POST"),
+            (b":scheme", b"https"),
+            (b":authority", b"example.com"),
+            (b":path", path.as_bytes()),
+            (b"content-length", length.as_bytes()),
+        ],
+    )?;
+    Ok(list)
 }

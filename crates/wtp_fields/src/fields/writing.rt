@@ -2,7 +2,7 @@
 //! and 7.2.2).
 ghost use Rattle.std.specs.Prelude.{◌≡◌, ◌≢◌, ◌⊎◌, ◌&&◌, ◌++◌, ◌==◌, ◌≤◌, ◌^◌, List, [], ◌∷◌, length};
 ghost use Rattle.std.specs.Prelude.{Some, None, Ok, Err, true};
-ghost use Rattle.std.specs.Prelude.{MatchResult, OnOk, OnErr, IfOk, codes, not};
+ghost use Rattle.std.specs.Prelude.{MatchResult, OnOk, OnErr, IfOk, codes, map, not};
 ghost use Rattle.std.specs.List.{list_all, list_any};
 ghost use Rattle.std.specs.Option.{option_copied};
 ghost use Rattle.url.specs.Parser.{parse_url};
@@ -91,6 +91,22 @@ impl FieldList {
         let text = format!(in alloc; "{code}")?;
         let mut list = FieldList::empty(alloc);
         list.append(b":status", text.as_bytes())?;
+        Ok(list)
+    }
+
+    /// Creates the list of these fields, in their order: names and values, taken as they are. Those of a
+    /// request or a response have the pseudo-header fields first (RFC 9114, section 4.3). Whether a
+    /// message may have these fields is checked where it is sent, by `wtp_sending`.
+    ///
+    /// Returns [`AllocError`] if allocation fails.
+    #[tactic(auto, using(std::proofs::lemmas::List::map_more))]
+    pub fn from_fields(alloc: Global, fields: &[(&[u8], &[u8])]) -> Result<Self, AllocError>
+        ensures { IfOk result (λ list. list ≡ map (λ field. (field.0.now, field.1.now)) fields.now) }
+    {
+        let mut list = FieldList::empty(alloc);
+        for (name, value) in fields {
+            list.append(name, value)?;
+        }
         Ok(list)
     }
 
