@@ -112,8 +112,9 @@ impl FieldList {
         }
     }
 
-    /// Returns the empty list, with memory for a list of this size if there is any.
-    fn with_room(alloc: Global, size: usize) -> Self
+    /// Returns the empty list, with memory for a list of this size if there is any. The size is that
+    /// of the limit of [`FieldList::decode`].
+    pub fn with_room(alloc: Global, size: usize) -> Self
         ensures { result ≡ [] }
     {
         FieldList {
@@ -123,8 +124,11 @@ impl FieldList {
         }
     }
 
-    /// Appends a field. If allocation fails, the list is unchanged.
-    fn append(&mut self, name: &[u8], value: &[u8]) -> Result<(), AllocError>
+    /// Appends a field as it was received: neither its name nor its value is checked.
+    /// [`FieldList::push`] appends one that is to be sent.
+    ///
+    /// Returns [`AllocError`] if allocation fails; the list is then unchanged.
+    pub fn append(&mut self, name: &[u8], value: &[u8]) -> Result<(), AllocError>
         ensures ok { OnOk result (self.new ≡ self.old ++ (name.now, value.now) ∷ []) }
         ensures err { OnErr result (self.new ≡ self.old) }
     {

@@ -1,0 +1,4 @@
+pub mod LineLemmas
+pub mod OpenLemmas
+pub mod StaticLines
+pub mod StaticSections
