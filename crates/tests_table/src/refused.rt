@@ -4,6 +4,7 @@ use crate::playing::{CONTROL, REQUEST, list_of, read_h3, server_end};
 use std::alloc::Global;
 use std::process::Abort;
 use std::test::Fail;
+use wtp_connection::connection::Known;
 use wtp_core::varint::VarInt;
 use wtp_fields::fields::FieldList;
 use wtp_frames::endpoint::{Endpoint, Side};
@@ -197,6 +198,39 @@ fn a_session_is_open_in_both_directions_or_in_none(rt: HostRuntime) -> Result<()
     );
     assert!(rt; h3.next_to_reset() == Some(7), "and its unidirectional one");
     assert!(rt; h3.next_to_reset().is_none(), "and no other one");
+    Ok(())
+}
+
+#[test]
+fn a_session_ends_with_the_own_half_of_its_stream(rt: HostRuntime) -> Result<(), Fail> {
+    let alloc = rt.alloc();
+    let mut out = Vec::new(alloc);
+    let ok = list_of(alloc, &OK)?;
+    let mut h3 = server_end(alloc);
+    for id in [2u64, 0, 4] {
+        h3.accept(id)?;
+    }
+    read_h3(&mut h3, 2, &CONTROL);
+    for id in [0u64, 4] {
+        read_h3(&mut h3, id, &REQUEST);
+        h3.respond(id, &ok, &mut out)?;
+    }
+    h3.open_unidirectional(7, 0, &mut out)?;
+    h3.open_bidirectional(1, 0, &mut out)?;
+    h3.open_unidirectional(11, 4, &mut out)?;
+    out.clear();
+    h3.finish(0)?;
+    assert!(rt; h3.known(0) == Known::Over, "the session is over");
+    assert!(rt; h3.known(4) == Known::Open, "the other one is open");
+    assert_no_session(&rt, &mut h3, Refused::SessionNotOpen, &mut out);
+    assert!(rt; h3.next_to_reset() == Some(1), "its streams end");
+    assert!(rt; h3.next_to_reset() == Some(7), "in both directions");
+    assert!(rt; h3.next_to_reset().is_none(), "and no others");
+    let late = read_h3(&mut h3, 0, b"\x00\x04\x68\x43\x00\x00");
+    assert!(rt; late == (6, 0), "what the peer sends on it is discarded");
+    let again = h3.finish(0);
+    let unexpected = Refused::Send(SendError::Unexpected);
+    assert_refused(&rt, again, unexpected, &out, "it ends once");
     Ok(())
 }
 

@@ -13,9 +13,9 @@ use Rattle.wtp_sending.proofs.SentLemmas.{sent_read}
 use Rattle.wtp_streams.specs.declared.h3.half.Half.{Half}
 use Rattle.wtp_streams.specs.declared.h3.half.Half.TheVariants.{Message}
 use Rattle.wtp_streams.specs.declared.h3.refused.Refused.{Refused}
-use Rattle.wtp_streams.specs.Table.{Table, IsCounted, entry_at}
-use Rattle.wtp_streams.specs.Ends.{Ends, half_at, with_half}
-use Rattle.wtp_streams.specs.Sends.{answered_with, own_half, half_or, HalfSends, Sends, SendsAt, RespondsAt, Responds, Requests, ClosesAt}
+use Rattle.wtp_streams.specs.Table.{Table, IsCounted, entry_at, known_in}
+use Rattle.wtp_streams.specs.Ends.{Ends, half_at, with_half, is_open}
+use Rattle.wtp_streams.specs.Sends.{answered_with, own_half, half_or, HalfSends, Sends, SendsAt, RespondsAt, Responds, Requests, ClosesAt, closes_if, FinishesAt, Finishes}
 use Rattle.wtp_streams.proofs.CountLemmas.{put_counted}
 use Rattle.wtp_streams.proofs.EndingLemmas.{abandon_counted, answer_counted}
 
@@ -60,6 +60,25 @@ pub close_counted : (r : Result Half Refused) (code : ℕ) (reason : List ℕ) (
 close_counted (Err e) code reason old new id g h = absurd g
 close_counted (Ok x) code reason old new id (next, leads, is) h =
     counted_as _ _ (table_is _ _ is) (abandon_counted old.table id h)
+
+closes_counted : (b : Bool) (t : Table) (id : ℕ) → IsCounted t → IsCounted (closes_if b t id)
+closes_counted true t id h = abandon_counted t id h
+closes_counted false t id h = h
+
+finish_at : (r : Result Half Refused) (old new : Ends) (id : ℕ)
+    → FinishesAt r old id new
+    → IsCounted old.table
+    → IsCounted new.table
+finish_at (Err e) old new id g h = absurd g
+finish_at (Ok x) old new id (next, ends, is) h =
+    counted_as _ _ (table_is _ _ is)
+    (closes_counted (is_open (known_in old.table id)) old.table id h)
+
+pub finish_counted : (old new : Ends) (id : ℕ)
+    → Finishes old id new
+    → IsCounted old.table
+    → IsCounted new.table
+finish_counted old new id g h = finish_at (own_half old id) old new id g h
 
 -- ---- the other end
 

@@ -15,7 +15,7 @@ use Rattle.wtp_sending.specs.declared.error.SendError.{SendError}
 use Rattle.wtp_sending.specs.declared.error.SendError.TheVariants.{Unexpected}
 use Rattle.wtp_sending.specs.declared.message.Sending.{Sending}
 use Rattle.wtp_sending.specs.declared.peer.Peer.{Peer}
-use Rattle.wtp_sending.specs.Message.{sending_of, SendsHead, RefusesHeaders}
+use Rattle.wtp_sending.specs.Message.{sending_of, SendsHead, RefusesHeaders, after_end}
 use Rattle.wtp_sending.specs.Sent.{Sent, SentHeaders, SentClose, Leads}
 use Rattle.wtp_sending.specs.Session.{in_session}
 use Rattle.wtp_connection.specs.declared.connection.Known.{Known}
@@ -216,6 +216,22 @@ ClosesAt (Err r) code reason old id new = ⊥
 ClosesAt (Ok h) code reason old id new =
     (next : Half) × LeadsTo (SentClose code reason) (sending_in h) next
     × (new ≡ with_table (with_half old id next) (abandons_in old.table id).1)
+
+-- The end of the own stream of an open session closes the session, with code 0 and without a reason
+-- (draft-ietf-webtrans-http3-02, section 5): the stream is read no further. Any other stream goes on.
+abbrev pub closes_if : Bool → Table → ℕ → Table
+closes_if true t id = (abandons_in t id).1
+closes_if false t id = t
+
+abbrev pub FinishesAt : Result Half Refused → Ends → ℕ → Ends → Type 0
+FinishesAt (Err r) old id new = ⊥
+FinishesAt (Ok h) old id new =
+    (next : Half) × HalfChanges after_end (Ok tt) h next
+    × (new ≡ with_table (with_half old id next)
+    (closes_if (is_open (known_in old.table id)) old.table id))
+
+abbrev pub Finishes : Ends → ℕ → Ends → Type 0
+Finishes old id new = FinishesAt (own_half old id) old id new
 
 -- ---- the control stream
 

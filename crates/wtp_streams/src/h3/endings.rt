@@ -41,7 +41,8 @@ impl H3Connection {
     }
 
     /// Ends the reading of the stream with this ID, as
-    /// [`Streams::abandon`](crate::streams::Streams::abandon) does.
+    /// [`Streams::abandon`](crate::streams::Streams::abandon) does. [`close`](Self::close) and
+    /// [`finish`](Self::finish) do so for the own stream of a session.
     pub fn abandon(&mut self, id: u64) -> Option<Event<'static>>
         ensures { (option_map told_of result, ends_of self.new)
             ≡ through (ends_of self.old) id (abandons_in (ends_of self.old).table id) }

@@ -4,7 +4,7 @@ ghost use Rattle.wtp_sending.specs.Message.{data_head, headers_wire, after_data,
 ghost use Rattle.wtp_sending.specs.Sent.{SentDataHead, SentTrailers};
 ghost use Rattle.wtp_sending.specs.Writing.{WritesAll, Fails};
 ghost use Rattle.wtp_streams.specs.Ends.{ends_of, peer_in};
-ghost use Rattle.wtp_streams.specs.Sends.{Sends, Responds, Requests, Refuses, HalfSends, HalfRefuses, HalfChanges, RefusesBy, RefusesRequest, response_in, request_at, may_request as may_request_is, has_stream as has_stream_is, after_half};
+ghost use Rattle.wtp_streams.specs.Sends.{Sends, Responds, Requests, Finishes, Refuses, HalfSends, HalfRefuses, HalfChanges, RefusesBy, RefusesRequest, response_in, request_at, may_request as may_request_is, has_stream as has_stream_is, after_half};
 
 use crate::h3::H3Connection;
 use crate::h3::half::{Half, session_id, status_of};
@@ -215,13 +215,16 @@ impl H3Connection {
     /// Ends the message on the stream with this ID: the stream is to be ended with the last bytes that
     /// were written.
     ///
+    /// The end of the own stream of an open session closes the session, with code 0 and without a reason
+    /// (draft-ietf-webtrans-http3-02, section 5). It is over then, as after [`close`](Self::close):
+    /// [`next_to_reset`](Self::next_to_reset) returns its streams.
+    ///
     /// # Errors
     ///
     /// Nothing changes. [`Refused::Over`]; [`Refused::NoStream`]; and the errors of [`Sending::finish`].
     #[tactic(auto, using(std::proofs::lemmas::Map::Steps::set_value_same))]
     pub fn finish(&mut self, id: u64) -> Result<(), Refused>
-        ensures sent { OnOk result (Sends (λ h n. HalfChanges after_end (Ok tt) h n) (ends_of self.old) id
-            (ends_of self.new)) }
+        ensures sent { OnOk result (Finishes (ends_of self.old) id (ends_of self.new)) }
         ensures refused { IfErr result (λ e. Refuses (λ h x. after_half after_end h ≡ Err x)
             (ends_of self.old) id e) }
         ensures kept { OnErr result (ends_of self.new ≡ ends_of self.old) }
@@ -229,9 +232,17 @@ impl H3Connection {
         if self.over {
             return Err(Refused::Over);
         }
+        let closes = self.streams.is_open(id);
         let Some(half) = self.halves.get_mut(&id) else {
             return Err(Refused::NoStream);
         };
-        half.finish()
+        match half.finish() {
+            Ok(()) => {}
+            Err(refused) => return Err(refused),
+        }
+        if closes {
+            self.streams.abandon(id);
+        }
+        Ok(())
     }
 }

@@ -5,7 +5,7 @@ ghost use Rattle.wtp_sending.specs.Message.{headers_wire, SendsHead, RefusesHead
 ghost use Rattle.wtp_sending.specs.Session.{in_session, bi_head};
 ghost use Rattle.wtp_sending.specs.Writing.{WritesAll, FailsAllocating};
 ghost use Rattle.wtp_streams.specs.Calls.{opens_in, belongs_in};
-ghost use Rattle.wtp_streams.specs.Ends.{asked_of as asked_of_is, peer_in};
+ghost use Rattle.wtp_streams.specs.Ends.{asked_of as asked_of_is, peer_in, is_open as is_open_is};
 ghost use Rattle.wtp_streams.specs.Sends.{is_leaving as is_leaving_is};
 ghost use Rattle.wtp_streams.specs.Table.{table_of, entry_at, known_in, has_ended as has_ended_is};
 
@@ -15,6 +15,7 @@ use crate::streams::Streams;
 use crate::streams::sessions::has_ended;
 use std::alloc::Global;
 use std::collections::btree_map::Entry;
+use wtp_connection::connection::Known;
 use wtp_core::bytes::BytesWriter;
 use wtp_fields::fields::FieldList;
 use wtp_messages::response::Asked;
@@ -48,6 +49,13 @@ impl Streams {
         ensures { result ≡ is_leaving_is (table_of self.now) }
     {
         self.connection.is_unprocessed(u64::MAX)
+    }
+
+    // Returns whether a session is open.
+    pub(crate) fn is_open(&self, session: u64) -> bool
+        ensures { result ≡ is_open_is (known_in (table_of self.now) session) }
+    {
+        matches!(self.known(session), Known::Open)
     }
 
     // Returns whether a session that was open is open no longer.
