@@ -23,6 +23,18 @@ static GET: [u8; 19] = [
     0xf4, 0xff, 0xc1,
 ];
 
+/// `:method: CONNECT`, `:scheme: https`, `:path: /`, `:authority: a`, `:protocol: connect-udp`.
+static CONNECT_UDP: [u8; 31] = [
+    0x00, 0x00, 0xcf, 0xd7, 0xc1, 0x50, 0x01, 0x61, 0x27, 0x02, 0x3a, 0x70, 0x72, 0x6f, 0x74, 0x6f,
+    0x63, 0x6f, 0x6c, 0x0b, 0x63, 0x6f, 0x6e, 0x6e, 0x65, 0x63, 0x74, 0x2d, 0x75, 0x64, 0x70,
+];
+
+/// The same with `:method: GET`.
+static NO_TUNNEL: [u8; 31] = [
+    0x00, 0x00, 0xd1, 0xd7, 0xc1, 0x50, 0x01, 0x61, 0x27, 0x02, 0x3a, 0x70, 0x72, 0x6f, 0x74, 0x6f,
+    0x63, 0x6f, 0x6c, 0x0b, 0x63, 0x6f, 0x6e, 0x6e, 0x65, 0x63, 0x74, 0x2d, 0x75, 0x64, 0x70,
+];
+
 /// `:status: 200`.
 static OK: [u8; 3] = [0x00, 0x00, 0xd9];
 
@@ -280,14 +292,29 @@ fn a_client_asks_for_what_the_server_allows(rt: HostRuntime) -> Result<(), Fail>
     let mut out = Vec::new(alloc);
     let session = FieldList::request(alloc, "https://example.com/")?;
     let get = list_of(alloc, &GET)?;
-    let mut h3 = client_end(alloc, b"\x00\x04\x00")?;
-    let refused = h3.request(0, &session, &mut out);
+    let tunnel = list_of(alloc, &CONNECT_UDP)?;
+    let mut h3 = client_end(alloc, b"\x00")?;
+    for list in [&session, &tunnel] {
+        let refused = h3.request(0, list, &mut out);
+        assert_refused(&rt, refused, Refused::SettingsMissing, &out, "too early");
+    }
+    let refused = h3.request(0, &list_of(alloc, &NO_TUNNEL)?, &mut out);
     let rule = Refused::Send(SendError::Malformed(Malformed::UnexpectedProtocol));
-    assert_refused(&rt, refused, rule, &out, "no extended CONNECT");
+    assert_refused(&rt, refused, rule, &out, "a malformed request");
+    read_h3(&mut h3, 3, &SESSIONS[1..]);
+    h3.request(0, &session, &mut out)?;
+    out.clear();
+    let mut h3 = client_end(alloc, b"\x00\x04\x00")?;
+    let unsupported = Refused::Send(SendError::Unsupported);
+    for list in [&session, &tunnel] {
+        let refused = h3.request(0, list, &mut out);
+        assert_refused(&rt, refused, unsupported, &out, "no extended CONNECT");
+    }
     let mut h3 = client_end(alloc, b"\x00\x04\x02\x08\x01")?;
     let refused = h3.request(0, &session, &mut out);
-    let unsupported = Refused::Send(SendError::Unsupported);
     assert_refused(&rt, refused, unsupported, &out, "no sessions");
+    h3.request(0, &tunnel, &mut out)?;
+    out.clear();
     let mut h3 = client_end(alloc, b"\x00\x04\x02\x06\x10")?;
     let refused = h3.request(0, &get, &mut out);
     let large = Refused::Send(SendError::TooLarge);

@@ -1,6 +1,6 @@
 -- Both ends of the streams of a connection: what came, and what this endpoint sends (RFC 9114, sections 4.1, 5.2
 -- and 6; RFC 9000, section 2.1).
-use Rattle.std.specs.Prelude.{ℕ, ◌%◌, ◌==◌, ◌^◌, ◌-◌, nat_lt, ◌&&◌, Bool, true, false, List, [], Option, Some, None, option_map, unwrap_or, Result, Ok, codes}
+use Rattle.std.specs.Prelude.{ℕ, ◌%◌, ◌==◌, ◌^◌, ◌-◌, nat_lt, ◌&&◌, Bool, true, false, List, [], Option, Some, None, option_map, is_some, unwrap_or, Result, Ok, codes}
 use Rattle.std.specs.Ordering.{nat_cmp}
 use Rattle.std.specs.List.{find}
 use Rattle.std.specs.Map.{lookup, set_value, remove_entry}
@@ -12,7 +12,7 @@ use Rattle.wtp_frames.specs.declared.endpoint.Side.TheVariants as side
 use Rattle.wtp_messages.specs.declared.response.Asked.{Asked}
 use Rattle.wtp_messages.specs.declared.response.Asked.TheVariants as asked
 use Rattle.wtp_messages.specs.Names.{has_value}
-use Rattle.wtp_messages.specs.Request.{is_connect, asks_for_session}
+use Rattle.wtp_messages.specs.Request.{is_connect, asks_for_session, protocol_of}
 use Rattle.wtp_messages.specs.Response.{is_success}
 use Rattle.wtp_sending.specs.declared.control.ControlSending.{ControlSending}
 use Rattle.wtp_sending.specs.declared.error.SendError.{SendError}
@@ -129,6 +129,10 @@ abbrev pub asked_of : List Field → Asked
 asked_of fields =
     asked_by (is_connect fields) (asks_for_session fields)
     (has_value (codes ":method") (codes "HEAD") fields)
+
+-- it is an extended CONNECT, which has :protocol (RFC 8441, section 4)
+abbrev pub is_extended : List Field → Bool
+is_extended fields = is_connect fields && is_some (protocol_of fields)
 
 -- ---- own halves
 

@@ -12,7 +12,7 @@ use Rattle.wtp_messages.specs.declared.response.Asked.{Asked}
 use Rattle.wtp_messages.specs.Response.{status_of}
 use Rattle.wtp_sending.specs.declared.control.ControlSending.{ControlSending}
 use Rattle.wtp_sending.specs.declared.error.SendError.{SendError}
-use Rattle.wtp_sending.specs.declared.error.SendError.TheVariants.{Unexpected}
+use Rattle.wtp_sending.specs.declared.error.SendError.TheVariants.{Unexpected, Unsupported}
 use Rattle.wtp_sending.specs.declared.message.Sending.{Sending}
 use Rattle.wtp_sending.specs.declared.peer.Peer.{Peer}
 use Rattle.wtp_sending.specs.Message.{sending_of, SendsHead, RefusesHeaders, after_end}
@@ -22,15 +22,16 @@ use Rattle.wtp_connection.specs.declared.connection.Known.{Known}
 use Rattle.wtp_webtransport.specs.declared.fault.Fault.{Fault}
 use Rattle.wtp_webtransport.specs.Events.{Told}
 use Rattle.wtp_webtransport.specs.Joining.{takes, after_datagram}
+use Rattle.wtp_webtransport.specs.Sessions.{allows_sessions}
 use Rattle.wtp_webtransport.specs.Streams.{is_unprocessed_by}
 use Rattle.wtp_streams.specs.declared.entry.Entry.{Entry}
 use Rattle.wtp_streams.specs.declared.h3.half.Half.{Half}
 use Rattle.wtp_streams.specs.declared.h3.half.Half.TheVariants.{Idle, Asked as AskedFor, Message}
 use Rattle.wtp_streams.specs.declared.h3.refused.Refused.{Refused}
-use Rattle.wtp_streams.specs.declared.h3.refused.Refused.TheVariants.{Over, NoStream, StreamExists, InvalidId, GoAway, SessionNotOpen, Send}
+use Rattle.wtp_streams.specs.declared.h3.refused.Refused.TheVariants.{Over, NoStream, StreamExists, InvalidId, GoAway, SettingsMissing, SessionNotOpen, Send}
 use Rattle.wtp_streams.specs.Table.{Table, entry_at, known_in, first_cut, with_connection}
-use Rattle.wtp_streams.specs.Calls.{accepts_in, opens_in, answers_in, abandons_in, cuts_in, ReceivesIn}
-use Rattle.wtp_streams.specs.Ends.{Ends, half_at, opened_at, with_half, with_new_half, without_half, with_table, is_request, is_own, peer_in, asked_of, noted_if, is_open, first_opened}
+use Rattle.wtp_streams.specs.Calls.{asks_session, accepts_in, opens_in, answers_in, abandons_in, cuts_in, ReceivesIn}
+use Rattle.wtp_streams.specs.Ends.{Ends, half_at, opened_at, with_half, with_new_half, without_half, with_table, is_request, is_own, peer_in, asked_of, is_extended, noted_if, is_open, first_opened}
 
 -- ---- an own half
 
@@ -152,20 +153,34 @@ is_leaving t = is_unprocessed_by t.connection.endpoint.side t.connection.goaway 
 abbrev pub has_stream : Ends → ℕ → Bool
 has_stream e id = is_some (half_at e id) || is_some (entry_at e.table id)
 
--- a request may be sent on the stream with this ID, or why not
-abbrev pub may_request : Ends → ℕ → Result (Unit {0}) Refused
-may_request e id =
+-- the settings of the server allow this extended CONNECT: each one needs SETTINGS_ENABLE_CONNECT_PROTOCOL, and a
+-- request for a session those of WebTransport too (RFC 9220, section 3; draft-ietf-webtrans-http3-02, section 3.1)
+abbrev pub supports : Table → List Field → Bool
+supports t fields =
+    t.connection.streams.peer.enable_connect_protocol
+    && (not (asks_session (asked_of fields)) || allows_sessions t.connection)
+
+-- a request with these fields may be sent if it is an extended CONNECT: SETTINGS came, and allow it
+abbrev pub may_extend : Table → List Field → Result (Unit {0}) Refused
+may_extend t fields =
+    if not (is_extended fields) then Ok tt else
+    if not t.configured then Err SettingsMissing else
+    if supports t fields then Ok tt else Err (Send Unsupported)
+
+-- a request with these fields may be sent on the stream with this ID, or why not
+abbrev pub may_request : Ends → ℕ → List Field → Result (Unit {0}) Refused
+may_request e id fields =
     if e.over then Err Over else
     if not (is_client e.side && is_request id) then Err InvalidId else
     if is_leaving e.table then Err GoAway else
-    if has_stream e id then Err StreamExists else Ok tt
+    if has_stream e id then Err StreamExists else may_extend e.table fields
 
 abbrev pub request_at : Ends → ℕ → Sending
 request_at e id = sending_of id (role.Request (peer_in e.table).extended_connect) (peer_in e.table)
 
 -- the request is sent, and the stream waits for its response
 pub record Requests (fields : List Field) (old : Ends) (id : ℕ) (new : Ends) : Type 0 where
-  pub may : may_request old id ≡ Ok tt
+  pub may : may_request old id fields ≡ Ok tt
   pub next : Sending
   pub sends : SendsHead (request_at old id) fields next
   pub others :

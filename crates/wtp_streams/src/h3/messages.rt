@@ -23,8 +23,10 @@ impl H3Connection {
     /// # Errors
     ///
     /// Nothing is written and nothing changes. [`Refused::Over`]; [`Refused::InvalidId`] at a server, and
-    /// for the ID of another stream; [`Refused::GoAway`]; [`Refused::StreamExists`]; and the errors of
-    /// [`Sending::headers`] by what the settings of the peer allow.
+    /// for the ID of another stream; [`Refused::GoAway`]; [`Refused::StreamExists`]; for an extended
+    /// CONNECT, such as a request for a session, [`Refused::SettingsMissing`] until SETTINGS of the peer
+    /// come, and [`SendError::Unsupported`] if they do not allow it (RFC 9220, section 3); and the errors
+    /// of [`Sending::headers`].
     pub fn request<W: BytesWriter>(
         &mut self,
         id: u64,
@@ -32,14 +34,14 @@ impl H3Connection {
         out: &mut W,
     ) -> Result<(), Refused>
         ensures sent { OnOk result (Requests list.now (ends_of self.old) id (ends_of self.new)) }
-        ensures refused { IfErr result (λ e. RefusesRequest (may_request_is (ends_of self.old) id)
+        ensures refused { IfErr result (λ e. RefusesRequest (may_request_is (ends_of self.old) id list.now)
             (request_at (ends_of self.old) id) list.now (W.room out.old) e) }
         ensures kept { OnErr result (ends_of self.new ≡ ends_of self.old) }
         ensures written { WritesAll (headers_wire list.now) result (W.written out.old) (W.room out.old)
             (W.written out.new) (W.room out.new) }
         ensures target { W.target out.new ≡ W.target out.old }
     {
-        match self.may_request(id) {
+        match self.may_request(id, list) {
             Ok(()) => {}
             Err(refused) => return Err(refused),
         }
@@ -65,9 +67,9 @@ impl H3Connection {
         }
     }
 
-    // Checks that a request may be sent on the stream with this ID.
-    fn may_request(&self, id: u64) -> Result<(), Refused>
-        ensures { result ≡ may_request_is (ends_of self.now) id }
+    // Checks that a request with these fields may be sent on the stream with this ID.
+    fn may_request(&self, id: u64, list: &FieldList) -> Result<(), Refused>
+        ensures { result ≡ may_request_is (ends_of self.now) id list.now }
     {
         if self.over {
             return Err(Refused::Over);
@@ -81,7 +83,7 @@ impl H3Connection {
         if self.has_stream(id) {
             return Err(Refused::StreamExists);
         }
-        Ok(())
+        self.streams.may_extend(list)
     }
 
     // Returns whether there is a stream with this ID.

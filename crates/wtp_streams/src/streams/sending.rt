@@ -6,11 +6,12 @@ ghost use Rattle.wtp_sending.specs.Session.{in_session, bi_head};
 ghost use Rattle.wtp_sending.specs.Writing.{WritesAll, FailsAllocating};
 ghost use Rattle.wtp_streams.specs.Calls.{opens_in, belongs_in};
 ghost use Rattle.wtp_streams.specs.Ends.{asked_of as asked_of_is, peer_in, is_open as is_open_is};
-ghost use Rattle.wtp_streams.specs.Sends.{is_leaving as is_leaving_is};
+ghost use Rattle.wtp_streams.specs.Sends.{is_leaving as is_leaving_is, may_extend as may_extend_is};
 ghost use Rattle.wtp_streams.specs.Table.{table_of, entry_at, known_in, has_ended as has_ended_is};
 
 use crate::entry::Entry as Kept;
-use crate::h3::half::asked_of;
+use crate::h3::half::{asked_of, is_extended};
+use crate::h3::refused::Refused;
 use crate::streams::Streams;
 use crate::streams::sessions::has_ended;
 use std::alloc::Global;
@@ -41,6 +42,25 @@ impl Streams {
             extended_connect: settings.enable_connect_protocol,
             sessions: self.connection.allows_sessions(),
             max_section: settings.max_field_section_size.unwrap_or(u64::MAX),
+        }
+    }
+
+    // Checks that a request may be sent if it is an extended CONNECT.
+    pub(crate) fn may_extend(&self, list: &FieldList) -> Result<(), Refused>
+        ensures { result ≡ may_extend_is (table_of self.now) list.now }
+    {
+        if !is_extended(list) {
+            return Ok(());
+        }
+        if !self.configured {
+            return Err(Refused::SettingsMissing);
+        }
+        let settings = self.connection.peer_settings();
+        let is_session = matches!(asked_of(list), Asked::Session);
+        if settings.enable_connect_protocol && (!is_session || self.connection.allows_sessions()) {
+            Ok(())
+        } else {
+            Err(Refused::Send(SendError::Unsupported))
         }
     }
 
