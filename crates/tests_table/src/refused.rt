@@ -231,6 +231,16 @@ fn a_session_ends_with_the_own_half_of_its_stream(rt: HostRuntime) -> Result<(),
     h3.open_bidirectional(1, 0, &mut out)?;
     h3.open_unidirectional(11, 4, &mut out)?;
     out.clear();
+    for id in [7u64, 1] {
+        let code = h3.application_code(id, 0x52e4_a40f_a8fa);
+        assert!(rt; code == Some(30), "the 31st code of an application");
+        let reserved = h3.application_code(id, 0x52e4_a40f_a8f9);
+        assert!(rt; reserved.is_none(), "no application has a reserved code");
+    }
+    for id in [0u64, 2, 3] {
+        let code = h3.application_code(id, 0x52e4_a40f_a8db);
+        assert!(rt; code.is_none(), "another stream, or none");
+    }
     h3.finish(0)?;
     assert!(rt; h3.known(0) == Known::Over, "the session is over");
     assert!(rt; h3.known(4) == Known::Open, "the other one is open");

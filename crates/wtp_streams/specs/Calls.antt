@@ -1,9 +1,10 @@
 -- What the calls of a table are: those of a connection on the stream with this ID (RFC 9114, sections 4.1.1,
 -- 5.2 and 6; draft-ietf-webtrans-http3-02, sections 4 and 5; RFC 9297, section 2.1).
-use Rattle.std.specs.Prelude.{◌≡◌, ℕ, ◌||◌, Bool, true, false, List, Option, Some, None, length}
+use Rattle.std.specs.Prelude.{◌≡◌, ◌≢◌, ℕ, ◌<◌, ◌^◌, ◌||◌, Bool, true, false, List, Option, Some, None, length}
 use Rattle.std.specs.Ordering.{nat_cmp}
 use Rattle.std.specs.Map.{remove_entry}
 use Rattle.std.specs.BTreeMap.{is_at}
+use Rattle.wtp_core.specs.ApplicationCodes.{http3_number}
 use Rattle.wtp_connection.specs.declared.connection.Known.TheVariants as known
 use Rattle.wtp_connection.specs.declared.connection.datagrams.DatagramFor.{DatagramFor}
 use Rattle.wtp_connection.specs.declared.stream.Purpose.{Purpose}
@@ -16,7 +17,7 @@ use Rattle.wtp_webtransport.specs.declared.stream.Stream.{Stream}
 use Rattle.wtp_webtransport.specs.declared.event.Waits.{Waits as Wait}
 use Rattle.wtp_webtransport.specs.declared.event.Waits.TheVariants as wait
 use Rattle.wtp_webtransport.specs.Events.{Told, Joins}
-use Rattle.wtp_webtransport.specs.Streams.{accepted, request_stream, session_stream, answered, waits_for}
+use Rattle.wtp_webtransport.specs.Streams.{accepted, request_stream, session_stream, answered, waits_for, IsOfSession}
 use Rattle.wtp_webtransport.specs.Receiving.{Outcome, Receives}
 use Rattle.wtp_webtransport.specs.Joining.{Outcome as Joining, joins, resets, stops_half, abandons, overflows, rejects, stops}
 use Rattle.wtp_streams.specs.declared.entry.Entry.{Entry}
@@ -197,6 +198,17 @@ answers_in t id status = answers_if (awaits_answer (wait_of (entry_at t id))) t 
 -- what is to be done with a datagram of a session
 abbrev pub action_in : Table → ℕ → DatagramFor
 action_in t session = datagram_for (known_in t session)
+
+-- the stream is one of a session
+abbrev pub BelongsToSession : Option Entry → Type 0
+BelongsToSession None = ⊥
+BelongsToSession (Some e) = IsOfSession e.stream.part
+
+-- the application's error code of this code of a RESET_STREAM or STOP_SENDING, which streams of sessions alone have
+-- (draft-ietf-webtrans-http3-02, section 4.3)
+abbrev pub IsCodeIn : Type 0 → ℕ → Option ℕ → Type 0
+IsCodeIn Belongs code None = Belongs → (n : ℕ) → n < 2 ^ 32 → code ≢ http3_number n
+IsCodeIn Belongs code (Some n) = Belongs × (code ≡ http3_number n)
 
 -- a stream whose session is over is read no further
 abbrev pub cut : Table → ℕ → Entry → Joining → Table

@@ -27,13 +27,15 @@ use Rattle.wtp_webtransport.specs.declared.event.HeadersKind.{HeadersKind}
 use Rattle.wtp_webtransport.specs.declared.event.HeadersKind.TheVariants as kind
 use Rattle.wtp_webtransport.specs.Events.{Told, Headers, SessionRequested, SessionReady, SessionLost, TooLarge, Malformed, StreamError, ConnectionError, Reset}
 use Rattle.wtp_webtransport.specs.Sessions.{allows_sessions}
+use Rattle.wtp_streams.specs.declared.entry.Entry.{Entry}
 use Rattle.wtp_streams.specs.declared.h3.H3Connection.{H3Connection}
 use Rattle.wtp_streams.specs.declared.h3.half.Half.{Half}
 use Rattle.wtp_streams.specs.declared.h3.half.Half.TheVariants.{Idle, Asked as AskedFor, Message}
 use Rattle.wtp_streams.specs.declared.h3.mark.Mark.{Mark}
 use Rattle.wtp_streams.specs.declared.h3.mark.Mark.TheVariants as mark
 use Rattle.wtp_streams.specs.declared.limits.Limits.{Limits}
-use Rattle.wtp_streams.specs.Table.{Table, table_of, table_for, over_in}
+use Rattle.wtp_streams.specs.Calls.{BelongsToSession}
+use Rattle.wtp_streams.specs.Table.{Table, table_of, table_for, entry_at, over_in}
 
 -- the own side, the streams that came, the own control stream, the own halves of streams with a message, the unidirectional
 -- streams that were opened here with their sessions, and whether an error ended the connection
@@ -198,6 +200,14 @@ noted_if e id (Some told) = noted e id told
 abbrev pub is_open : Known → Bool
 is_open known.Open = true
 is_open _ = false
+
+-- the stream with this ID is one of a session, also if it was opened here and is unidirectional
+abbrev pub IsMember : Option ℕ → Option Entry → Type 0
+IsMember (Some session) found = Unit {0}
+IsMember None found = BelongsToSession found
+
+abbrev pub IsSessionStream : Ends → ℕ → Type 0
+IsSessionStream e id = IsMember (opened_at e id) (entry_at e.table id)
 
 -- the first unidirectional stream that was opened here for a session that is over
 abbrev pub first_opened : Ends → Option ℕ

@@ -2,8 +2,8 @@
 ghost use Rattle.std.specs.Prelude.{◌≡◌, MatchResult, Ok, Err, option_map};
 ghost use Rattle.wtp_webtransport.specs.Joining.{takes, after_datagram};
 ghost use Rattle.wtp_webtransport.specs.Events.{told_of};
-ghost use Rattle.wtp_streams.specs.Calls.{resets_in, stops_in, abandons_in, overflows_in, forgets_in, stopped_in, action_in};
-ghost use Rattle.wtp_streams.specs.Ends.{ends_of, first_opened as first_opened_is};
+ghost use Rattle.wtp_streams.specs.Calls.{resets_in, stops_in, abandons_in, overflows_in, forgets_in, stopped_in, action_in, IsCodeIn};
+ghost use Rattle.wtp_streams.specs.Ends.{ends_of, first_opened as first_opened_is, IsSessionStream};
 ghost use Rattle.wtp_streams.specs.Sends.{through, halved, over_if, ends_after_datagram, cut_first, cut_opened};
 
 use crate::h3::H3Connection;
@@ -11,6 +11,7 @@ use crate::streams::sessions::Datagram;
 use wtp_connection::stream::Purpose;
 use wtp_webtransport::event::Event;
 use wtp_webtransport::fault::Fault;
+use wtp_webtransport::stream::Stream;
 
 impl H3Connection {
     /// Says that the peer reset the stream with this ID, as
@@ -114,6 +115,20 @@ impl H3Connection {
                 self.over = true;
                 Err(fault)
             }
+        }
+    }
+
+    /// Returns the application's error code in a RESET_STREAM or STOP_SENDING of the peer with this code,
+    /// if the stream with this ID is one of a session, as
+    /// [`Streams::application_code`](crate::streams::Streams::application_code) does, or a unidirectional
+    /// one that was opened here for a session. Call it before [`stop`](Self::stop) and
+    /// [`forget`](Self::forget), after which there may be no such stream.
+    pub fn application_code(&self, id: u64, code: u64) -> Option<u32>
+        ensures { IsCodeIn (IsSessionStream (ends_of self.now) id) code result }
+    {
+        match self.opened.get(&id) {
+            Some(session) => Stream::of_session(*session).application_code(code),
+            None => self.streams.application_code(id, code),
         }
     }
 

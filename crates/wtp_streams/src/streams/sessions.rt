@@ -2,7 +2,7 @@
 ghost use Rattle.std.specs.Prelude.{◌≡◌, Ok, Err, MatchResult, option_map};
 ghost use Rattle.wtp_webtransport.specs.Joining.{takes, after_datagram};
 ghost use Rattle.wtp_streams.specs.Table.{table_of, with_connection, entry_at, is_cut as is_cut_is, has_ended as has_ended_is, first_cut as first_cut_is};
-ghost use Rattle.wtp_streams.specs.Calls.{awaits_answer as awaits_answer_is, wait_of, answers_in, action_in, cuts_in};
+ghost use Rattle.wtp_streams.specs.Calls.{awaits_answer as awaits_answer_is, wait_of, answers_in, action_in, cuts_in, BelongsToSession, IsCodeIn};
 
 use crate::entry::Entry;
 use crate::streams::Streams;
@@ -75,6 +75,19 @@ impl Streams {
             })),
             Ok(None) => Ok(None),
             Err(fault) => Err(fault),
+        }
+    }
+
+    /// Returns the application's error code in a RESET_STREAM or STOP_SENDING of the peer with this code,
+    /// if the stream with this ID is one of a session, as
+    /// [`Stream::application_code`](wtp_webtransport::stream::Stream::application_code) does. Returns
+    /// `None` if there is no such stream.
+    pub fn application_code(&self, id: u64, code: u64) -> Option<u32>
+        ensures { IsCodeIn (BelongsToSession (entry_at (table_of self.now) id)) code result }
+    {
+        match self.table.get(&id) {
+            Some(entry) => entry.stream.application_code(code),
+            None => None,
         }
     }
 
