@@ -21,8 +21,10 @@ use Rattle.wtp_sending.specs.declared.message.Sending.{Sending}
 use Rattle.wtp_sending.specs.declared.peer.Peer.{Peer}
 use Rattle.wtp_sending.specs.Control.{control_to}
 use Rattle.wtp_sending.specs.Message.{opens}
+use Rattle.wtp_connection.specs.declared.budget.RequestBudget.{RequestBudget}
 use Rattle.wtp_connection.specs.declared.connection.Known.{Known}
 use Rattle.wtp_connection.specs.declared.connection.Known.TheVariants as known
+use Rattle.wtp_connection.specs.Budget.{budget_of}
 use Rattle.wtp_webtransport.specs.declared.event.HeadersKind.{HeadersKind}
 use Rattle.wtp_webtransport.specs.declared.event.HeadersKind.TheVariants as kind
 use Rattle.wtp_webtransport.specs.Events.{Told, Headers, SessionRequested, SessionReady, SessionLost, TooLarge, Malformed, StreamError, ConnectionError, Reset}
@@ -38,13 +40,15 @@ use Rattle.wtp_streams.specs.Calls.{BelongsToSession}
 use Rattle.wtp_streams.specs.Table.{Table, table_of, table_for, entry_at, over_in}
 
 -- the own side, the streams that came, the own control stream, the own halves of streams with a message, the unidirectional
--- streams that were opened here with their sessions, and whether an error ended the connection
+-- streams that were opened here with their sessions, the requests that were answered or given up, and whether an error
+-- ended the connection
 pub record Ends : Type 0 where
   pub side : Side
   pub table : Table
   pub control : ControlSending
   pub halves : List (ℕ × Half)
   pub opened : List (ℕ × ℕ)
+  pub budget : RequestBudget
   pub over : Bool
 
 abbrev pub ends_of : H3Connection → Ends
@@ -54,6 +58,7 @@ ends_of c = record {
   control = c.control;
   halves = c.halves.entries;
   opened = c.opened.entries;
+  budget = c.budget;
   over = c.over;
 }
 
@@ -70,6 +75,7 @@ ends_for e extended limits = record {
   control = control_to (other_side e.side);
   halves = [];
   opened = [];
+  budget = budget_of limits.max_resets;
   over = false;
 }
 

@@ -1,6 +1,6 @@
 -- What the calls of a connection send: what `wtp_sending` may send at the own half of the stream with this ID, and
 -- nothing else changes (RFC 9114, sections 4.1, 5.2 and 6.2.1; draft-ietf-webtrans-http3-02, sections 4 and 5).
-use Rattle.std.specs.Prelude.{◌≡◌, ℕ, ◌^◌, ◌-◌, Bool, true, false, not, ◌&&◌, ◌||◌, is_some, if◌then◌else◌, List, [], Option, Some, None, Result, Ok, Err, is_err}
+use Rattle.std.specs.Prelude.{◌≡◌, ℕ, ◌^◌, ◌-◌, nat_lt, Bool, true, false, not, ◌&&◌, ◌||◌, is_some, if◌then◌else◌, List, [], Option, Some, None, Result, Ok, Err, is_err}
 use Rattle.std.specs.Ordering.{nat_cmp}
 use Rattle.std.specs.Map.{remove_entry}
 use Rattle.std.specs.BTreeMap.{is_at, insert_entry}
@@ -18,9 +18,14 @@ use Rattle.wtp_sending.specs.declared.peer.Peer.{Peer}
 use Rattle.wtp_sending.specs.Message.{sending_of, SendsHead, RefusesHeaders, after_end}
 use Rattle.wtp_sending.specs.Sent.{Sent, SentHeaders, SentClose, Leads}
 use Rattle.wtp_sending.specs.Session.{in_session}
+use Rattle.wtp_frames.specs.declared.fault.Fault.TheVariants as stream
 use Rattle.wtp_connection.specs.declared.connection.Known.{Known}
+use Rattle.wtp_connection.specs.declared.fault.Fault.TheVariants as streams_fault
+use Rattle.wtp_connection.specs.declared.stream.Purpose.TheVariants as purpose
+use Rattle.wtp_connection.specs.Budget.{is_exceeded, with_answer, with_reset}
 use Rattle.wtp_webtransport.specs.declared.fault.Fault.{Fault}
-use Rattle.wtp_webtransport.specs.Events.{Told}
+use Rattle.wtp_webtransport.specs.declared.fault.Fault.TheVariants as fault
+use Rattle.wtp_webtransport.specs.Events.{Told, ConnectionError}
 use Rattle.wtp_webtransport.specs.Joining.{takes, after_datagram}
 use Rattle.wtp_webtransport.specs.Sessions.{allows_sessions}
 use Rattle.wtp_webtransport.specs.Streams.{is_unprocessed_by}
@@ -30,7 +35,7 @@ use Rattle.wtp_streams.specs.declared.h3.half.Half.TheVariants.{Idle, Asked as A
 use Rattle.wtp_streams.specs.declared.h3.refused.Refused.{Refused}
 use Rattle.wtp_streams.specs.declared.h3.refused.Refused.TheVariants.{Over, NoStream, StreamExists, InvalidId, GoAway, SettingsMissing, SessionNotOpen, Send}
 use Rattle.wtp_streams.specs.Table.{Table, entry_at, known_in, first_cut, with_connection}
-use Rattle.wtp_streams.specs.Calls.{asks_session, accepts_in, opens_in, answers_in, abandons_in, cuts_in, ReceivesIn}
+use Rattle.wtp_streams.specs.Calls.{asks_session, accepts_in, opens_in, answers_in, abandons_in, resets_in, stops_in, stopped_in, cuts_in, awaited_in, unawaited, ReceivesIn}
 use Rattle.wtp_streams.specs.Ends.{Ends, half_at, opened_at, with_half, with_new_half, without_half, with_table, is_request, is_own, peer_in, asked_of, is_extended, noted_if, is_open, first_opened}
 
 -- ---- an own half
@@ -125,16 +130,26 @@ Refuses F old id e = RefusesAt (own_half old id) F e
 
 -- ---- responses
 
+-- a final response answers its request, which is counted
+abbrev pub settled_if : Bool → Ends → ℕ → Ends
+settled_if true e id =
+    record e { table = unawaited e.table id; budget = with_answer e.budget }
+settled_if false e id = e
+
+abbrev pub settled : Ends → ℕ → ℕ → Ends
+settled e id status = settled_if (nat_lt 199 status && awaited_in (entry_at e.table id)) e id
+
 -- the peer's half goes on by the status, if it waits for an answer
-abbrev pub answered_with : Table → ℕ → Option ℕ → Table
-answered_with t id None = t
-answered_with t id (Some status) = answers_in t id status
+abbrev pub answered_with : Ends → ℕ → Option ℕ → Ends
+answered_with e id None = e
+answered_with e id (Some status) =
+    settled (with_table e (answers_in e.table id status)) id status
 
 abbrev pub RespondsAt : Result Half Refused → List Field → Ends → ℕ → Ends → Type 0
 RespondsAt (Err r) fields old id new = ⊥
 RespondsAt (Ok h) fields old id new =
     (next : Half) × HalfResponds (peer_in old.table) id fields h next
-    × (new ≡ with_table (with_half old id next) (answered_with old.table id (status_of fields)))
+    × (new ≡ answered_with (with_half old id next) id (status_of fields))
 
 abbrev pub Responds : List Field → Ends → ℕ → Ends → Type 0
 Responds fields old id new = RespondsAt (own_half old id) fields old id new
@@ -276,6 +291,39 @@ ReceivesEnds old id bytes fin r new =
 abbrev pub through : Ends → ℕ → Option Told × Table → Option Told × Ends
 through e id x = (x.0, noted_if (with_table e x.1) id x.0)
 
+-- the request on this stream has no answer, and its client gives it up: that is counted, once (RFC 9114, sections 4.1.1
+-- and 10.5)
+abbrev pub is_given_up : Ends → ℕ → Bool
+is_given_up e id = not e.over && awaited_in (entry_at e.table id)
+
+abbrev pub given_up_if : Bool → Ends → ℕ → Ends
+given_up_if true e id =
+    record e { table = unawaited e.table id; budget = with_reset e.budget }
+given_up_if false e id = e
+
+abbrev pub given_up : Ends → ℕ → Ends
+given_up e id = given_up_if (is_given_up e id) e id
+
+-- too many were given up
+abbrev pub is_load : Ends → ℕ → Bool
+is_load e id = is_given_up e id && is_exceeded (given_up e id).budget
+
+-- that ends the connection with H3_EXCESSIVE_LOAD: nothing is received or sent any more
+abbrev pub ended_by_load : Ends → Option Told × Ends
+ended_by_load e = (
+  Some (ConnectionError (fault.Streams (streams_fault.Stream stream.ExcessiveLoad))),
+  record (with_table e (stopped_in e.table purpose.Control).1) { over = true },
+)
+
+-- a call by which a client may give up a request
+abbrev pub unless_load : Bool → (Ends → Option Told × Ends) → Ends → Option Told × Ends
+unless_load true F e = ended_by_load e
+unless_load false F e = F e
+
+abbrev pub resets_ends : Ends → ℕ → Option Told × Ends
+resets_ends e id =
+    unless_load (is_load e id) (λ x. through x id (resets_in x.table id)) (given_up e id)
+
 -- a unidirectional stream that was opened here is gone
 abbrev pub without_opened : Ends → ℕ → Ends
 without_opened e id = record e { opened = remove_entry (is_at (nat_cmp id)) e.opened }
@@ -283,6 +331,11 @@ without_opened e id = record e { opened = remove_entry (is_at (nat_cmp id)) e.op
 -- nothing more is sent on the stream
 abbrev pub halved : Option Told × Ends → ℕ → Option Told × Ends
 halved x id = (x.0, without_opened (without_half x.1 id) id)
+
+abbrev pub stops_ends : Ends → ℕ → Option Told × Ends
+stops_ends e id =
+    unless_load (is_load e id) (λ x. halved (through x id (stops_in x.table id)) id)
+    (given_up e id)
 
 -- an error of an own stream for a purpose, or of a datagram, ends the connection
 abbrev pub over_if : Ends → Option Fault × Table → Option Fault × Ends

@@ -1,10 +1,10 @@
 //! Messages that are sent: requests and responses, their content, trailers and end (RFC 9114, section 4.1).
-ghost use Rattle.std.specs.Prelude.{◌≡◌, Ok, Err, OnOk, OnErr, IfErr, length};
+ghost use Rattle.std.specs.Prelude.{◌≡◌, Ok, Err, Some, OnOk, OnErr, IfErr, length};
 ghost use Rattle.wtp_sending.specs.Message.{data_head, headers_wire, after_data, after_bytes, after_end, RefusesHeaders, RefusesTrailers};
 ghost use Rattle.wtp_sending.specs.Sent.{SentDataHead, SentTrailers};
 ghost use Rattle.wtp_sending.specs.Writing.{WritesAll, Fails};
 ghost use Rattle.wtp_streams.specs.Ends.{ends_of, peer_in};
-ghost use Rattle.wtp_streams.specs.Sends.{Sends, Responds, Requests, Finishes, Refuses, HalfSends, HalfRefuses, HalfChanges, RefusesBy, RefusesRequest, response_in, request_at, may_request as may_request_is, has_stream as has_stream_is, after_half};
+ghost use Rattle.wtp_streams.specs.Sends.{Sends, Responds, Requests, Finishes, Refuses, HalfSends, HalfRefuses, HalfChanges, RefusesBy, RefusesRequest, response_in, request_at, may_request as may_request_is, has_stream as has_stream_is, answered_with, after_half};
 
 use crate::h3::H3Connection;
 use crate::h3::half::{Half, session_id, status_of};
@@ -129,9 +129,19 @@ impl H3Connection {
             Err(refused) => return Err(refused),
         }
         if let Some(status) = status_of(list) {
-            self.streams.answer(id, status);
+            self.answer(id, status);
         }
         Ok(())
+    }
+
+    // Takes a response with this status to the request on a stream, which is its answer if it is final.
+    fn answer(&mut self, id: u64, status: u32)
+        ensures { ends_of self.new ≡ answered_with (ends_of self.old) id (Some status) }
+    {
+        self.streams.answer(id, status);
+        if status > 199 && self.streams.take_awaited(id) {
+            self.budget.answered();
+        }
     }
 
     /// Writes the head of a DATA frame with `len` bytes on the stream with this ID. The bytes are sent after

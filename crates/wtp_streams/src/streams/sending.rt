@@ -4,7 +4,7 @@ ghost use Rattle.std.specs.Prelude.{◌≡◌, Ok, OnOk, OnErr, IfErr, None, is_
 ghost use Rattle.wtp_sending.specs.Message.{headers_wire, SendsHead, RefusesHeaders};
 ghost use Rattle.wtp_sending.specs.Session.{in_session, bi_head};
 ghost use Rattle.wtp_sending.specs.Writing.{WritesAll, FailsAllocating};
-ghost use Rattle.wtp_streams.specs.Calls.{opens_in, belongs_in};
+ghost use Rattle.wtp_streams.specs.Calls.{opens_in, belongs_in, awaited_in, unawaited};
 ghost use Rattle.wtp_streams.specs.Ends.{asked_of as asked_of_is, peer_in, is_open as is_open_is};
 ghost use Rattle.wtp_streams.specs.Sends.{is_leaving as is_leaving_is, may_extend as may_extend_is};
 ghost use Rattle.wtp_streams.specs.Table.{table_of, entry_at, known_in, has_ended as has_ended_is};
@@ -31,6 +31,30 @@ impl Streams {
         ensures { result ≡ is_some (entry_at (table_of self.now) id) }
     {
         self.table.contains_key(&id)
+    }
+
+    // Takes the answer, or the end, of the request on a stream. Returns whether there is one without an answer.
+    pub(crate) fn take_awaited(&mut self, id: u64) -> bool
+        ensures taken { result ≡ awaited_in (entry_at (table_of self.old) id) }
+        ensures table { table_of self.new ≡ unawaited (table_of self.old) id }
+    {
+        if !self.is_awaited(id) {
+            return false;
+        }
+        if let Some(entry) = self.table.get_mut(&id) {
+            entry.awaited = false;
+        }
+        true
+    }
+
+    // Returns whether a stream has a request without an answer.
+    fn is_awaited(&self, id: u64) -> bool
+        ensures { result ≡ awaited_in (entry_at (table_of self.now) id) }
+    {
+        match self.table.get(&id) {
+            Some(entry) => entry.awaited,
+            None => false,
+        }
     }
 
     // Returns what the peer allows to be sent.

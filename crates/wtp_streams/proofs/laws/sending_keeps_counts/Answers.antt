@@ -1,4 +1,4 @@
-use Rattle.wtp_streams.proofs.CountLemmas.{receive_counted}
+use Rattle.wtp_streams.proofs.ReceivingLemmas.{receive_counted}
 use Rattle.wtp_streams.proofs.SendingLemmas.{request_counted, respond_counted, close_counted, finish_counted}
 use Rattle.wtp_streams.specs.Sends.{session_half}
 use Rattle.wtp_streams.proofs.laws.sending_keeps_counts.Goals as goal
