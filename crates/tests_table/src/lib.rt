@@ -7,6 +7,8 @@ mod early;
 #[cfg(test)]
 mod errors;
 #[cfg(test)]
+mod given_up;
+#[cfg(test)]
 mod playing;
 #[cfg(test)]
 mod refused;

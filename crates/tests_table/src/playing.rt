@@ -22,10 +22,15 @@ pub(crate) static EARLY: [u8; 5] = [0x40, 0x54, 0x00, 0x61, 0x62];
 
 /// Returns a server with WebTransport.
 pub(crate) fn server(alloc: Global) -> Streams {
+    limited_server(alloc, Limits::new())
+}
+
+/// Returns one with these limits.
+pub(crate) fn limited_server(alloc: Global, limits: Limits) -> Streams {
     let mut endpoint = Endpoint::new(Side::Server);
     endpoint.webtransport = true;
     endpoint.datagrams = true;
-    Streams::new(alloc, endpoint, true, Limits::new())
+    Streams::new(alloc, endpoint, true, limits)
 }
 
 /// Reads a stream, and returns how many bytes were consumed before the last event, which is the first
@@ -51,10 +56,15 @@ pub(crate) fn read(streams: &mut Streams, id: u64, bytes: &[u8]) -> (usize, u64)
 
 /// Returns a server with WebTransport that sends too.
 pub(crate) fn server_end(alloc: Global) -> H3Connection {
+    limited_end(alloc, Limits::new())
+}
+
+/// Returns one with these limits.
+pub(crate) fn limited_end(alloc: Global, limits: Limits) -> H3Connection {
     let mut endpoint = Endpoint::new(Side::Server);
     endpoint.webtransport = true;
     endpoint.datagrams = true;
-    H3Connection::new(alloc, endpoint, true, Limits::new())
+    H3Connection::new(alloc, endpoint, true, limits)
 }
 
 /// Decodes a section.

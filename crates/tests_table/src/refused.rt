@@ -4,6 +4,7 @@ use crate::playing::{CONTROL, REQUEST, list_of, read_h3, server_end};
 use std::alloc::Global;
 use std::process::Abort;
 use std::test::Fail;
+use wtp_connection::connection::Known;
 use wtp_core::varint::VarInt;
 use wtp_fields::fields::FieldList;
 use wtp_frames::endpoint::{Endpoint, Side};
@@ -20,6 +21,18 @@ use wtp_wire::settings::Settings;
 static GET: [u8; 19] = [
     0x00, 0x00, 0xd1, 0xd7, 0x50, 0x8c, 0xf1, 0xe3, 0xc2, 0xe5, 0xf2, 0x3a, 0x6b, 0xa0, 0xab, 0x90,
     0xf4, 0xff, 0xc1,
+];
+
+/// `:method: CONNECT`, `:scheme: https`, `:path: /`, `:authority: a`, `:protocol: connect-udp`.
+static CONNECT_UDP: [u8; 31] = [
+    0x00, 0x00, 0xcf, 0xd7, 0xc1, 0x50, 0x01, 0x61, 0x27, 0x02, 0x3a, 0x70, 0x72, 0x6f, 0x74, 0x6f,
+    0x63, 0x6f, 0x6c, 0x0b, 0x63, 0x6f, 0x6e, 0x6e, 0x65, 0x63, 0x74, 0x2d, 0x75, 0x64, 0x70,
+];
+
+/// The same with `:method: GET`.
+static NO_TUNNEL: [u8; 31] = [
+    0x00, 0x00, 0xd1, 0xd7, 0xc1, 0x50, 0x01, 0x61, 0x27, 0x02, 0x3a, 0x70, 0x72, 0x6f, 0x74, 0x6f,
+    0x63, 0x6f, 0x6c, 0x0b, 0x63, 0x6f, 0x6e, 0x6e, 0x65, 0x63, 0x74, 0x2d, 0x75, 0x64, 0x70,
 ];
 
 /// `:status: 200`.
@@ -201,6 +214,49 @@ fn a_session_is_open_in_both_directions_or_in_none(rt: HostRuntime) -> Result<()
 }
 
 #[test]
+fn a_session_ends_with_the_own_half_of_its_stream(rt: HostRuntime) -> Result<(), Fail> {
+    let alloc = rt.alloc();
+    let mut out = Vec::new(alloc);
+    let ok = list_of(alloc, &OK)?;
+    let mut h3 = server_end(alloc);
+    for id in [2u64, 0, 4] {
+        h3.accept(id)?;
+    }
+    read_h3(&mut h3, 2, &CONTROL);
+    for id in [0u64, 4] {
+        read_h3(&mut h3, id, &REQUEST);
+        h3.respond(id, &ok, &mut out)?;
+    }
+    h3.open_unidirectional(7, 0, &mut out)?;
+    h3.open_bidirectional(1, 0, &mut out)?;
+    h3.open_unidirectional(11, 4, &mut out)?;
+    out.clear();
+    for id in [7u64, 1] {
+        let code = h3.application_code(id, 0x52e4_a40f_a8fa);
+        assert!(rt; code == Some(30), "the 31st code of an application");
+        let reserved = h3.application_code(id, 0x52e4_a40f_a8f9);
+        assert!(rt; reserved.is_none(), "no application has a reserved code");
+    }
+    for id in [0u64, 2, 3] {
+        let code = h3.application_code(id, 0x52e4_a40f_a8db);
+        assert!(rt; code.is_none(), "another stream, or none");
+    }
+    h3.finish(0)?;
+    assert!(rt; h3.known(0) == Known::Over, "the session is over");
+    assert!(rt; h3.known(4) == Known::Open, "the other one is open");
+    assert_no_session(&rt, &mut h3, Refused::SessionNotOpen, &mut out);
+    assert!(rt; h3.next_to_reset() == Some(1), "its streams end");
+    assert!(rt; h3.next_to_reset() == Some(7), "in both directions");
+    assert!(rt; h3.next_to_reset().is_none(), "and no others");
+    let late = read_h3(&mut h3, 0, b"\x00\x04\x68\x43\x00\x00");
+    assert!(rt; late == (6, 0), "what the peer sends on it is discarded");
+    let again = h3.finish(0);
+    let unexpected = Refused::Send(SendError::Unexpected);
+    assert_refused(&rt, again, unexpected, &out, "it ends once");
+    Ok(())
+}
+
+#[test]
 fn a_session_that_ended_there_is_over_here(rt: HostRuntime) -> Result<(), Fail> {
     let alloc = rt.alloc();
     let mut out = Vec::new(alloc);
@@ -246,14 +302,29 @@ fn a_client_asks_for_what_the_server_allows(rt: HostRuntime) -> Result<(), Fail>
     let mut out = Vec::new(alloc);
     let session = FieldList::request(alloc, "https://example.com/")?;
     let get = list_of(alloc, &GET)?;
-    let mut h3 = client_end(alloc, b"\x00\x04\x00")?;
-    let refused = h3.request(0, &session, &mut out);
+    let tunnel = list_of(alloc, &CONNECT_UDP)?;
+    let mut h3 = client_end(alloc, b"\x00")?;
+    for list in [&session, &tunnel] {
+        let refused = h3.request(0, list, &mut out);
+        assert_refused(&rt, refused, Refused::SettingsMissing, &out, "too early");
+    }
+    let refused = h3.request(0, &list_of(alloc, &NO_TUNNEL)?, &mut out);
     let rule = Refused::Send(SendError::Malformed(Malformed::UnexpectedProtocol));
-    assert_refused(&rt, refused, rule, &out, "no extended CONNECT");
+    assert_refused(&rt, refused, rule, &out, "a malformed request");
+    read_h3(&mut h3, 3, &SESSIONS[1..]);
+    h3.request(0, &session, &mut out)?;
+    out.clear();
+    let mut h3 = client_end(alloc, b"\x00\x04\x00")?;
+    let unsupported = Refused::Send(SendError::Unsupported);
+    for list in [&session, &tunnel] {
+        let refused = h3.request(0, list, &mut out);
+        assert_refused(&rt, refused, unsupported, &out, "no extended CONNECT");
+    }
     let mut h3 = client_end(alloc, b"\x00\x04\x02\x08\x01")?;
     let refused = h3.request(0, &session, &mut out);
-    let unsupported = Refused::Send(SendError::Unsupported);
     assert_refused(&rt, refused, unsupported, &out, "no sessions");
+    h3.request(0, &tunnel, &mut out)?;
+    out.clear();
     let mut h3 = client_end(alloc, b"\x00\x04\x02\x06\x10")?;
     let refused = h3.request(0, &get, &mut out);
     let large = Refused::Send(SendError::TooLarge);

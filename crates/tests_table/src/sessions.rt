@@ -1,7 +1,8 @@
 //! Sessions with their streams (draft-ietf-webtrans-http3-02, sections 3 to 5; RFC 9297, section 2.1).
-use crate::playing::{CONTROL, EARLY, REQUEST, read, server};
+use crate::playing::{CONTROL, EARLY, REQUEST, limited_server, read, server};
 use std::alloc::{AllocError, Global};
 use std::process::Abort;
+use wtp_connection::connection::Known;
 use wtp_connection::connection::datagrams::DatagramFor;
 use wtp_connection::stream::Purpose;
 use wtp_frames::endpoint::{Endpoint, Side};
@@ -111,6 +112,45 @@ fn a_refused_session_refuses_its_streams(rt: HostRuntime) -> Result<(), AllocErr
     );
     let refused = read(&mut streams, 6, b"ab");
     assert!(rt; refused == (2, 0x3994_bd84), "and is rejected");
+    Ok(())
+}
+
+#[test]
+fn a_request_above_the_bound_is_rejected(rt: HostRuntime) -> Result<(), AllocError> {
+    let mut limits = Limits::new();
+    limits.max_sessions = 2;
+    let mut streams = limited_server(rt.alloc(), limits);
+    for id in [2u64, 0, 4, 8, 12, 16, 20, 24, 28] {
+        streams.accept(id)?;
+    }
+    read(&mut streams, 2, CONTROL.as_slice());
+    // A request that is cut is none for a session.
+    read(&mut streams, 0, REQUEST.get(..20).unwrap_or(&[]));
+    for id in [4u64, 8] {
+        let asked = read(&mut streams, id, REQUEST.as_slice());
+        assert!(rt; asked == (34, 0), "a session is asked for");
+    }
+    let third = read(&mut streams, 12, REQUEST.as_slice());
+    assert!(rt; third == (34, 0x010b), "there is no place for the next one");
+    assert!(rt; streams.known(12) == Known::Refused, "it is refused");
+    assert!(rt;
+        read(&mut streams, 12, b"ab") == (2, 0),
+        "its stream is over"
+    );
+    streams.answer(4, 200);
+    streams.answer(8, 404);
+    let third = read(&mut streams, 16, REQUEST.as_slice());
+    assert!(rt;
+        third == (34, 0),
+        "one that was refused gives its place back"
+    );
+    let again = read(&mut streams, 20, REQUEST.as_slice());
+    assert!(rt; again == (34, 0x010b), "and one that is open does not");
+    streams.abandon(4);
+    let last = read(&mut streams, 24, REQUEST.as_slice());
+    assert!(rt; last == (34, 0), "until it is over");
+    let again = read(&mut streams, 28, REQUEST.as_slice());
+    assert!(rt; again == (34, 0x010b), "no session is answered");
     Ok(())
 }
 

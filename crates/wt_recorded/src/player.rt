@@ -7,7 +7,6 @@ use wtp_core::error::Code;
 use wtp_core::ids::StatusCode;
 use wtp_fields::fields::FieldList;
 use wtp_frames::endpoint::{Endpoint, Side};
-use wtp_messages::malformed::Malformed;
 use wtp_sending::error::SendError;
 use wtp_streams::error::Error;
 use wtp_streams::h3::H3Connection;
@@ -323,13 +322,12 @@ impl Player {
     }
 }
 
-/// Returns whether something may be sent later: SETTINGS of the peer, which allow sessions and extended CONNECT, or
-/// the session are still to come.
+/// Returns whether nothing is noted of a call: SETTINGS of the peer or the session are still to come, or these do
+/// not allow the request.
 fn is_early(refused: Refused) -> bool {
     match refused {
-        Refused::SessionNotOpen | Refused::Over => true,
-        Refused::Send(SendError::Unsupported) => true,
-        Refused::Send(SendError::Malformed(rule)) => rule == Malformed::UnexpectedProtocol,
+        Refused::SettingsMissing | Refused::SessionNotOpen | Refused::Over => true,
+        Refused::Send(error) => error == SendError::Unsupported,
         _ => false,
     }
 }

@@ -1,5 +1,5 @@
 -- How many streams of a table wait.
-use Rattle.std.proofs.Common.{◌≡◌, ℕ, ◌+◌, ◌≤◌, ◌%◌, ◌/◌, ◌==◌, nat_le, Bool, true, false, cond, List, [], ◌∷◌, length, Option, Some, None, refl, sym, ap, ◌∙◌, arith}
+use Rattle.std.proofs.Common.{◌≡◌, ℕ, ◌+◌, ◌≤◌, ◌%◌, ◌/◌, ◌==◌, nat_le, Bool, true, false, cond, List, [], ◌∷◌, Option, Some, None, refl, sym, ap, ◌∙◌, arith}
 use Rattle.std.proofs.lemmas.Map.Entries.{sum_by-set_value, sum_by-remove_entry}
 use Rattle.std.proofs.lemmas.List.Sums.{sum_by-cons}
 use Rattle.std.specs.declared.cmp.Ordering.{Ordering}
@@ -19,18 +19,15 @@ use Rattle.wtp_connection.specs.Requests.{with_request}
 use Rattle.wtp_webtransport.specs.declared.connection.Connection.{Connection}
 use Rattle.wtp_webtransport.specs.declared.fault.Fault.TheVariants as fault
 use Rattle.wtp_webtransport.specs.declared.stream.Stream.{Stream}
-use Rattle.wtp_webtransport.specs.declared.event.Waits.{Waits as Wait}
-use Rattle.wtp_webtransport.specs.declared.event.Waits.TheVariants as wait
-use Rattle.wtp_webtransport.specs.Events.{Told, Joins}
+use Rattle.wtp_webtransport.specs.Events.{Told}
 use Rattle.wtp_webtransport.specs.Fault.{scope_of}
 use Rattle.wtp_webtransport.specs.Streams.{with_streams, accepted}
-use Rattle.wtp_webtransport.specs.Receiving.{Outcome, ReceivesIf}
 use Rattle.wtp_webtransport.specs.Joining.{Outcome as Joining, joins, joined_by, joining_of, abandons, abandoned_by}
 use Rattle.wtp_streams.specs.declared.entry.Entry.{Entry}
 use Rattle.wtp_streams.specs.Table.{Table, entry_at, with_entry, with_connection, entry_of, after_event, places, waiting_in, IsCounted, known_in, unpaused_by, named_by}
-use Rattle.wtp_streams.specs.Calls.{puts_by, accepts_by, accepts_in, called_in, outcome_in, Result, join_by, join_in, then_joined, joined_if, NextBy, ReadsIn, wait_of, ReceivesBy, ReceivesIn, left_by, forgets_by, forgets_in}
+use Rattle.wtp_streams.specs.Calls.{puts_by, accepts_by, accepts_in, called_in, outcome_in, join_by, left_by, forgets_by, forgets_in}
 use Rattle.wtp_streams.proofs.RunLemmas.{joins_counts, abandon_counts, abandoned_none}
-use Rattle.wtp_streams.proofs.CallLemmas.{Balances, closed_streams, receive_balances}
+use Rattle.wtp_streams.proofs.CallLemmas.{Balances, closed_streams}
 
 -- ---- entries
 
@@ -161,7 +158,7 @@ join_balances c s k =
 pub join_stays : (c : Connection) (s : Stream) (k : Known) → StaysOver c (joins c s k).1
 join_stays c s k = stays_if c.over c _ _ (λ e. e) refl
 
-join_counted : (o : Option Entry) (t : Table) (id session n len : ℕ)
+pub join_counted : (o : Option Entry) (t : Table) (id session n len : ℕ)
     → entry_at t id ≡ o
     → IsCounted t
     → IsCounted (join_by o t id session n len).1
@@ -171,64 +168,6 @@ join_counted (Some e) t id session n len at h =
     outcome_counted t id e x.0 x.1 x.2 at
     (join_balances t.connection e.stream (known_in t session))
     (join_stays t.connection e.stream (known_in t session)) h
-
--- bytes come
-
-receive_stays : (b : Bool) (limit : ℕ) (c : Connection) (s : Stream) (bytes : List ℕ) (fin : Bool) (o : Outcome)
-    → c.over ≡ b
-    → ReceivesIf b limit c s bytes fin o
-    → StaysOver c o.2
-receive_stays true limit c s bytes fin o e g = λ intact. sym (ap (λ (x : Outcome). x.2.over) g) ∙ intact
-receive_stays false limit c s bytes fin o e g = λ intact. e
-
-result_counted : (r x : Result) → r ≡ x → IsCounted x.1 → IsCounted r.1
-result_counted r x e h = rw e h
-
-next_counted : (o : Option Entry) (t : Table) (id : ℕ) (bytes : List ℕ) (fin : Bool) (r : Result)
-    → entry_at t id ≡ o
-    → NextBy o t id bytes fin r
-    → IsCounted t
-    → IsCounted r.1
-next_counted None t id bytes fin r at g h = result_counted r (None, t) g h
-next_counted (Some e) t id bytes fin r at g h =
-    let o : Outcome = g.0 in
-    result_counted r (Some (o.0, o.1), outcome_in t id e o.1 o.2 o.3) g.2
-    (outcome_counted t id e o.1 o.2 o.3 at
-    (receive_balances t.limit t.connection e.stream bytes fin o g.1)
-    (receive_stays t.connection.over t.limit t.connection e.stream bytes fin o refl g.1) h)
-
-then_counted : (told : Told) (t : Table) (id n len : ℕ) → IsCounted t → IsCounted (then_joined told t id n len).1
-then_counted (Joins session) t id n len h = join_counted (entry_at t id) t id session n len refl h
-then_counted _ t id n len h = h
-
-joined_counted : (x : Option (ℕ × Told)) (t : Table) (id len : ℕ)
-    → IsCounted t
-    → IsCounted (joined_if x t id len).1
-joined_counted None t id len h = h
-joined_counted (Some x) t id len h = then_counted x.1 t id x.0 len h
-
-reads_counted : (t : Table) (id : ℕ) (bytes : List ℕ) (fin : Bool) (r : Result)
-    → ReadsIn t id bytes fin r
-    → IsCounted t
-    → IsCounted r.1
-reads_counted t id bytes fin r g h =
-    result_counted r (joined_if g.0.0 g.0.1 id (length bytes)) g.2
-    (joined_counted g.0.0 g.0.1 id (length bytes) (next_counted (entry_at t id) t id bytes fin g.0 refl g.1 h))
-
-waited_counted : (w : Option Wait) (t : Table) (id : ℕ) (bytes : List ℕ) (fin : Bool) (r : Result)
-    → ReceivesBy w t id bytes fin r
-    → IsCounted t
-    → IsCounted r.1
-waited_counted (Some (wait.Session session)) t id bytes fin r g h =
-    result_counted r (join_in t id session 0 (length bytes)) g
-    (join_counted (entry_at t id) t id session 0 (length bytes) refl h)
-waited_counted _ t id bytes fin r g h = reads_counted t id bytes fin r g h
-
-pub receive_counted : (t : Table) (id : ℕ) (bytes : List ℕ) (fin : Bool) (r : Result)
-    → ReceivesIn t id bytes fin r
-    → IsCounted t
-    → IsCounted r.1
-receive_counted t id bytes fin r g h = waited_counted (wait_of (entry_at t id)) t id bytes fin r g h
 
 -- ---- streams that are registered
 

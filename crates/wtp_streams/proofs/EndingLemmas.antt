@@ -27,7 +27,7 @@ use Rattle.wtp_webtransport.specs.Joining.{Outcome as Joining, joins, resets, re
 use Rattle.wtp_webtransport.specs.Receiving.{closed_by}
 use Rattle.wtp_streams.specs.declared.entry.Entry.{Entry}
 use Rattle.wtp_streams.specs.Table.{Table, entry_at, with_connection, places, IsCounted}
-use Rattle.wtp_streams.specs.Calls.{call_by, resets_in, stops_in, abandons_in, overflows_in, rejects_in, stopped_in, awaits_answer, answered_by as answered_at, answers_if, answers_in, wait_of, cut_by, cuts_in}
+use Rattle.wtp_streams.specs.Calls.{call_by, resets_in, stops_in, abandons_in, overflows_in, rejects_in, stopped_in, awaits_answer, answered_by as answered_at, answers_if, answers_in, wait_of, cut_by, cuts_in, awaited_in, unawaited_by, unawaited_if, unawaited}
 use Rattle.wtp_streams.proofs.RunLemmas.{reset_counts, overflow_counts, abandon_counts, connected_places, scope_waiting}
 use Rattle.wtp_streams.proofs.CallLemmas.{Balances, closed_streams}
 use Rattle.wtp_streams.proofs.CountLemmas.{StaysOver, cond_balances, stays_if, abandon_balances, abandon_stays, join_balances, join_stays, entry_counted, outcome_counted}
@@ -281,3 +281,20 @@ cut_counted (Some e) t id at h =
 pub cuts_counted : (t : Table) (o : Option ℕ) → IsCounted t → IsCounted (cuts_in t o)
 cuts_counted t None h = h
 cuts_counted t (Some id) h = cut_counted (entry_at t id) t id refl h
+
+-- ---- requests
+
+found_unawaited : (o : Option Entry) (t : Table) (id : ℕ)
+    → entry_at t id ≡ o
+    → IsCounted t
+    → IsCounted (unawaited_by o t id)
+found_unawaited None t id at h = h
+found_unawaited (Some e) t id at h =
+    entry_counted t id e (record e { awaited = false }) t.connection at (λ p. refl) (λ i. i) h
+
+if_unawaited : (b : Bool) (t : Table) (id : ℕ) → IsCounted t → IsCounted (unawaited_if b t id)
+if_unawaited true t id h = found_unawaited (entry_at t id) t id refl h
+if_unawaited false t id h = h
+
+pub unawaited_counted : (t : Table) (id : ℕ) → IsCounted t → IsCounted (unawaited t id)
+unawaited_counted t id h = if_unawaited (awaited_in (entry_at t id)) t id h

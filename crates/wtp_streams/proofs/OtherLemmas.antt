@@ -11,12 +11,12 @@ use Rattle.wtp_webtransport.specs.declared.connection.Connection.{Connection}
 use Rattle.wtp_webtransport.specs.declared.stream.Stream.{Stream}
 use Rattle.wtp_webtransport.specs.declared.event.Waits.{Waits as Wait}
 use Rattle.wtp_webtransport.specs.declared.event.Waits.TheVariants as wait
-use Rattle.wtp_webtransport.specs.Events.{Told, Joins}
+use Rattle.wtp_webtransport.specs.Events.{Told, Joins, SessionRequested}
 use Rattle.wtp_webtransport.specs.Streams.{accepted}
-use Rattle.wtp_webtransport.specs.Joining.{Outcome as Joining}
+use Rattle.wtp_webtransport.specs.Joining.{Outcome as Joining, rejects}
 use Rattle.wtp_streams.specs.declared.entry.Entry.{Entry}
-use Rattle.wtp_streams.specs.Table.{Table, entry_at, IsLeft, unpaused_by, named_by}
-use Rattle.wtp_streams.specs.Calls.{puts_by, accepts_by, accepts_in, left_by, Result, join_by, join_in, then_joined, joined_if, NextBy, ReadsIn, wait_of, ReceivesBy, ReceivesIn, forgets_by, forgets_in, call_by, call_in, awaits_answer, answered_by, answers_if, answers_in, cut_by, cuts_in}
+use Rattle.wtp_streams.specs.Table.{Table, entry_at, IsLeft, has_too_many, unpaused_by, named_by}
+use Rattle.wtp_streams.specs.Calls.{puts_by, accepts_by, accepts_in, left_by, Result, join_by, join_in, rejects_in, rejected_with, requested_if, then_joined, joined_if, NextBy, ReadsIn, wait_of, ReceivesBy, ReceivesIn, forgets_by, forgets_in, call_by, call_in, awaits_answer, answered_by, answers_if, answers_in, cut_by, cuts_in}
 
 -- ---- entries
 
@@ -121,8 +121,28 @@ next_left : (o : Option Entry) (t : Table) (id : ℕ) (bytes : List ℕ) (fin : 
 next_left None t id bytes fin r g = result_left id t r (None, t) g (λ k n. refl)
 next_left (Some e) t id bytes fin r g = result_left id t r _ g.2 (set_left t id _)
 
+called_left : (f : Connection → Stream → Joining) (o : Option Entry) (t : Table) (id : ℕ)
+    → IsLeft id t (call_by f o t id).1
+called_left f None t id = λ k n. refl
+called_left f (Some e) t id = set_left t id _
+
+rejected_left : (x : Option Told × Table) (t : Table) (id len : ℕ)
+    → IsLeft id t x.1
+    → IsLeft id t (rejected_with len x).1
+rejected_left (None, u) t id len h = h
+rejected_left (Some told, u) t id len h = h
+
+requested_left : (b : Bool) (told : Told) (t : Table) (id n len : ℕ)
+    → IsLeft id t (requested_if b told t id n len).1
+requested_left true told t id n len =
+    rejected_left (rejects_in t id (Some id)) t id len
+    (called_left (λ c s. rejects c s id (Some id)) (entry_at t id) t id)
+requested_left false told t id n len = λ k d. refl
+
 then_left : (told : Told) (t : Table) (id n len : ℕ) → IsLeft id t (then_joined told t id n len).1
 then_left (Joins session) t id n len = joined_left (entry_at t id) t id session n len
+then_left (SessionRequested fields) t id n len =
+    requested_left (has_too_many t) (SessionRequested fields) t id n len
 then_left _ t id n len = λ k d. refl
 
 if_left : (x : Option (ℕ × Told)) (t : Table) (id len : ℕ) → IsLeft id t (joined_if x t id len).1
@@ -159,11 +179,6 @@ forgets_left (Some e) t id = without_left e.stays t _ id (set_left t id _)
 
 pub forget_left : (t : Table) (id : ℕ) → IsLeft id t (forgets_in t id).1
 forget_left t id = forgets_left (entry_at t id) t id
-
-called_left : (f : Connection → Stream → Joining) (o : Option Entry) (t : Table) (id : ℕ)
-    → IsLeft id t (call_by f o t id).1
-called_left f None t id = λ k n. refl
-called_left f (Some e) t id = set_left t id _
 
 pub call_left : (f : Connection → Stream → Joining) (t : Table) (id : ℕ) → IsLeft id t (call_in f t id).1
 call_left f t id = called_left f (entry_at t id) t id

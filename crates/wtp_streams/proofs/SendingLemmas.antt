@@ -1,5 +1,5 @@
 -- The calls that send: the count of the streams that wait, and what the other end reads.
-use Rattle.std.proofs.Common.{◌≡◌, ℕ, Bool, true, false, cond, List, [], ◌∷◌, Option, Some, None, Result, Ok, Err, refl, sym, ap, subst, ◌∙◌}
+use Rattle.std.proofs.Common.{◌≡◌, ℕ, Bool, true, false, ◌&&◌, nat_lt, cond, List, [], ◌∷◌, Option, Some, None, Result, Ok, Err, refl, sym, ap, subst, ◌∙◌}
 use Rattle.std.specs.Ordering.{nat_cmp}
 use Rattle.std.specs.Map.{lookup, set_value}
 use Rattle.std.specs.BTreeMap.{is_at}
@@ -13,11 +13,12 @@ use Rattle.wtp_sending.proofs.SentLemmas.{sent_read}
 use Rattle.wtp_streams.specs.declared.h3.half.Half.{Half}
 use Rattle.wtp_streams.specs.declared.h3.half.Half.TheVariants.{Message}
 use Rattle.wtp_streams.specs.declared.h3.refused.Refused.{Refused}
-use Rattle.wtp_streams.specs.Table.{Table, IsCounted, entry_at}
-use Rattle.wtp_streams.specs.Ends.{Ends, half_at, with_half}
-use Rattle.wtp_streams.specs.Sends.{answered_with, own_half, half_or, HalfSends, Sends, SendsAt, RespondsAt, Responds, Requests, ClosesAt}
+use Rattle.wtp_streams.specs.Table.{Table, IsCounted, entry_at, known_in}
+use Rattle.wtp_streams.specs.Calls.{answers_in, awaited_in}
+use Rattle.wtp_streams.specs.Ends.{Ends, half_at, with_half, with_table, is_open}
+use Rattle.wtp_streams.specs.Sends.{settled_if, answered_with, own_half, half_or, HalfSends, Sends, SendsAt, RespondsAt, Responds, Requests, ClosesAt, closes_if, FinishesAt, Finishes}
 use Rattle.wtp_streams.proofs.CountLemmas.{put_counted}
-use Rattle.wtp_streams.proofs.EndingLemmas.{abandon_counted, answer_counted}
+use Rattle.wtp_streams.proofs.EndingLemmas.{abandon_counted, answer_counted, unawaited_counted}
 
 -- ---- counts
 
@@ -35,9 +36,16 @@ request_counted fields old new id r h =
     counted_as _ _ (table_is _ _ r.others)
     (put_counted (entry_at old.table id) old.table id _ refl refl h)
 
-answered_counted : (o : Option ℕ) (t : Table) (id : ℕ) → IsCounted t → IsCounted (answered_with t id o)
-answered_counted None t id h = h
-answered_counted (Some status) t id h = answer_counted t id status h
+settled_counted : (b : Bool) (e : Ends) (id : ℕ) → IsCounted e.table → IsCounted (settled_if b e id).table
+settled_counted true e id h = unawaited_counted e.table id h
+settled_counted false e id h = h
+
+answered_counted : (o : Option ℕ) (e : Ends) (id : ℕ) → IsCounted e.table → IsCounted (answered_with e id o).table
+answered_counted None e id h = h
+answered_counted (Some status) e id h =
+    let x : Ends = with_table e (answers_in e.table id status) in
+    settled_counted (nat_lt 199 status && awaited_in (entry_at x.table id)) x id
+    (answer_counted e.table id status h)
 
 respond_at : (r : Result Half Refused) (fields : List Field) (old new : Ends) (id : ℕ)
     → RespondsAt r fields old id new
@@ -45,7 +53,7 @@ respond_at : (r : Result Half Refused) (fields : List Field) (old new : Ends) (i
     → IsCounted new.table
 respond_at (Err e) fields old new id g h = absurd g
 respond_at (Ok x) fields old new id (next, leads, is) h =
-    counted_as _ _ (table_is _ _ is) (answered_counted (status_of fields) old.table id h)
+    counted_as _ _ (table_is _ _ is) (answered_counted (status_of fields) (with_half old id next) id h)
 
 pub respond_counted : (fields : List Field) (old new : Ends) (id : ℕ)
     → Responds fields old id new
@@ -60,6 +68,25 @@ pub close_counted : (r : Result Half Refused) (code : ℕ) (reason : List ℕ) (
 close_counted (Err e) code reason old new id g h = absurd g
 close_counted (Ok x) code reason old new id (next, leads, is) h =
     counted_as _ _ (table_is _ _ is) (abandon_counted old.table id h)
+
+closes_counted : (b : Bool) (t : Table) (id : ℕ) → IsCounted t → IsCounted (closes_if b t id)
+closes_counted true t id h = abandon_counted t id h
+closes_counted false t id h = h
+
+finish_at : (r : Result Half Refused) (old new : Ends) (id : ℕ)
+    → FinishesAt r old id new
+    → IsCounted old.table
+    → IsCounted new.table
+finish_at (Err e) old new id g h = absurd g
+finish_at (Ok x) old new id (next, ends, is) h =
+    counted_as _ _ (table_is _ _ is)
+    (closes_counted (is_open (known_in old.table id)) old.table id h)
+
+pub finish_counted : (old new : Ends) (id : ℕ)
+    → Finishes old id new
+    → IsCounted old.table
+    → IsCounted new.table
+finish_counted old new id g h = finish_at (own_half old id) old new id g h
 
 -- ---- the other end
 

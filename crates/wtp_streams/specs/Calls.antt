@@ -1,9 +1,10 @@
 -- What the calls of a table are: those of a connection on the stream with this ID (RFC 9114, sections 4.1.1,
 -- 5.2 and 6; draft-ietf-webtrans-http3-02, sections 4 and 5; RFC 9297, section 2.1).
-use Rattle.std.specs.Prelude.{◌≡◌, ℕ, ◌||◌, Bool, true, false, List, Option, Some, None, length}
+use Rattle.std.specs.Prelude.{◌≡◌, ◌≢◌, ℕ, ◌<◌, ◌^◌, ◌||◌, Bool, true, false, List, Option, Some, None, length}
 use Rattle.std.specs.Ordering.{nat_cmp}
 use Rattle.std.specs.Map.{remove_entry}
 use Rattle.std.specs.BTreeMap.{is_at}
+use Rattle.wtp_core.specs.ApplicationCodes.{http3_number}
 use Rattle.wtp_connection.specs.declared.connection.Known.TheVariants as known
 use Rattle.wtp_connection.specs.declared.connection.datagrams.DatagramFor.{DatagramFor}
 use Rattle.wtp_connection.specs.declared.stream.Purpose.{Purpose}
@@ -15,12 +16,12 @@ use Rattle.wtp_webtransport.specs.declared.connection.Connection.{Connection}
 use Rattle.wtp_webtransport.specs.declared.stream.Stream.{Stream}
 use Rattle.wtp_webtransport.specs.declared.event.Waits.{Waits as Wait}
 use Rattle.wtp_webtransport.specs.declared.event.Waits.TheVariants as wait
-use Rattle.wtp_webtransport.specs.Events.{Told, Joins}
-use Rattle.wtp_webtransport.specs.Streams.{accepted, request_stream, session_stream, answered, waits_for}
+use Rattle.wtp_webtransport.specs.Events.{Told, Joins, SessionRequested}
+use Rattle.wtp_webtransport.specs.Streams.{accepted, request_stream, session_stream, answered, waits_for, IsOfSession}
 use Rattle.wtp_webtransport.specs.Receiving.{Outcome, Receives}
 use Rattle.wtp_webtransport.specs.Joining.{Outcome as Joining, joins, resets, stops_half, abandons, overflows, rejects, stops}
 use Rattle.wtp_streams.specs.declared.entry.Entry.{Entry}
-use Rattle.wtp_streams.specs.Table.{Table, entry_at, with_entry, with_new, with_connection, entry_of, is_settings, after_event, joined_len, known_in}
+use Rattle.wtp_streams.specs.Table.{Table, entry_at, with_entry, with_new, with_connection, entry_of, is_settings, after_event, joined_len, known_in, has_too_many}
 
 -- ---- registering
 
@@ -59,6 +60,19 @@ belongs_in t id session = puts_in t id (entry_of (session_stream session) (Some 
 abbrev pub called_in : Table → ℕ → Entry → Joining → Table
 called_in t id e x = with_connection (with_entry t id (after_event e x.2 x.0)) x.1
 
+-- a call of the connection on the stream with this ID
+abbrev pub call_by : (Connection → Stream → Joining) → Option Entry → Table → ℕ → Option Told × Table
+call_by f None t id = (None, t)
+call_by f (Some e) t id =
+    (Some (f t.connection e.stream).0, called_in t id e (f t.connection e.stream))
+
+abbrev pub call_in : (Connection → Stream → Joining) → Table → ℕ → Option Told × Table
+call_in f t id = call_by f (entry_at t id) t id
+
+-- a request from the ID of the own GOAWAY on is rejected
+abbrev pub rejects_in : Table → ℕ → Option ℕ → Option Told × Table
+rejects_in t id goaway = call_in (λ c s. rejects c s id goaway) t id
+
 -- the same of bytes, which may be the SETTINGS of the peer
 abbrev pub outcome_in : Table → ℕ → Entry → Told → Connection → Stream → Table
 outcome_in t id e told c s =
@@ -85,9 +99,23 @@ join_in t id session n len = join_by (entry_at t id) t id session n len
 
 -- ---- bytes
 
+-- a request for a session is rejected, with all bytes, if there are too many (RFC 9114, section 4.1.1)
+abbrev pub rejected_with : ℕ → Option Told × Table → Result
+rejected_with len (None, t) = (None, t)
+rejected_with len (Some told, t) = (Some (len, told), t)
+
+abbrev pub requested_if : Bool → Told → Table → ℕ → ℕ → ℕ → Result
+requested_if true told t id n len = rejected_with len (rejects_in t id (Some id))
+requested_if false told t id n len = (Some (n, told), t)
+
+abbrev pub requested_in : Told → Table → ℕ → ℕ → ℕ → Result
+requested_in told t id n len = requested_if (has_too_many t) told t id n len
+
 -- a stream that belongs to a session is joined with it at once
 abbrev pub then_joined : Told → Table → ℕ → ℕ → ℕ → Result
 then_joined (Joins session) t id n len = join_in t id session n len
+then_joined (SessionRequested fields) t id n len =
+    requested_in (SessionRequested fields) t id n len
 then_joined told t id n len = (Some (n, told), t)
 
 abbrev pub joined_if : Option (ℕ × Told) → Table → ℕ → ℕ → Result
@@ -106,7 +134,7 @@ NextBy (Some e) t id bytes fin r =
 abbrev pub NextIn : Table → ℕ → List ℕ → Bool → Result → Type 0
 NextIn t id bytes fin r = NextBy (entry_at t id) t id bytes fin r
 
--- the same, where it is joined
+-- the same, where it is joined or rejected
 abbrev pub ReadsIn : Table → ℕ → List ℕ → Bool → Result → Type 0
 ReadsIn t id bytes fin r =
     (x : Result) × NextIn t id bytes fin x × (r ≡ joined_if x.0 x.1 id (length bytes))
@@ -148,15 +176,6 @@ forgets_in t id = forgets_by (entry_at t id) t id
 
 -- ---- streams that end before their last byte
 
--- a call of the connection on the stream with this ID
-abbrev pub call_by : (Connection → Stream → Joining) → Option Entry → Table → ℕ → Option Told × Table
-call_by f None t id = (None, t)
-call_by f (Some e) t id =
-    (Some (f t.connection e.stream).0, called_in t id e (f t.connection e.stream))
-
-abbrev pub call_in : (Connection → Stream → Joining) → Table → ℕ → Option Told × Table
-call_in f t id = call_by f (entry_at t id) t id
-
 abbrev pub resets_in : Table → ℕ → Option Told × Table
 resets_in t id = call_in resets t id
 
@@ -169,12 +188,28 @@ abandons_in t id = call_in abandons t id
 abbrev pub overflows_in : Table → ℕ → Option Told × Table
 overflows_in t id = call_in overflows t id
 
-abbrev pub rejects_in : Table → ℕ → Option ℕ → Option Told × Table
-rejects_in t id goaway = call_in (λ c s. rejects c s id goaway) t id
-
 -- an own stream for this purpose
 abbrev pub stopped_in : Table → Purpose → Option Fault × Table
 stopped_in t own = ((stops t.connection own).1, with_connection t (stops t.connection own).0)
+
+-- ---- requests
+
+-- the stream has a request without an answer
+abbrev pub awaited_in : Option Entry → Bool
+awaited_in None = false
+awaited_in (Some e) = e.awaited
+
+-- it has its answer, or is given up
+abbrev pub unawaited_by : Option Entry → Table → ℕ → Table
+unawaited_by None t id = t
+unawaited_by (Some e) t id = with_entry t id (record e { awaited = false })
+
+abbrev pub unawaited_if : Bool → Table → ℕ → Table
+unawaited_if true t id = unawaited_by (entry_at t id) t id
+unawaited_if false t id = t
+
+abbrev pub unawaited : Table → ℕ → Table
+unawaited t id = unawaited_if (awaited_in (entry_at t id)) t id
 
 -- ---- sessions
 
@@ -197,6 +232,17 @@ answers_in t id status = answers_if (awaits_answer (wait_of (entry_at t id))) t 
 -- what is to be done with a datagram of a session
 abbrev pub action_in : Table → ℕ → DatagramFor
 action_in t session = datagram_for (known_in t session)
+
+-- the stream is one of a session
+abbrev pub BelongsToSession : Option Entry → Type 0
+BelongsToSession None = ⊥
+BelongsToSession (Some e) = IsOfSession e.stream.part
+
+-- the application's error code of this code of a RESET_STREAM or STOP_SENDING, which streams of sessions alone have
+-- (draft-ietf-webtrans-http3-02, section 4.3)
+abbrev pub IsCodeIn : Type 0 → ℕ → Option ℕ → Type 0
+IsCodeIn Belongs code None = Belongs → (n : ℕ) → n < 2 ^ 32 → code ≢ http3_number n
+IsCodeIn Belongs code (Some n) = Belongs × (code ≡ http3_number n)
 
 -- a stream whose session is over is read no further
 abbrev pub cut : Table → ℕ → Entry → Joining → Table

@@ -1,6 +1,6 @@
 -- Both ends of the streams of a connection: what came, and what this endpoint sends (RFC 9114, sections 4.1, 5.2
 -- and 6; RFC 9000, section 2.1).
-use Rattle.std.specs.Prelude.{ℕ, ◌%◌, ◌==◌, ◌^◌, ◌-◌, nat_lt, ◌&&◌, Bool, true, false, List, [], Option, Some, None, option_map, unwrap_or, Result, Ok, codes}
+use Rattle.std.specs.Prelude.{ℕ, ◌%◌, ◌==◌, ◌^◌, ◌-◌, nat_lt, ◌&&◌, Bool, true, false, List, [], Option, Some, None, option_map, is_some, unwrap_or, Result, Ok, codes}
 use Rattle.std.specs.Ordering.{nat_cmp}
 use Rattle.std.specs.List.{find}
 use Rattle.std.specs.Map.{lookup, set_value, remove_entry}
@@ -12,7 +12,7 @@ use Rattle.wtp_frames.specs.declared.endpoint.Side.TheVariants as side
 use Rattle.wtp_messages.specs.declared.response.Asked.{Asked}
 use Rattle.wtp_messages.specs.declared.response.Asked.TheVariants as asked
 use Rattle.wtp_messages.specs.Names.{has_value}
-use Rattle.wtp_messages.specs.Request.{is_connect, asks_for_session}
+use Rattle.wtp_messages.specs.Request.{is_connect, asks_for_session, protocol_of}
 use Rattle.wtp_messages.specs.Response.{is_success}
 use Rattle.wtp_sending.specs.declared.control.ControlSending.{ControlSending}
 use Rattle.wtp_sending.specs.declared.error.SendError.{SendError}
@@ -21,28 +21,34 @@ use Rattle.wtp_sending.specs.declared.message.Sending.{Sending}
 use Rattle.wtp_sending.specs.declared.peer.Peer.{Peer}
 use Rattle.wtp_sending.specs.Control.{control_to}
 use Rattle.wtp_sending.specs.Message.{opens}
+use Rattle.wtp_connection.specs.declared.budget.RequestBudget.{RequestBudget}
 use Rattle.wtp_connection.specs.declared.connection.Known.{Known}
 use Rattle.wtp_connection.specs.declared.connection.Known.TheVariants as known
+use Rattle.wtp_connection.specs.Budget.{budget_of}
 use Rattle.wtp_webtransport.specs.declared.event.HeadersKind.{HeadersKind}
 use Rattle.wtp_webtransport.specs.declared.event.HeadersKind.TheVariants as kind
 use Rattle.wtp_webtransport.specs.Events.{Told, Headers, SessionRequested, SessionReady, SessionLost, TooLarge, Malformed, StreamError, ConnectionError, Reset}
 use Rattle.wtp_webtransport.specs.Sessions.{allows_sessions}
+use Rattle.wtp_streams.specs.declared.entry.Entry.{Entry}
 use Rattle.wtp_streams.specs.declared.h3.H3Connection.{H3Connection}
 use Rattle.wtp_streams.specs.declared.h3.half.Half.{Half}
 use Rattle.wtp_streams.specs.declared.h3.half.Half.TheVariants.{Idle, Asked as AskedFor, Message}
 use Rattle.wtp_streams.specs.declared.h3.mark.Mark.{Mark}
 use Rattle.wtp_streams.specs.declared.h3.mark.Mark.TheVariants as mark
 use Rattle.wtp_streams.specs.declared.limits.Limits.{Limits}
-use Rattle.wtp_streams.specs.Table.{Table, table_of, table_for, over_in}
+use Rattle.wtp_streams.specs.Calls.{BelongsToSession}
+use Rattle.wtp_streams.specs.Table.{Table, table_of, table_for, entry_at, over_in}
 
 -- the own side, the streams that came, the own control stream, the own halves of streams with a message, the unidirectional
--- streams that were opened here with their sessions, and whether an error ended the connection
+-- streams that were opened here with their sessions, the requests that were answered or given up, and whether an error
+-- ended the connection
 pub record Ends : Type 0 where
   pub side : Side
   pub table : Table
   pub control : ControlSending
   pub halves : List (ℕ × Half)
   pub opened : List (ℕ × ℕ)
+  pub budget : RequestBudget
   pub over : Bool
 
 abbrev pub ends_of : H3Connection → Ends
@@ -52,6 +58,7 @@ ends_of c = record {
   control = c.control;
   halves = c.halves.entries;
   opened = c.opened.entries;
+  budget = c.budget;
   over = c.over;
 }
 
@@ -68,6 +75,7 @@ ends_for e extended limits = record {
   control = control_to (other_side e.side);
   halves = [];
   opened = [];
+  budget = budget_of limits.max_resets;
   over = false;
 }
 
@@ -129,6 +137,10 @@ abbrev pub asked_of : List Field → Asked
 asked_of fields =
     asked_by (is_connect fields) (asks_for_session fields)
     (has_value (codes ":method") (codes "HEAD") fields)
+
+-- it is an extended CONNECT, which has :protocol (RFC 8441, section 4)
+abbrev pub is_extended : List Field → Bool
+is_extended fields = is_connect fields && is_some (protocol_of fields)
 
 -- ---- own halves
 
@@ -194,6 +206,14 @@ noted_if e id (Some told) = noted e id told
 abbrev pub is_open : Known → Bool
 is_open known.Open = true
 is_open _ = false
+
+-- the stream with this ID is one of a session, also if it was opened here and is unidirectional
+abbrev pub IsMember : Option ℕ → Option Entry → Type 0
+IsMember (Some session) found = Unit {0}
+IsMember None found = BelongsToSession found
+
+abbrev pub IsSessionStream : Ends → ℕ → Type 0
+IsSessionStream e id = IsMember (opened_at e id) (entry_at e.table id)
 
 -- the first unidirectional stream that was opened here for a session that is over
 abbrev pub first_opened : Ends → Option ℕ

@@ -1,6 +1,6 @@
 -- What the calls of a connection send: what `wtp_sending` may send at the own half of the stream with this ID, and
 -- nothing else changes (RFC 9114, sections 4.1, 5.2 and 6.2.1; draft-ietf-webtrans-http3-02, sections 4 and 5).
-use Rattle.std.specs.Prelude.{◌≡◌, ℕ, ◌^◌, ◌-◌, Bool, true, false, not, ◌&&◌, ◌||◌, is_some, if◌then◌else◌, List, [], Option, Some, None, Result, Ok, Err, is_err}
+use Rattle.std.specs.Prelude.{◌≡◌, ℕ, ◌^◌, ◌-◌, nat_lt, Bool, true, false, not, ◌&&◌, ◌||◌, is_some, if◌then◌else◌, List, [], Option, Some, None, Result, Ok, Err, is_err}
 use Rattle.std.specs.Ordering.{nat_cmp}
 use Rattle.std.specs.Map.{remove_entry}
 use Rattle.std.specs.BTreeMap.{is_at, insert_entry}
@@ -12,25 +12,31 @@ use Rattle.wtp_messages.specs.declared.response.Asked.{Asked}
 use Rattle.wtp_messages.specs.Response.{status_of}
 use Rattle.wtp_sending.specs.declared.control.ControlSending.{ControlSending}
 use Rattle.wtp_sending.specs.declared.error.SendError.{SendError}
-use Rattle.wtp_sending.specs.declared.error.SendError.TheVariants.{Unexpected}
+use Rattle.wtp_sending.specs.declared.error.SendError.TheVariants.{Unexpected, Unsupported}
 use Rattle.wtp_sending.specs.declared.message.Sending.{Sending}
 use Rattle.wtp_sending.specs.declared.peer.Peer.{Peer}
-use Rattle.wtp_sending.specs.Message.{sending_of, SendsHead, RefusesHeaders}
+use Rattle.wtp_sending.specs.Message.{sending_of, SendsHead, RefusesHeaders, after_end}
 use Rattle.wtp_sending.specs.Sent.{Sent, SentHeaders, SentClose, Leads}
 use Rattle.wtp_sending.specs.Session.{in_session}
+use Rattle.wtp_frames.specs.declared.fault.Fault.TheVariants as stream
 use Rattle.wtp_connection.specs.declared.connection.Known.{Known}
+use Rattle.wtp_connection.specs.declared.fault.Fault.TheVariants as streams_fault
+use Rattle.wtp_connection.specs.declared.stream.Purpose.TheVariants as purpose
+use Rattle.wtp_connection.specs.Budget.{is_exceeded, with_answer, with_reset}
 use Rattle.wtp_webtransport.specs.declared.fault.Fault.{Fault}
-use Rattle.wtp_webtransport.specs.Events.{Told}
+use Rattle.wtp_webtransport.specs.declared.fault.Fault.TheVariants as fault
+use Rattle.wtp_webtransport.specs.Events.{Told, ConnectionError}
 use Rattle.wtp_webtransport.specs.Joining.{takes, after_datagram}
+use Rattle.wtp_webtransport.specs.Sessions.{allows_sessions}
 use Rattle.wtp_webtransport.specs.Streams.{is_unprocessed_by}
 use Rattle.wtp_streams.specs.declared.entry.Entry.{Entry}
 use Rattle.wtp_streams.specs.declared.h3.half.Half.{Half}
 use Rattle.wtp_streams.specs.declared.h3.half.Half.TheVariants.{Idle, Asked as AskedFor, Message}
 use Rattle.wtp_streams.specs.declared.h3.refused.Refused.{Refused}
-use Rattle.wtp_streams.specs.declared.h3.refused.Refused.TheVariants.{Over, NoStream, StreamExists, InvalidId, GoAway, SessionNotOpen, Send}
+use Rattle.wtp_streams.specs.declared.h3.refused.Refused.TheVariants.{Over, NoStream, StreamExists, InvalidId, GoAway, SettingsMissing, SessionNotOpen, Send}
 use Rattle.wtp_streams.specs.Table.{Table, entry_at, known_in, first_cut, with_connection}
-use Rattle.wtp_streams.specs.Calls.{accepts_in, opens_in, answers_in, abandons_in, cuts_in, ReceivesIn}
-use Rattle.wtp_streams.specs.Ends.{Ends, half_at, opened_at, with_half, with_new_half, without_half, with_table, is_request, is_own, peer_in, asked_of, noted_if, is_open, first_opened}
+use Rattle.wtp_streams.specs.Calls.{asks_session, accepts_in, opens_in, answers_in, abandons_in, resets_in, stops_in, stopped_in, cuts_in, awaited_in, unawaited, ReceivesIn}
+use Rattle.wtp_streams.specs.Ends.{Ends, half_at, opened_at, with_half, with_new_half, without_half, with_table, is_request, is_own, peer_in, asked_of, is_extended, noted_if, is_open, first_opened}
 
 -- ---- an own half
 
@@ -124,16 +130,26 @@ Refuses F old id e = RefusesAt (own_half old id) F e
 
 -- ---- responses
 
+-- a final response answers its request, which is counted
+abbrev pub settled_if : Bool → Ends → ℕ → Ends
+settled_if true e id =
+    record e { table = unawaited e.table id; budget = with_answer e.budget }
+settled_if false e id = e
+
+abbrev pub settled : Ends → ℕ → ℕ → Ends
+settled e id status = settled_if (nat_lt 199 status && awaited_in (entry_at e.table id)) e id
+
 -- the peer's half goes on by the status, if it waits for an answer
-abbrev pub answered_with : Table → ℕ → Option ℕ → Table
-answered_with t id None = t
-answered_with t id (Some status) = answers_in t id status
+abbrev pub answered_with : Ends → ℕ → Option ℕ → Ends
+answered_with e id None = e
+answered_with e id (Some status) =
+    settled (with_table e (answers_in e.table id status)) id status
 
 abbrev pub RespondsAt : Result Half Refused → List Field → Ends → ℕ → Ends → Type 0
 RespondsAt (Err r) fields old id new = ⊥
 RespondsAt (Ok h) fields old id new =
     (next : Half) × HalfResponds (peer_in old.table) id fields h next
-    × (new ≡ with_table (with_half old id next) (answered_with old.table id (status_of fields)))
+    × (new ≡ answered_with (with_half old id next) id (status_of fields))
 
 abbrev pub Responds : List Field → Ends → ℕ → Ends → Type 0
 Responds fields old id new = RespondsAt (own_half old id) fields old id new
@@ -152,20 +168,34 @@ is_leaving t = is_unprocessed_by t.connection.endpoint.side t.connection.goaway 
 abbrev pub has_stream : Ends → ℕ → Bool
 has_stream e id = is_some (half_at e id) || is_some (entry_at e.table id)
 
--- a request may be sent on the stream with this ID, or why not
-abbrev pub may_request : Ends → ℕ → Result (Unit {0}) Refused
-may_request e id =
+-- the settings of the server allow this extended CONNECT: each one needs SETTINGS_ENABLE_CONNECT_PROTOCOL, and a
+-- request for a session those of WebTransport too (RFC 9220, section 3; draft-ietf-webtrans-http3-02, section 3.1)
+abbrev pub supports : Table → List Field → Bool
+supports t fields =
+    t.connection.streams.peer.enable_connect_protocol
+    && (not (asks_session (asked_of fields)) || allows_sessions t.connection)
+
+-- a request with these fields may be sent if it is an extended CONNECT: SETTINGS came, and allow it
+abbrev pub may_extend : Table → List Field → Result (Unit {0}) Refused
+may_extend t fields =
+    if not (is_extended fields) then Ok tt else
+    if not t.configured then Err SettingsMissing else
+    if supports t fields then Ok tt else Err (Send Unsupported)
+
+-- a request with these fields may be sent on the stream with this ID, or why not
+abbrev pub may_request : Ends → ℕ → List Field → Result (Unit {0}) Refused
+may_request e id fields =
     if e.over then Err Over else
     if not (is_client e.side && is_request id) then Err InvalidId else
     if is_leaving e.table then Err GoAway else
-    if has_stream e id then Err StreamExists else Ok tt
+    if has_stream e id then Err StreamExists else may_extend e.table fields
 
 abbrev pub request_at : Ends → ℕ → Sending
 request_at e id = sending_of id (role.Request (peer_in e.table).extended_connect) (peer_in e.table)
 
 -- the request is sent, and the stream waits for its response
 pub record Requests (fields : List Field) (old : Ends) (id : ℕ) (new : Ends) : Type 0 where
-  pub may : may_request old id ≡ Ok tt
+  pub may : may_request old id fields ≡ Ok tt
   pub next : Sending
   pub sends : SendsHead (request_at old id) fields next
   pub others :
@@ -217,6 +247,22 @@ ClosesAt (Ok h) code reason old id new =
     (next : Half) × LeadsTo (SentClose code reason) (sending_in h) next
     × (new ≡ with_table (with_half old id next) (abandons_in old.table id).1)
 
+-- The end of the own stream of an open session closes the session, with code 0 and without a reason
+-- (draft-ietf-webtrans-http3-02, section 5): the stream is read no further. Any other stream goes on.
+abbrev pub closes_if : Bool → Table → ℕ → Table
+closes_if true t id = (abandons_in t id).1
+closes_if false t id = t
+
+abbrev pub FinishesAt : Result Half Refused → Ends → ℕ → Ends → Type 0
+FinishesAt (Err r) old id new = ⊥
+FinishesAt (Ok h) old id new =
+    (next : Half) × HalfChanges after_end (Ok tt) h next
+    × (new ≡ with_table (with_half old id next)
+    (closes_if (is_open (known_in old.table id)) old.table id))
+
+abbrev pub Finishes : Ends → ℕ → Ends → Type 0
+Finishes old id new = FinishesAt (own_half old id) old id new
+
 -- ---- the control stream
 
 -- the control stream changes so, and nothing else
@@ -245,6 +291,39 @@ ReceivesEnds old id bytes fin r new =
 abbrev pub through : Ends → ℕ → Option Told × Table → Option Told × Ends
 through e id x = (x.0, noted_if (with_table e x.1) id x.0)
 
+-- the request on this stream has no answer, and its client gives it up: that is counted, once (RFC 9114, sections 4.1.1
+-- and 10.5)
+abbrev pub is_given_up : Ends → ℕ → Bool
+is_given_up e id = not e.over && awaited_in (entry_at e.table id)
+
+abbrev pub given_up_if : Bool → Ends → ℕ → Ends
+given_up_if true e id =
+    record e { table = unawaited e.table id; budget = with_reset e.budget }
+given_up_if false e id = e
+
+abbrev pub given_up : Ends → ℕ → Ends
+given_up e id = given_up_if (is_given_up e id) e id
+
+-- too many were given up
+abbrev pub is_load : Ends → ℕ → Bool
+is_load e id = is_given_up e id && is_exceeded (given_up e id).budget
+
+-- that ends the connection with H3_EXCESSIVE_LOAD: nothing is received or sent any more
+abbrev pub ended_by_load : Ends → Option Told × Ends
+ended_by_load e = (
+  Some (ConnectionError (fault.Streams (streams_fault.Stream stream.ExcessiveLoad))),
+  record (with_table e (stopped_in e.table purpose.Control).1) { over = true },
+)
+
+-- a call by which a client may give up a request
+abbrev pub unless_load : Bool → (Ends → Option Told × Ends) → Ends → Option Told × Ends
+unless_load true F e = ended_by_load e
+unless_load false F e = F e
+
+abbrev pub resets_ends : Ends → ℕ → Option Told × Ends
+resets_ends e id =
+    unless_load (is_load e id) (λ x. through x id (resets_in x.table id)) (given_up e id)
+
 -- a unidirectional stream that was opened here is gone
 abbrev pub without_opened : Ends → ℕ → Ends
 without_opened e id = record e { opened = remove_entry (is_at (nat_cmp id)) e.opened }
@@ -252,6 +331,11 @@ without_opened e id = record e { opened = remove_entry (is_at (nat_cmp id)) e.op
 -- nothing more is sent on the stream
 abbrev pub halved : Option Told × Ends → ℕ → Option Told × Ends
 halved x id = (x.0, without_opened (without_half x.1 id) id)
+
+abbrev pub stops_ends : Ends → ℕ → Option Told × Ends
+stops_ends e id =
+    unless_load (is_load e id) (λ x. halved (through x id (stops_in x.table id)) id)
+    (given_up e id)
 
 -- an error of an own stream for a purpose, or of a datagram, ends the connection
 abbrev pub over_if : Ends → Option Fault × Table → Option Fault × Ends

@@ -1,5 +1,5 @@
 -- A connection with its streams, by their IDs (RFC 9000, section 2.1).
-use Rattle.std.specs.Prelude.{◌≡◌, ◌≢◌, ℕ, ◌&&◌, not, Bool, true, false, List, [], Option, Some, None, option_map, sum_by}
+use Rattle.std.specs.Prelude.{◌≡◌, ◌≢◌, ℕ, ◌&&◌, not, Bool, true, false, List, [], Option, Some, None, option_map, sum_by, count_by, nat_lt}
 use Rattle.std.specs.Ordering.{nat_cmp}
 use Rattle.std.specs.List.{find}
 use Rattle.std.specs.Map.{lookup, set_value, values_of}
@@ -12,9 +12,11 @@ use Rattle.wtp_connection.specs.declared.stream.Stream.TheVariants as frames
 use Rattle.wtp_connection.specs.Streams.{known_alone}
 use Rattle.wtp_webtransport.specs.declared.connection.Connection.{Connection}
 use Rattle.wtp_webtransport.specs.declared.stream.Stream.{Stream}
+use Rattle.wtp_webtransport.specs.declared.event.HeadersKind.{HeadersKind}
+use Rattle.wtp_webtransport.specs.declared.event.HeadersKind.TheVariants as kind
 use Rattle.wtp_webtransport.specs.declared.event.Waits.{Waits as Wait}
 use Rattle.wtp_webtransport.specs.declared.event.Waits.TheVariants as wait
-use Rattle.wtp_webtransport.specs.Events.{Told, Joined, Settings, Waits}
+use Rattle.wtp_webtransport.specs.Events.{Told, Joined, Settings, Headers, SessionRequested, StreamError, Waits}
 use Rattle.wtp_webtransport.specs.Sessions.{known_of}
 use Rattle.wtp_webtransport.specs.Streams.{connection_of, waits_for}
 use Rattle.wtp_streams.specs.declared.entry.Entry.{Entry}
@@ -22,12 +24,13 @@ use Rattle.wtp_streams.specs.declared.limits.Limits.{Limits}
 use Rattle.wtp_streams.specs.declared.streams.Streams.{Streams}
 
 -- what the streams have in common, the streams in the order of their IDs, the limit of a decoded field
--- section, and whether SETTINGS of the peer came
+-- section, whether SETTINGS of the peer came, and how many sessions there may be at once
 pub record Table : Type 0 where
   pub connection : Connection
   pub entries : List (ℕ × Entry)
   pub limit : ℕ
   pub configured : Bool
+  pub max_sessions : ℕ
 
 abbrev pub table_of : Streams → Table
 table_of t = record {
@@ -35,6 +38,7 @@ table_of t = record {
   entries = t.table.entries;
   limit = t.fields.limit;
   configured = t.configured;
+  max_sessions = t.max_sessions;
 }
 
 -- one without streams
@@ -44,6 +48,7 @@ table_for e extended limits = record {
   entries = [];
   limit = limits.max_fields;
   configured = false;
+  max_sessions = limits.max_sessions;
 }
 
 -- the stream with this ID
@@ -69,7 +74,13 @@ IsLeft id t u = (k : ℕ) → k ≢ id → entry_at u k ≡ entry_at t k
 
 -- a stream of which nothing came
 abbrev pub entry_of : Stream → Option ℕ → Bool → Entry
-entry_of s session stays = record { stream = s; session = session; paused = false; stays = stays }
+entry_of s session stays = record {
+  stream = s;
+  session = session;
+  paused = false;
+  stays = stays;
+  awaited = false;
+}
 
 -- a stream waits
 abbrev pub is_wait : Told → Bool
@@ -85,6 +96,17 @@ abbrev pub session_after : Option ℕ → Told → Option ℕ
 session_after before (Joined id) = Some id
 session_after before told = before
 
+-- a request came, which has no answer until one is sent; an error of its stream is none of the client
+abbrev pub awaited_by : Bool → HeadersKind → Bool
+awaited_by before kind.Request = true
+awaited_by before other = before
+
+abbrev pub awaited_after : Bool → Told → Bool
+awaited_after before (Headers k fields) = awaited_by before k
+awaited_after before (SessionRequested fields) = true
+awaited_after before (StreamError f) = false
+awaited_after before told = before
+
 -- a stream in this state after this event
 abbrev pub after_event : Entry → Stream → Told → Entry
 after_event e s told = record {
@@ -92,6 +114,7 @@ after_event e s told = record {
   session = session_after e.session told;
   paused = is_wait told;
   stays = e.stays;
+  awaited = awaited_after e.awaited told;
 }
 
 -- how many of all bytes are consumed when a stream is joined with its session: so many if those after
@@ -110,6 +133,24 @@ known_if c id (Some e) = known_of c e.stream
 
 abbrev pub known_in : Table → ℕ → Known
 known_in t id = known_if t.connection id (entry_at t id)
+
+-- it is open, or it was asked for and has no answer
+abbrev pub is_live : Known → Option Wait → Bool
+is_live known.Open w = true
+is_live known.Coming (Some wait.Answer) = true
+is_live _ w = false
+
+-- the stream is the own stream of such a session
+abbrev pub is_session : Table → Entry → Bool
+is_session t e = is_live (known_of t.connection e.stream) (waits_for e.stream)
+
+-- how many of these streams are own streams of such sessions
+abbrev pub sessions_of : Table → List (ℕ × Entry) → ℕ
+sessions_of t es = count_by (λ (e : ℕ × Entry). is_session t e.1) es
+
+-- there are more than there may be at once
+abbrev pub has_too_many : Table → Bool
+has_too_many t = nat_lt t.max_sessions (sessions_of t t.entries)
 
 -- ---- streams that wait
 

@@ -1,9 +1,9 @@
 //! A stream in the table.
 ghost use Rattle.std.specs.Prelude.{◌≡◌, false, None};
 ghost use Rattle.wtp_webtransport.specs.Events.{told_of};
-ghost use Rattle.wtp_streams.specs.Table.{entry_of, after_event, is_wait as is_wait_is, is_settings as is_settings_is, joined_len as joined_len_is, session_after as session_after_is};
+ghost use Rattle.wtp_streams.specs.Table.{entry_of, after_event, is_wait as is_wait_is, is_settings as is_settings_is, joined_len as joined_len_is, session_after as session_after_is, awaited_after};
 
-use wtp_webtransport::event::Event;
+use wtp_webtransport::event::{Event, HeadersKind};
 use wtp_webtransport::stream::Stream;
 
 /// A stream in the table.
@@ -17,6 +17,8 @@ pub(crate) struct Entry {
     pub(crate) paused: bool,
     /// Whether it is kept as long as the connection lives.
     pub(crate) stays: bool,
+    /// Whether a request came on it that has no answer, and that its client did not give up.
+    pub(crate) awaited: bool,
 }
 
 impl Entry {
@@ -29,6 +31,7 @@ impl Entry {
             session,
             paused: false,
             stays,
+            awaited: false,
         }
     }
 
@@ -38,6 +41,7 @@ impl Entry {
     {
         self.session = session_after(self.session, event);
         self.paused = is_wait(event);
+        self.awaited = is_awaited_after(self.awaited, event);
     }
 }
 
@@ -56,6 +60,17 @@ fn is_wait(event: &Event<'_>) -> bool
     ensures { result ≡ is_wait_is (told_of event.now) }
 {
     matches!(event, Event::Waits(_))
+}
+
+// Returns whether a stream has a request without an answer after an event.
+fn is_awaited_after(before: bool, event: &Event<'_>) -> bool
+    ensures { result ≡ awaited_after before (told_of event.now) }
+{
+    match event {
+        Event::Headers(HeadersKind::Request, _) | Event::SessionRequested(_) => true,
+        Event::StreamError(_) => false,
+        _ => before,
+    }
 }
 
 // Returns whether an event is the SETTINGS of the peer.

@@ -20,6 +20,7 @@ use crate::streams::Streams;
 use std::alloc::{AllocError, Global};
 use std::collections::BTreeMap;
 use std::collections::btree_map::Entry;
+use wtp_connection::budget::RequestBudget;
 use wtp_connection::connection::Known;
 use wtp_connection::settings::PeerSettings;
 use wtp_frames::endpoint::{Endpoint, Side};
@@ -41,6 +42,8 @@ pub struct H3Connection {
     halves: BTreeMap<u64, Half>,
     /// The unidirectional streams that were opened here, with their sessions.
     opened: BTreeMap<u64, u64>,
+    /// The requests that were answered or given up.
+    budget: RequestBudget,
     /// Whether an error ended the connection.
     over: bool,
     /// The memory for what is sent.
@@ -58,6 +61,7 @@ impl H3Connection {
             control: ControlSending::new(other_side(endpoint.side)),
             halves: BTreeMap::new(alloc),
             opened: BTreeMap::new(alloc),
+            budget: RequestBudget::with_excess(limits.max_resets),
             over: false,
             alloc,
         }

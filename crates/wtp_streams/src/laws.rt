@@ -15,7 +15,7 @@ ghost use Rattle.wtp_sending.specs.Sent.{Sent, IsAt, IsRead};
 ghost use Rattle.wtp_webtransport.specs.Events.{Told};
 ghost use Rattle.wtp_streams.specs.declared.h3.half.Half.TheVariants.{Message};
 ghost use Rattle.wtp_streams.specs.Ends.{Ends, half_at};
-ghost use Rattle.wtp_streams.specs.Sends.{Sends, HalfSends, Requests, Responds, ClosesAt, ReceivesEnds, session_half};
+ghost use Rattle.wtp_streams.specs.Sends.{Sends, HalfSends, Requests, Responds, ClosesAt, Finishes, ReceivesEnds, session_half};
 ghost use Rattle.wtp_streams.specs.Calls.{accepts_in, opens_in, belongs_in, Result, ReceivesIn, forgets_in, resets_in, stops_in, abandons_in, overflows_in, rejects_in, stopped_in, answers_in, cuts_in};
 
 /// The connection counts exactly the streams of the table that wait for their sessions: none of a table
@@ -83,6 +83,8 @@ pub fn sending_keeps_counts()
         → IsCounted old.table → IsCounted new.table }
     ensures close { (code : ℕ) (reason : List ℕ) (old new : Ends) (id : ℕ)
         → ClosesAt (session_half old id) code reason old id new
+        → IsCounted old.table → IsCounted new.table }
+    ensures finish { (old new : Ends) (id : ℕ) → Finishes old id new
         → IsCounted old.table → IsCounted new.table }
 {}
 

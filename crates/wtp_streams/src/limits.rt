@@ -2,7 +2,7 @@
 ghost use Rattle.std.specs.Prelude.{◌≡◌};
 
 /// What the user of a connection bounds: the largest field sections, in two measures (RFC 9114, section
-/// 4.2.2).
+/// 4.2.2), the sessions at once, and the requests that a client gives up.
 ///
 /// Other bounds are fixed: 16 streams wait for their sessions, and more are rejected; a datagram in a capsule
 /// has at most 65,535 bytes, and a larger one is dropped; SETTINGS have at most 4,096 bytes, and a message at
@@ -15,16 +15,32 @@ pub struct Limits {
     pub max_section: u32,
     /// The largest decoded one: for each field the lengths of its name and its value in bytes, plus 32.
     pub max_fields: u64,
+    /// The most sessions that a client has at once: those that are open, and those that it asked for and
+    /// that are not answered. A request for one more is rejected with H3_REQUEST_REJECTED, and the client
+    /// may ask again (RFC 9114, section 4.1.1; draft-ietf-webtrans-http3-07, section 3).
+    pub max_sessions: u64,
+    /// How many more requests a client may give up before their answer than are answered: it resets them,
+    /// or asks to stop their responses. One more ends the connection with H3_EXCESSIVE_LOAD (RFC 9114,
+    /// sections 4.1.1 and 10.5), as [`RequestBudget`](wtp_connection::budget::RequestBudget) says.
+    pub max_resets: u64,
 }
 
 impl Limits {
-    /// Creates the limits of 65,536 bytes in both measures.
+    /// Creates the limits of 65,536 bytes in both measures, of 100 sessions, as many as the requests that a
+    /// server should permit at once (RFC 9114, section 6.1), and of as many requests that are given up.
     pub fn new() -> Self
-        ensures { result ≡ record { max_section = 65536; max_fields = 65536 } }
+        ensures { result ≡ record {
+          max_section = 65536;
+          max_fields = 65536;
+          max_sessions = 100;
+          max_resets = 100;
+        } }
     {
         Limits {
             max_section: 65_536,
             max_fields: 65_536,
+            max_sessions: 100,
+            max_resets: 100,
         }
     }
 }

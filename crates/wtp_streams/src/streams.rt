@@ -31,14 +31,16 @@ pub struct Streams {
     fields: Fields,
     /// Whether SETTINGS of the peer came.
     configured: bool,
+    /// How many sessions there may be at once.
+    max_sessions: u64,
     /// The streams.
     table: BTreeMap<u64, Entry>,
 }
 
 impl Streams {
     /// Creates a connection without streams. `extended`: the own SETTINGS allow extended CONNECT, which
-    /// sessions of WebTransport need (RFC 9220, section 3). `limits` bounds field sections, in place of
-    /// that of `endpoint`.
+    /// sessions of WebTransport need (RFC 9220, section 3). `limits` bounds sessions, and field sections in
+    /// place of `endpoint`.
     pub fn new(alloc: Global, endpoint: Endpoint, extended: bool, limits: Limits) -> Self
         ensures { table_of result ≡ table_for endpoint extended limits }
     {
@@ -48,6 +50,7 @@ impl Streams {
             connection: Connection::new(endpoint, extended),
             fields: Fields::new(alloc, limits.max_fields),
             configured: false,
+            max_sessions: limits.max_sessions,
             table: BTreeMap::new(alloc),
         }
     }
@@ -125,6 +128,11 @@ impl Streams {
     /// A stream that belongs to a session is joined with it: in place of [`Event::Joins`] it returns what
     /// [`Connection::join`] returns by what is known of the session. So does each call for a stream that
     /// waits for its session; it consumes nothing, or with an error all bytes.
+    ///
+    /// A request for a session is rejected if there are more with it than
+    /// [`Limits::max_sessions`](crate::limits::Limits): in place of [`Event::SessionRequested`] it returns
+    /// what [`reject`](Self::reject) returns after GOAWAY, `StreamError` with H3_REQUEST_REJECTED. The stream
+    /// is over then. To count the sessions it looks at all streams, at such a request alone.
     pub fn receive<'a>(&mut self, id: u64, bytes: &'a [u8], fin: bool) -> Option<Received<'a>>
         ensures { ReceivesIn (table_of self.old) id bytes.now fin
             (option_map (λ r. (r.consumed, told_of r.event)) result, table_of self.new) }
@@ -153,6 +161,7 @@ impl Streams {
         let received = self.next(id, bytes, fin)?;
         match received.event {
             Event::Joins(session) => self.join(id, session, received.consumed, bytes.len()),
+            Event::SessionRequested(_) => self.requested(id, received, bytes.len()),
             _ => Some(received),
         }
     }

@@ -6,7 +6,7 @@ ghost use Rattle.wtp_sending.specs.Message.{data_head, headers_wire, after_data,
 ghost use Rattle.wtp_sending.specs.Sent.{SentDataHead, SentTrailers, SentClose};
 ghost use Rattle.wtp_sending.specs.Session.{in_session, datagram_head, drain_wire, close_data, after_close};
 ghost use Rattle.wtp_sending.specs.Writing.{WritesAll, Fails, FailsAllocating};
-ghost use Rattle.wtp_streams.specs.Ends.{asked_of as asked_of_is, is_request as is_request_is, asks, connects};
+ghost use Rattle.wtp_streams.specs.Ends.{asked_of as asked_of_is, is_extended as is_extended_is, is_request as is_request_is, asks, connects};
 ghost use Rattle.wtp_streams.specs.Sends.{HalfSends, HalfResponds, HalfRefuses, RefusesBy, HalfChanges, InSession, head_for, sending_in, response_in};
 
 use crate::h3::refused::Refused;
@@ -256,6 +256,13 @@ pub(crate) fn asked_of(list: &FieldList) -> Asked
     } else {
         Asked::Other
     }
+}
+
+// Returns whether a request is an extended CONNECT.
+pub(crate) fn is_extended(list: &FieldList) -> bool
+    ensures { result ≡ is_extended_is list.now }
+{
+    has_value(list, b":method", b"CONNECT") && list.first(b":protocol").is_some()
 }
 
 // Returns whether the first field of a name has this value.

@@ -1,10 +1,10 @@
 //! Messages that are sent: requests and responses, their content, trailers and end (RFC 9114, section 4.1).
-ghost use Rattle.std.specs.Prelude.{◌≡◌, Ok, Err, OnOk, OnErr, IfErr, length};
+ghost use Rattle.std.specs.Prelude.{◌≡◌, Ok, Err, Some, OnOk, OnErr, IfErr, length};
 ghost use Rattle.wtp_sending.specs.Message.{data_head, headers_wire, after_data, after_bytes, after_end, RefusesHeaders, RefusesTrailers};
 ghost use Rattle.wtp_sending.specs.Sent.{SentDataHead, SentTrailers};
 ghost use Rattle.wtp_sending.specs.Writing.{WritesAll, Fails};
 ghost use Rattle.wtp_streams.specs.Ends.{ends_of, peer_in};
-ghost use Rattle.wtp_streams.specs.Sends.{Sends, Responds, Requests, Refuses, HalfSends, HalfRefuses, HalfChanges, RefusesBy, RefusesRequest, response_in, request_at, may_request as may_request_is, has_stream as has_stream_is, after_half};
+ghost use Rattle.wtp_streams.specs.Sends.{Sends, Responds, Requests, Finishes, Refuses, HalfSends, HalfRefuses, HalfChanges, RefusesBy, RefusesRequest, response_in, request_at, may_request as may_request_is, has_stream as has_stream_is, answered_with, after_half};
 
 use crate::h3::H3Connection;
 use crate::h3::half::{Half, session_id, status_of};
@@ -23,8 +23,10 @@ impl H3Connection {
     /// # Errors
     ///
     /// Nothing is written and nothing changes. [`Refused::Over`]; [`Refused::InvalidId`] at a server, and
-    /// for the ID of another stream; [`Refused::GoAway`]; [`Refused::StreamExists`]; and the errors of
-    /// [`Sending::headers`] by what the settings of the peer allow.
+    /// for the ID of another stream; [`Refused::GoAway`]; [`Refused::StreamExists`]; for an extended
+    /// CONNECT, such as a request for a session, [`Refused::SettingsMissing`] until SETTINGS of the peer
+    /// come, and [`SendError::Unsupported`] if they do not allow it (RFC 9220, section 3); and the errors
+    /// of [`Sending::headers`].
     pub fn request<W: BytesWriter>(
         &mut self,
         id: u64,
@@ -32,14 +34,14 @@ impl H3Connection {
         out: &mut W,
     ) -> Result<(), Refused>
         ensures sent { OnOk result (Requests list.now (ends_of self.old) id (ends_of self.new)) }
-        ensures refused { IfErr result (λ e. RefusesRequest (may_request_is (ends_of self.old) id)
+        ensures refused { IfErr result (λ e. RefusesRequest (may_request_is (ends_of self.old) id list.now)
             (request_at (ends_of self.old) id) list.now (W.room out.old) e) }
         ensures kept { OnErr result (ends_of self.new ≡ ends_of self.old) }
         ensures written { WritesAll (headers_wire list.now) result (W.written out.old) (W.room out.old)
             (W.written out.new) (W.room out.new) }
         ensures target { W.target out.new ≡ W.target out.old }
     {
-        match self.may_request(id) {
+        match self.may_request(id, list) {
             Ok(()) => {}
             Err(refused) => return Err(refused),
         }
@@ -65,9 +67,9 @@ impl H3Connection {
         }
     }
 
-    // Checks that a request may be sent on the stream with this ID.
-    fn may_request(&self, id: u64) -> Result<(), Refused>
-        ensures { result ≡ may_request_is (ends_of self.now) id }
+    // Checks that a request with these fields may be sent on the stream with this ID.
+    fn may_request(&self, id: u64, list: &FieldList) -> Result<(), Refused>
+        ensures { result ≡ may_request_is (ends_of self.now) id list.now }
     {
         if self.over {
             return Err(Refused::Over);
@@ -81,7 +83,7 @@ impl H3Connection {
         if self.has_stream(id) {
             return Err(Refused::StreamExists);
         }
-        Ok(())
+        self.streams.may_extend(list)
     }
 
     // Returns whether there is a stream with this ID.
@@ -127,9 +129,19 @@ impl H3Connection {
             Err(refused) => return Err(refused),
         }
         if let Some(status) = status_of(list) {
-            self.streams.answer(id, status);
+            self.answer(id, status);
         }
         Ok(())
+    }
+
+    // Takes a response with this status to the request on a stream, which is its answer if it is final.
+    fn answer(&mut self, id: u64, status: u32)
+        ensures { ends_of self.new ≡ answered_with (ends_of self.old) id (Some status) }
+    {
+        self.streams.answer(id, status);
+        if status > 199 && self.streams.take_awaited(id) {
+            self.budget.answered();
+        }
     }
 
     /// Writes the head of a DATA frame with `len` bytes on the stream with this ID. The bytes are sent after
@@ -215,13 +227,16 @@ impl H3Connection {
     /// Ends the message on the stream with this ID: the stream is to be ended with the last bytes that
     /// were written.
     ///
+    /// The end of the own stream of an open session closes the session, with code 0 and without a reason
+    /// (draft-ietf-webtrans-http3-02, section 5). It is over then, as after [`close`](Self::close):
+    /// [`next_to_reset`](Self::next_to_reset) returns its streams.
+    ///
     /// # Errors
     ///
     /// Nothing changes. [`Refused::Over`]; [`Refused::NoStream`]; and the errors of [`Sending::finish`].
     #[tactic(auto, using(std::proofs::lemmas::Map::Steps::set_value_same))]
     pub fn finish(&mut self, id: u64) -> Result<(), Refused>
-        ensures sent { OnOk result (Sends (λ h n. HalfChanges after_end (Ok tt) h n) (ends_of self.old) id
-            (ends_of self.new)) }
+        ensures sent { OnOk result (Finishes (ends_of self.old) id (ends_of self.new)) }
         ensures refused { IfErr result (λ e. Refuses (λ h x. after_half after_end h ≡ Err x)
             (ends_of self.old) id e) }
         ensures kept { OnErr result (ends_of self.new ≡ ends_of self.old) }
@@ -229,9 +244,17 @@ impl H3Connection {
         if self.over {
             return Err(Refused::Over);
         }
+        let closes = self.streams.is_open(id);
         let Some(half) = self.halves.get_mut(&id) else {
             return Err(Refused::NoStream);
         };
-        half.finish()
+        match half.finish() {
+            Ok(()) => {}
+            Err(refused) => return Err(refused),
+        }
+        if closes {
+            self.streams.abandon(id);
+        }
+        Ok(())
     }
 }

@@ -23,6 +23,10 @@ pub enum Refused {
     /// GOAWAY of the server came: no request is sent after it (RFC 9114, section 5.2).
     #[error("the server goes away")]
     GoAway,
+    /// SETTINGS of the peer did not come: an extended CONNECT, such as a request for a session, is sent
+    /// after the event `Settings` (RFC 9220, section 3; draft-ietf-webtrans-http3-02, section 3.1).
+    #[error("SETTINGS of the peer did not come")]
+    SettingsMissing,
     /// The session is not open: it has no answer with a 2xx status, or it is over.
     #[error("the session is not open")]
     SessionNotOpen,

@@ -41,8 +41,8 @@ impl Streams {
     }
 
     /// Ends the reading of the stream with this ID, as [`Connection::abandon`] does. To close a session
-    /// write its capsule and the end, and then abandon its stream. Returns `None` if there is no such
-    /// stream.
+    /// write its capsule and the end, or the end alone, and then abandon its stream. Returns `None` if
+    /// there is no such stream.
     ///
     /// [`Connection::abandon`]: wtp_webtransport::connection::Connection::abandon
     pub fn abandon(&mut self, id: u64) -> Option<Event<'static>>

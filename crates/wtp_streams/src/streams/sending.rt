@@ -4,17 +4,19 @@ ghost use Rattle.std.specs.Prelude.{◌≡◌, Ok, OnOk, OnErr, IfErr, None, is_
 ghost use Rattle.wtp_sending.specs.Message.{headers_wire, SendsHead, RefusesHeaders};
 ghost use Rattle.wtp_sending.specs.Session.{in_session, bi_head};
 ghost use Rattle.wtp_sending.specs.Writing.{WritesAll, FailsAllocating};
-ghost use Rattle.wtp_streams.specs.Calls.{opens_in, belongs_in};
-ghost use Rattle.wtp_streams.specs.Ends.{asked_of as asked_of_is, peer_in};
-ghost use Rattle.wtp_streams.specs.Sends.{is_leaving as is_leaving_is};
+ghost use Rattle.wtp_streams.specs.Calls.{opens_in, belongs_in, awaited_in, unawaited};
+ghost use Rattle.wtp_streams.specs.Ends.{asked_of as asked_of_is, peer_in, is_open as is_open_is};
+ghost use Rattle.wtp_streams.specs.Sends.{is_leaving as is_leaving_is, may_extend as may_extend_is};
 ghost use Rattle.wtp_streams.specs.Table.{table_of, entry_at, known_in, has_ended as has_ended_is};
 
 use crate::entry::Entry as Kept;
-use crate::h3::half::asked_of;
+use crate::h3::half::{asked_of, is_extended};
+use crate::h3::refused::Refused;
 use crate::streams::Streams;
 use crate::streams::sessions::has_ended;
 use std::alloc::Global;
 use std::collections::btree_map::Entry;
+use wtp_connection::connection::Known;
 use wtp_core::bytes::BytesWriter;
 use wtp_fields::fields::FieldList;
 use wtp_messages::response::Asked;
@@ -31,6 +33,30 @@ impl Streams {
         self.table.contains_key(&id)
     }
 
+    // Takes the answer, or the end, of the request on a stream. Returns whether there is one without an answer.
+    pub(crate) fn take_awaited(&mut self, id: u64) -> bool
+        ensures taken { result ≡ awaited_in (entry_at (table_of self.old) id) }
+        ensures table { table_of self.new ≡ unawaited (table_of self.old) id }
+    {
+        if !self.is_awaited(id) {
+            return false;
+        }
+        if let Some(entry) = self.table.get_mut(&id) {
+            entry.awaited = false;
+        }
+        true
+    }
+
+    // Returns whether a stream has a request without an answer.
+    fn is_awaited(&self, id: u64) -> bool
+        ensures { result ≡ awaited_in (entry_at (table_of self.now) id) }
+    {
+        match self.table.get(&id) {
+            Some(entry) => entry.awaited,
+            None => false,
+        }
+    }
+
     // Returns what the peer allows to be sent.
     pub(crate) fn peer(&self) -> Peer
         ensures { result ≡ peer_in (table_of self.now) }
@@ -43,11 +69,37 @@ impl Streams {
         }
     }
 
+    // Checks that a request may be sent if it is an extended CONNECT.
+    pub(crate) fn may_extend(&self, list: &FieldList) -> Result<(), Refused>
+        ensures { result ≡ may_extend_is (table_of self.now) list.now }
+    {
+        if !is_extended(list) {
+            return Ok(());
+        }
+        if !self.configured {
+            return Err(Refused::SettingsMissing);
+        }
+        let settings = self.connection.peer_settings();
+        let is_session = matches!(asked_of(list), Asked::Session);
+        if settings.enable_connect_protocol && (!is_session || self.connection.allows_sessions()) {
+            Ok(())
+        } else {
+            Err(Refused::Send(SendError::Unsupported))
+        }
+    }
+
     // Returns whether GOAWAY of the server came.
     pub(crate) fn is_leaving(&self) -> bool
         ensures { result ≡ is_leaving_is (table_of self.now) }
     {
         self.connection.is_unprocessed(u64::MAX)
+    }
+
+    // Returns whether a session is open.
+    pub(crate) fn is_open(&self, session: u64) -> bool
+        ensures { result ≡ is_open_is (known_in (table_of self.now) session) }
+    {
+        matches!(self.known(session), Known::Open)
     }
 
     // Returns whether a session that was open is open no longer.

@@ -1,14 +1,15 @@
 //! Sessions: their answers, their datagrams, and the streams of those that are over.
 ghost use Rattle.std.specs.Prelude.{◌≡◌, Ok, Err, MatchResult, option_map};
+ghost use Rattle.wtp_webtransport.specs.Events.{told_of};
 ghost use Rattle.wtp_webtransport.specs.Joining.{takes, after_datagram};
-ghost use Rattle.wtp_streams.specs.Table.{table_of, with_connection, entry_at, is_cut as is_cut_is, has_ended as has_ended_is, first_cut as first_cut_is};
-ghost use Rattle.wtp_streams.specs.Calls.{awaits_answer as awaits_answer_is, wait_of, answers_in, action_in, cuts_in};
+ghost use Rattle.wtp_streams.specs.Table.{table_of, with_connection, entry_at, is_cut as is_cut_is, has_ended as has_ended_is, first_cut as first_cut_is, is_session as is_session_is, has_too_many as has_too_many_is};
+ghost use Rattle.wtp_streams.specs.Calls.{awaits_answer as awaits_answer_is, wait_of, answers_in, action_in, cuts_in, requested_in, BelongsToSession, IsCodeIn};
 
 use crate::entry::Entry;
 use crate::streams::Streams;
 use wtp_connection::connection::Known;
 use wtp_connection::connection::datagrams::DatagramFor;
-use wtp_webtransport::event::Waits;
+use wtp_webtransport::event::{Received, Waits};
 use wtp_webtransport::fault::Fault;
 
 /// A datagram of a session.
@@ -75,6 +76,68 @@ impl Streams {
             })),
             Ok(None) => Ok(None),
             Err(fault) => Err(fault),
+        }
+    }
+
+    /// Returns the application's error code in a RESET_STREAM or STOP_SENDING of the peer with this code,
+    /// if the stream with this ID is one of a session, as
+    /// [`Stream::application_code`](wtp_webtransport::stream::Stream::application_code) does. Returns
+    /// `None` if there is no such stream.
+    pub fn application_code(&self, id: u64, code: u64) -> Option<u32>
+        ensures { IsCodeIn (BelongsToSession (entry_at (table_of self.now) id)) code result }
+    {
+        match self.table.get(&id) {
+            Some(entry) => entry.stream.application_code(code),
+            None => None,
+        }
+    }
+
+    // Returns a request for a session, which is rejected with all `len` bytes if there are too many.
+    pub(super) fn requested<'a>(
+        &mut self,
+        id: u64,
+        received: Received<'a>,
+        len: usize,
+    ) -> Option<Received<'a>>
+        ensures { (option_map (λ r. (r.consumed, told_of r.event)) result, table_of self.new)
+            ≡ requested_in (told_of received.entry.event) (table_of self.old) id received.entry.consumed len }
+    {
+        if !self.has_too_many_sessions() {
+            return Some(received);
+        }
+        match self.reject(id, Some(id)) {
+            Some(event) => Some(Received {
+                consumed: len,
+                event,
+            }),
+            None => None,
+        }
+    }
+
+    // Returns whether there are more sessions than there may be at once.
+    fn has_too_many_sessions(&self) -> bool
+        ensures { result ≡ has_too_many_is (table_of self.now) }
+    {
+        let mut left = self.max_sessions;
+        for (_, entry) in &self.table {
+            if self.is_session(entry) {
+                let Some(less) = left.checked_sub(1) else {
+                    return true;
+                };
+                left = less;
+            }
+        }
+        false
+    }
+
+    // Returns whether a stream is the own stream of a session that is open, or that has no answer.
+    fn is_session(&self, entry: &Entry) -> bool
+        ensures { result ≡ is_session_is (table_of self.now) entry.now }
+    {
+        match self.connection.known(&entry.stream) {
+            Known::Open => true,
+            Known::Coming => matches!(entry.stream.waits(), Some(Waits::Answer)),
+            _ => false,
         }
     }
 

@@ -1,5 +1,5 @@
-use Rattle.wtp_streams.proofs.CountLemmas.{receive_counted}
-use Rattle.wtp_streams.proofs.SendingLemmas.{request_counted, respond_counted, close_counted}
+use Rattle.wtp_streams.proofs.ReceivingLemmas.{receive_counted}
+use Rattle.wtp_streams.proofs.SendingLemmas.{request_counted, respond_counted, close_counted, finish_counted}
 use Rattle.wtp_streams.specs.Sends.{session_half}
 use Rattle.wtp_streams.proofs.laws.sending_keeps_counts.Goals as goal
 
@@ -14,3 +14,6 @@ returns-clause-respond c = respond_counted
 
 pub returns-clause-close : goal.returns-clause-close
 returns-clause-close c = λ code reason old new id. close_counted (session_half old id) code reason old new id
+
+pub returns-clause-finish : goal.returns-clause-finish
+returns-clause-finish c = finish_counted

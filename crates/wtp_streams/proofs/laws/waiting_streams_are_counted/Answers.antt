@@ -1,7 +1,8 @@
 use Rattle.std.proofs.Common.{refl}
 use Rattle.wtp_streams.specs.Table.{entry_at}
-use Rattle.wtp_streams.proofs.CountLemmas.{accept_counted, put_counted, receive_counted, forget_counted, named_counted}
+use Rattle.wtp_streams.proofs.CountLemmas.{accept_counted, put_counted, forget_counted, named_counted}
 use Rattle.wtp_streams.proofs.EndingLemmas.{reset_counted, stop_counted, abandon_counted, overflow_counted, reject_counted, stopped_counted, answer_counted, datagram_counted, cuts_counted}
+use Rattle.wtp_streams.proofs.ReceivingLemmas.{receive_counted}
 use Rattle.wtp_streams.proofs.laws.waiting_streams_are_counted.Goals as goal
 
 pub returns-clause-new : goal.returns-clause-new
