@@ -51,6 +51,11 @@ abbrev pub all_of : Source → List ℕ
 all_of (Joined bytes) = bytes.items
 all_of (Chunk bytes) = bytes.now
 
+-- they are those of a chunk, which is not copied
+abbrev pub IsUncopied : Source → Type 0
+IsUncopied (Joined bytes) = ⊥
+IsUncopied (Chunk bytes) = Unit {0}
+
 -- the bytes that are to be read, without those that were consumed
 abbrev pub rest_of : Unread → List ℕ
 rest_of u = drop u.used (all_of u.source)

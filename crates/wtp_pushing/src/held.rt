@@ -1,6 +1,6 @@
 //! The bytes of one stream that are held.
 ghost use Rattle.std.specs.Prelude.{◌≡◌, ◌++◌, ◌||◌, [], false, IfOk, OnOk, OnErr};
-ghost use Rattle.wtp_pushing.specs.Holding.{IsUnread};
+ghost use Rattle.wtp_pushing.specs.Holding.{IsUnread, IsUncopied};
 
 use crate::unread::Unread;
 use std::alloc::{AllocError, Global};
@@ -26,6 +26,7 @@ impl Held {
     ) -> Result<Unread<'a>, AllocError>
         ensures unread { IfOk result (λ u. IsUnread u id (self.old.bytes.items ++ chunk.now)
             (self.old.fin || fin)) }
+        ensures uncopied { IfOk result (λ u. self.old.bytes.items ≡ [] → IsUncopied u.source) }
         ensures taken { OnOk result (self.new.bytes.items ≡ []) }
         ensures end { OnOk result (self.new.fin ≡ false) }
         ensures err { OnErr result (self.new.bytes.items ≡ self.old.bytes.items) }

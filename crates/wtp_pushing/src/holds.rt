@@ -22,7 +22,9 @@ pub enum NotHeld<'a> {
     Limit(Unread<'a>),
 }
 
-/// The bytes of the streams of a connection that came and were not consumed, by the IDs of the streams.
+/// The bytes of the streams of a connection that came and were not consumed, by the IDs of the streams. Those
+/// of one stream, and of all together, are never more than their bounds. A stream whose bytes were all consumed
+/// takes no memory, unless it waits with its end.
 #[derive(Drop)]
 pub struct Holds {
     /// What is held of each stream.
@@ -40,7 +42,7 @@ pub struct Holds {
 
 impl Holds {
     ghost use Rattle.std.specs.Prelude.{◌≡◌, ◌++◌, [], IfOk, IsOk, OnOk, OnErr, ◌≤◌, ◌<◌, ◌+◌, ◌-◌, ◌⊎◌, ◌==◌, ◌||◌, ◌↔◌, false, length, IsTrue, IfErr};
-    ghost use Rattle.wtp_pushing.specs.Holding.{bytes_of, is_ended as is_ended_is, all_held, HasBounds, IsHeld, IsNew, IsSame, AreLeft, rest_of, IsUnread, Exceeds, IsRefused};
+    ghost use Rattle.wtp_pushing.specs.Holding.{bytes_of, is_ended as is_ended_is, all_held, HasBounds, IsHeld, IsNew, IsSame, AreLeft, rest_of, IsUnread, IsUncopied, Exceeds, IsRefused};
 
     /// Creates the place for the bytes of a connection, of which nothing is held: at most 65,551 bytes of each
     /// stream, and 262,144 of all. Nothing is allocated.
@@ -91,9 +93,9 @@ impl Holds {
         }
     }
 
-    /// Takes what is held of the stream with this ID, for it to be read with a chunk after it. `fin`: the
-    /// stream ends right after the chunk. Nothing is held of the stream then: [`keep`](Self::keep) what is not
-    /// consumed.
+    /// Takes what is held of the stream with this ID, for it to be read with a chunk after it, which is not
+    /// copied if no bytes are held. `fin`: the stream ends right after the chunk, or ended before. Nothing is
+    /// held of the stream then: [`keep`](Self::keep) what is not consumed.
     ///
     /// A stream that waited is read again with an empty chunk.
     ///
@@ -108,6 +110,7 @@ impl Holds {
     ) -> Result<Unread<'a>, AllocError>
         ensures unread { IfOk result (λ u. IsUnread u id (bytes_of self.old id ++ chunk.now)
             (is_ended_is self.old id || fin)) }
+        ensures uncopied { IfOk result (λ u. bytes_of self.old id ≡ [] → IsUncopied u.source) }
         ensures taken { OnOk result (IsHeld self.new id [] false) }
         ensures err { OnErr result (IsSame id self.old self.new) }
         ensures held { OnErr result (bytes_of self.old id ≡ [] → ⊥) }
@@ -124,7 +127,7 @@ impl Holds {
     }
 
     /// Keeps the bytes of a stream that were not consumed, and whether it ends after them, in place of what is
-    /// held of it.
+    /// held of it. [`take`](Self::take) them with the next chunk; [`forget`](Self::forget) them with the stream.
     ///
     /// # Errors
     ///
@@ -156,7 +159,8 @@ impl Holds {
     // Returns whether so many bytes of a stream are more than the bounds allow.
     fn exceeds(&self, before: usize, len: usize) -> bool
         requires { before ≤ all_held self.now }
-        ensures { IsTrue result ↔ ((self.now.max_stream < len) ⊎ (self.now.max_all < (all_held self.now - before) + len)) }
+        ensures { IsTrue result ↔ ((self.now.max_stream < len)
+            ⊎ (self.now.max_all < (all_held self.now - before) + len)) }
     {
         let others = self.count - before;
         len > self.max_stream || len > self.max_all - others

@@ -3,7 +3,7 @@ ghost use Rattle.std.specs.Prelude.{◌≡◌, ◌≤◌, length, drop, IfOk, If
 ghost use Rattle.wtp_webtransport.specs.Events.{told_of};
 ghost use Rattle.wtp_streams.specs.Ends.{ends_of};
 ghost use Rattle.wtp_streams.specs.Sends.{ReceivesEnds};
-ghost use Rattle.wtp_pushing.specs.Holding.{all_of, rest_of, IsUnread, IsBack};
+ghost use Rattle.wtp_pushing.specs.Holding.{all_of, rest_of, IsUnread, IsUncopied, IsBack};
 
 use std::alloc::Global;
 use wtp_streams::h3::H3Connection;
@@ -35,7 +35,8 @@ pub struct Unread<'a> {
 impl<'a> Unread<'a> {
     // Creates what is to be read of a stream of which nothing is held.
     pub(crate) fn of_chunk(id: u64, chunk: &'a [u8], fin: bool) -> Self
-        ensures { IsUnread result id chunk.now fin }
+        ensures unread { IsUnread result id chunk.now fin }
+        ensures uncopied { IsUncopied result.source }
     {
         let source = Source::Chunk(chunk);
         Unread {
@@ -91,8 +92,8 @@ impl<'a> Unread<'a> {
     }
 
     /// Returns what is next on the stream, as [`H3Connection::receive`] does with the bytes, or `None` if there is
-    /// no such stream. [`consume`](Self::consume) what it consumed, which is also what QUIC's flow control is
-    /// credited for.
+    /// no such stream. [`consume`](Self::consume) the bytes that were consumed with it before the next call: so
+    /// many are to be credited to QUIC's flow control, and no others.
     pub fn receive<'b>(&'b self, connection: &mut H3Connection) -> Option<Received<'b>>
         ensures receives { ReceivesEnds (ends_of connection.old) self.now.id (rest_of self.now) self.now.fin
             (option_map (λ r. (r.consumed, told_of r.event)) result) (ends_of connection.new) }
