@@ -13,4 +13,5 @@
 
 mod held;
 pub mod holds;
+pub mod laws;
 pub mod unread;
