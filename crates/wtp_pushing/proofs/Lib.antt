@@ -1,0 +1,4 @@
+pub mod CountLemmas
+pub mod TurnLemmas
+pub mod UnreadLemmas
+pub mod WithinLemmas
