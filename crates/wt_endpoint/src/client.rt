@@ -139,10 +139,7 @@ impl Client {
         if *left > 0 {
             return Ok(());
         }
-        let out = link.outgoing.stream(session)?;
-        link.connection.close(session, 7, "bye", out)?;
-        link.outgoing.end(session)?;
-        Ok(())
+        link.close_session(session, 7, "bye")
     }
 
     /// Keeps the session of a stream.

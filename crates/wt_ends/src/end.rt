@@ -3,6 +3,7 @@
 use crate::network::Network;
 use crate::quic::{Happened, Incoming, Outgoing};
 use std::alloc::Global;
+use std::collections::VecDeque;
 use wtp_connection::connection::datagrams::DatagramFor;
 use wtp_core::error::Code;
 use wtp_frames::endpoint::{Endpoint, Side};
@@ -22,6 +23,8 @@ pub struct Link {
     pub alloc: Global,
     pub connection: H3Connection,
     pub outgoing: Outgoing,
+    /// The open sessions whose streams were closed here, of which the application was not told.
+    lost: VecDeque<u64>,
 }
 
 /// What is done with the events of a connection.
@@ -71,6 +74,7 @@ impl<A: Application + Drop> End<A> {
                 alloc,
                 connection,
                 outgoing,
+                lost: VecDeque::new(alloc),
             },
             incoming: Incoming::new(alloc, side),
             app,
@@ -131,12 +135,25 @@ impl<A: Application + Drop> End<A> {
 
     /// Closes the streams whose session is over. Call it after a session is closed, too.
     pub fn close_streams(&mut self) -> Result<(), Error> {
+        self.report_lost()?;
         for _turn in 0..TURNS {
             let Some(id) = self.link.connection.next_to_reset() else {
                 return Ok(());
             };
             self.link.close(id, Code::WEBTRANSPORT_SESSION_GONE)?;
             self.app.gone(&mut self.link, id)?;
+        }
+        Ok(())
+    }
+
+    /// Tells the application which open sessions are lost, since their streams were closed here.
+    fn report_lost(&mut self) -> Result<(), Error> {
+        for _turn in 0..TURNS {
+            let Some(id) = self.link.lost.pop_front() else {
+                return Ok(());
+            };
+            let handled = self.app.handle(&mut self.link, id, Event::SessionLost);
+            self.link.settle(id, handled)?;
         }
         Ok(())
     }
@@ -230,10 +247,23 @@ impl Link {
         }
     }
 
-    /// Closes a stream in both directions.
+    /// Closes a stream in both directions. If it is that of an open session, `SessionLost` follows.
     pub fn close(&mut self, id: u64, code: Code) -> Result<(), Error> {
-        self.connection.forget(id);
+        let event = self.connection.forget(id);
+        if matches!(event, Some(Event::SessionLost)) {
+            self.lost.push_back(id)?;
+        }
         self.outgoing.close(id, code)?;
+        Ok(())
+    }
+
+    /// Closes an open session with a code and a reason, and forgets its stream. No event of the session
+    /// follows.
+    pub fn close_session(&mut self, session: u64, code: u32, reason: &str) -> Result<(), Error> {
+        let out = self.outgoing.stream(session)?;
+        self.connection.close(session, code, reason, out)?;
+        self.outgoing.end(session)?;
+        self.connection.forget(session);
         Ok(())
     }
 

@@ -172,6 +172,7 @@ struct Sent {
     taken: usize,
     is_ended: bool,
     is_told: bool,
+    is_reset: bool,
 }
 
 impl Sent {
@@ -185,9 +186,9 @@ impl Sent {
         (piece, fin)
     }
 
-    /// Returns whether nothing is left to be sent.
+    /// Returns whether nothing is left to be sent, as on a stream that is reset.
     fn is_quiet(&self) -> bool {
-        self.taken >= self.bytes.len() && self.is_told == self.is_ended
+        self.is_reset || self.taken >= self.bytes.len() && self.is_told == self.is_ended
     }
 
     /// Drops the bytes that are sent, if that is all of them.
@@ -253,30 +254,42 @@ impl Outgoing {
         id % 4 < 2 || id % 2 != self.own
     }
 
-    /// Returns the buffer of a stream.
+    /// Returns the buffer of a stream. After a reset its bytes are discarded.
     pub fn stream(&mut self, id: u64) -> Result<&mut Vec<u8>, AllocError> {
+        let stream = self.half(id)?;
+        Ok(&mut stream.bytes)
+    }
+
+    /// Returns what is to be sent on a stream.
+    fn half(&mut self, id: u64) -> Result<&mut Sent, AllocError> {
         let stream = self.streams.entry(id)?.or_insert(Sent {
             bytes: Vec::new(self.alloc),
             taken: 0,
             is_ended: false,
             is_told: false,
+            is_reset: false,
         });
-        Ok(&mut stream.bytes)
+        if stream.is_reset {
+            stream.bytes.clear();
+        }
+        Ok(stream)
     }
 
     /// Ends a stream after the bytes in its buffer.
     pub fn end(&mut self, id: u64) -> Result<(), AllocError> {
-        self.stream(id)?;
-        if let Some(stream) = self.streams.get_mut(&id) {
-            stream.is_ended = true;
-        }
+        let stream = self.half(id)?;
+        stream.is_ended = true;
         Ok(())
     }
 
-    /// Resets the own half of a stream, of which nothing more is sent.
+    /// Resets the own half of a stream, of which nothing more is sent. A stream is reset once.
     pub fn reset(&mut self, id: u64, code: Code) -> Result<(), AllocError> {
-        if self.sends_on(id) {
-            self.streams.remove(&id);
+        if !self.sends_on(id) {
+            return Ok(());
+        }
+        let stream = self.half(id)?;
+        if !stream.is_reset {
+            stream.is_reset = true;
             self.resets.push_back((id, code))?;
         }
         Ok(())
