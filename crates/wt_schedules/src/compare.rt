@@ -114,17 +114,21 @@ fn may_leave(hearer: Side<'_>, id: u64, session: Option<u64>, why: Left) -> bool
     }
 }
 
-/// Returns whether a stream may be refused with this code: it comes after GOAWAY, or after the end of its session.
+/// Returns whether a stream may be refused with this code: a request after GOAWAY, a stream after the end of its
+/// session, or one whose session was not opened, since its answer was reset.
 fn may_refuse(hearer: Side<'_>, id: u64, session: Option<u64>, code: u64) -> bool {
-    match session {
-        Some(session) => {
-            code == Code::WEBTRANSPORT_SESSION_GONE.number().into_inner()
-                && is_over(hearer.journal, session)
-        }
-        None => {
-            code == Code::H3_REQUEST_REJECTED.number().into_inner() && is_beyond(hearer.goaway, id)
-        }
+    let Some(session) = session else {
+        return code == Code::H3_REQUEST_REJECTED.number().into_inner()
+            && is_beyond(hearer.goaway, id);
+    };
+    if hearer.journal.sessions.contains_key(&session) {
+        return code == Code::WEBTRANSPORT_SESSION_GONE.number().into_inner()
+            && !hearer.journal.is_session_open(session);
     }
+    code == Code::WEBTRANSPORT_BUFFERED_STREAM_REJECTED
+        .number()
+        .into_inner()
+        && !hearer.journal.hears(session)
 }
 
 fn is_beyond(goaway: Option<u64>, id: u64) -> bool {
