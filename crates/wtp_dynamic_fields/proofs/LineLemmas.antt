@@ -1,5 +1,5 @@
 -- Decoding field lists line by line.
-use Rattle.std.proofs.Common.{◌≡◌, inl, inr, ℕ, ◌+◌, ◌-◌, ◌<◌, ◌≤◌, List, [], ◌∷◌, ◌++◌, length, refl, arith, Result, Ok, Err, IsTrue}
+use Rattle.std.proofs.Common.{◌≡◌, inl, inr, ℕ, ◌+◌, ◌-◌, ◌<◌, ◌≤◌, List, [], ◌∷◌, ◌++◌, arith, Result, Ok, Err, IsTrue}
 use Rattle.std.specs.Result.{IsErrAnd}
 use Rattle.wtp_qpack.specs.Field.{Field}
 use Rattle.wtp_fields.specs.FieldList.{field_size, list_size}
@@ -8,7 +8,7 @@ use Rattle.wtp_dynamic.specs.Table.{Table}
 use Rattle.wtp_dynamic.specs.Section.{Prefix, table_line_at, AreTableLines, is_coded_line}
 use Rattle.wtp_dynamic.proofs.Answered.{table_lines_more}
 use Rattle.wtp_dynamic_fields.specs.declared.section.TableSectionError.{TableSectionError}
-use Rattle.wtp_dynamic_fields.specs.declared.section.TableSectionError.TheVariants.{Section, TooLarge, Memory}
+use Rattle.wtp_dynamic_fields.specs.declared.section.TableSectionError.TheVariants.{Memory}
 use Rattle.wtp_dynamic_fields.specs.Lists.{Reaches, ExceedsLimit, NeedsMemory, LinesGive}
 
 -- these fields were decoded, rest follows, and left is left of the limit

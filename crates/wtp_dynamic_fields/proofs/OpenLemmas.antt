@@ -13,11 +13,11 @@ use Rattle.wtp_dynamic.specs.Table.{Table, insert_count}
 use Rattle.wtp_dynamic.specs.InsertCount.{most_entries, count_of}
 use Rattle.wtp_dynamic.specs.Section.{Prefix, prefix_at, required_by, base_of}
 use Rattle.wtp_dynamic.proofs.Chains.{memory_only}
-use Rattle.wtp_dynamic_decoder.specs.Decoder.{Decoder, IsOpened, IsNotKept, Refuses}
+use Rattle.wtp_dynamic_decoder.specs.Decoder.{Decoder, IsOpened, Refuses}
 use Rattle.wtp_dynamic_fields.specs.declared.section.TableSectionError.{TableSectionError}
 use Rattle.wtp_dynamic_fields.specs.declared.section.TableSectionError.TheVariants.{Section, TooLarge, Memory}
 use Rattle.wtp_dynamic_fields.specs.Lists.{list_error, LinesGive}
-use Rattle.wtp_dynamic_fields.specs.Reading.{HasLines, SectionGives}
+use Rattle.wtp_dynamic_fields.specs.Reading.{SectionGives}
 
 -- ---- the fault of a prefix is not a failed allocation
 

@@ -1,5 +1,5 @@
 -- Lines without references to the dynamic table, read with one and without.
-use Rattle.std.proofs.Common.{◌≡◌, ◌⊎◌, inl, inr, ℕ, zero, suc, ◌+◌, ◌-◌, ◌*◌, ◌/◌, ◌%◌, ◌^◌, ◌==◌, nat_lt, nat_le, cond, Bool, true, false, ◌||◌, List, [], ◌∷◌, refl, ap, arith, Option, Some, None, Result, Ok, Err}
+use Rattle.std.proofs.Common.{◌≡◌, ◌⊎◌, inl, inr, ℕ, suc, ◌+◌, ◌-◌, ◌*◌, ◌%◌, ◌^◌, ◌==◌, nat_lt, nat_le, cond, Bool, true, false, ◌||◌, List, [], ◌∷◌, refl, ap, arith, Option, Some, None, Result, Ok, Err}
 use Rattle.std.proofs.lemmas.Bool.{le-ltb}
 use Rattle.wtp_huffman.proofs.Chosen.{chosen}
 use Rattle.wtp_qpack.specs.declared.qpack.DecodingError.{DecodingError}

@@ -1,5 +1,5 @@
 -- Sections whose prefix names no table, read with a decoder and without.
-use Rattle.std.proofs.Common.{◌≡◌, ◌≢◌, ◌⊎◌, inl, inr, ℕ, suc, ◌+◌, ◌-◌, ◌*◌, ◌%◌, ◌^◌, ◌<◌, ◌≤◌, ◌==◌, nat_lt, nat_le, cond, Bool, true, false, List, [], ◌∷◌, length, refl, sym, ◌∙◌, ap, subst, arith, pow_mono, Result, Ok, Err, IsTrue}
+use Rattle.std.proofs.Common.{◌≡◌, inl, inr, ℕ, suc, ◌+◌, ◌-◌, ◌*◌, ◌%◌, ◌^◌, ◌<◌, ◌==◌, nat_lt, nat_le, cond, true, false, List, [], ◌∷◌, refl, sym, ◌∙◌, ap, subst, arith, Result, Ok, Err, IsTrue}
 use Rattle.std.proofs.lemmas.Bool.{leb-false, lt-leb, le-ltb}
 use Rattle.wtp_huffman.proofs.Chosen.{chosen}
 use Rattle.wtp_qpack.specs.declared.qpack.DecodingError.{DecodingError}
@@ -18,13 +18,13 @@ use Rattle.wtp_dynamic.specs.Chain.{◌>>=◌}
 use Rattle.wtp_dynamic.specs.Faults.{section_fault, of_section}
 use Rattle.wtp_dynamic.specs.Table.{Table, insert_count}
 use Rattle.wtp_dynamic.specs.Section.{Prefix, prefix_at, required_by, base_of, is_blocked, table_line_at, AreTableLines}
-use Rattle.wtp_dynamic_decoder.specs.Decoder.{Decoder, IsOpened, IsWaiting, IsOneTooMany, IsNotKept}
+use Rattle.wtp_dynamic_decoder.specs.Decoder.{Decoder}
 use Rattle.wtp_dynamic_fields.specs.declared.section.Decoded.{Decoded}
 use Rattle.wtp_dynamic_fields.specs.declared.section.Decoded.TheVariants.{Fields, Blocked}
 use Rattle.wtp_dynamic_fields.specs.declared.section.TableSectionError.{TableSectionError}
 use Rattle.wtp_dynamic_fields.specs.declared.section.TableSectionError.TheVariants.{Section, TooLarge, Memory}
-use Rattle.wtp_dynamic_fields.specs.Lists.{Reaches, HasFaultyLine, ExceedsLimit, FitsNext, NeedsMemory}
-use Rattle.wtp_dynamic_fields.specs.Reading.{HasLines, SectionGives}
+use Rattle.wtp_dynamic_fields.specs.Lists.{Reaches, HasFaultyLine, ExceedsLimit, NeedsMemory}
+use Rattle.wtp_dynamic_fields.specs.Reading.{SectionGives}
 use Rattle.wtp_dynamic_fields.specs.Static.{Corresponds, IsReadAlike, IsReadAlikeUnlessDynamic, NamesNoTable, IsPrefixOf, StaticGives}
 use Rattle.wtp_dynamic_fields.proofs.StaticLines.{corresponds_self, any_line, none_line, coded_line}
 

@@ -1,5 +1,5 @@
 -- Field lists of sections that refer to the dynamic table (RFC 9204, section 4.5).
-use Rattle.std.specs.Prelude.{◌≡◌, ◌⊎◌, ℕ, ◌+◌, ◌<◌, ◌≤◌, List, [], length, Option, Some, None, Result, Ok, Err, IsTrue}
+use Rattle.std.specs.Prelude.{◌≡◌, ◌⊎◌, ℕ, ◌+◌, ◌<◌, ◌≤◌, List, [], length, Option, None, Result, Ok, Err, IsTrue}
 use Rattle.wtp_qpack.specs.Field.{Field}
 use Rattle.wtp_fields.specs.FieldList.{field_size, list_size}
 use Rattle.wtp_dynamic.specs.declared.error.SectionError.{SectionError}

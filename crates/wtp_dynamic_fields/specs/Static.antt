@@ -3,7 +3,6 @@
 use Rattle.std.specs.Prelude.{◌≡◌, ◌⊎◌, ℕ, false, List, Result, Ok, Err}
 use Rattle.wtp_qpack.specs.declared.qpack.DecodingError.{DecodingError}
 use Rattle.wtp_qpack.specs.declared.qpack.DecodingError.TheVariants as reading
-use Rattle.wtp_qpack.specs.Field.{Field}
 use Rattle.wtp_qpack.specs.Integer.{integer_at}
 use Rattle.wtp_qpack.specs.StringLiteral.{flag_above}
 use Rattle.wtp_fields.specs.declared.fields.FieldSectionError.TheVariants as static
