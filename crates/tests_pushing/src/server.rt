@@ -10,8 +10,8 @@ use wtp_streams::h3::H3Connection;
 use wtp_streams::limits::Limits;
 use wtp_webtransport::event::{Event, HeadersKind};
 
-/// The most events of one chunk.
-const TURNS: u32 = 1_000;
+/// The most turns of a loop, which are more than the events of a chunk.
+const TURNS: u32 = 1_000_000;
 
 /// A server that accepts each session, and notes what comes: one letter for each event, and the bytes of
 /// pieces.

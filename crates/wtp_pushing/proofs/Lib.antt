@@ -1,4 +1,3 @@
 pub mod CountLemmas
 pub mod TurnLemmas
 pub mod UnreadLemmas
-pub mod WithinLemmas

@@ -1,5 +1,5 @@
 //! The bytes of a stream that are to be read.
-ghost use Rattle.std.specs.Prelude.{◌≡◌, ◌≤◌, length, drop, IfOk, IfErr, IfSome, option_map};
+ghost use Rattle.std.specs.Prelude.{◌≡◌, drop, IfOk, IfErr, option_map};
 ghost use Rattle.wtp_webtransport.specs.Events.{told_of};
 ghost use Rattle.wtp_streams.specs.Ends.{ends_of};
 ghost use Rattle.wtp_streams.specs.Sends.{ReceivesEnds};
@@ -95,9 +95,8 @@ impl<'a> Unread<'a> {
     /// no such stream. [`consume`](Self::consume) the bytes that were consumed with it before the next call: so
     /// many are to be credited to QUIC's flow control, and no others.
     pub fn receive<'b>(&'b self, connection: &mut H3Connection) -> Option<Received<'b>>
-        ensures receives { ReceivesEnds (ends_of connection.old) self.now.id (rest_of self.now) self.now.fin
+        ensures { ReceivesEnds (ends_of connection.old) self.now.id (rest_of self.now) self.now.fin
             (option_map (λ r. (r.consumed, told_of r.event)) result) (ends_of connection.new) }
-        ensures within { IfSome result (λ r. r.consumed ≤ length (rest_of self.now)) }
     {
         connection.receive(self.id, self.bytes(), self.fin)
     }
