@@ -152,8 +152,9 @@
 //! # Building
 //!
 //! The build script finds the library by `pkg-config`, or in the folder that the environment variable
-//! `WTRANSPORT_LIB_DIR` names. `WTRANSPORT_STATIC=1` links the archive `libwtransport.a`. The library needs
-//! x86-64 with SSE4.2 and POPCNT.
+//! `WTRANSPORT_LIB_DIR` names. `WTRANSPORT_STATIC=1` links the archive `libwtransport.a`. With
+//! `WTRANSPORT_NO_LINK=1`, `cargo doc` and `cargo check` need no library. The library needs x86-64 with SSE4.2
+//! and POPCNT.
 //!
 //! Without the feature `std`, which is on by default, the crate needs `alloc` alone: the errors then do not
 //! implement [`std::error::Error`].
