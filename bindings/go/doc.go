@@ -37,8 +37,9 @@
 //  5. A reset of a stream, a request to stop it and a datagram go to [Connection.Reset], [Connection.Stop] (or
 //     [Connection.Stopped]) and [Connection.Datagram].
 //  6. To close a session it sends what [Sending.AppendClose] appends on the session's stream, ends its half of
-//     the stream, and calls [Connection.Abandon]. In each case the streams of a session that is over are reset
-//     and stopped.
+//     the stream, and calls [Connection.Abandon]. It reads the peer's half on to its end: if that is stopped, the
+//     peer may see the stop before the close. In each case the streams of a session that is over are reset and
+//     stopped, and its [Sending] is dropped.
 //  7. After the end of a stream its [Stream] may be dropped, that of a session too: a server's [Connection] knows
 //     which requests have begun. A client keeps those of its sessions. One that is dropped before its end is
 //     given to [Connection.Abandon] first.

@@ -1,17 +1,21 @@
 //! Finds libwtransport: in the folder WTRANSPORT_LIB_DIR, or by pkg-config.
 //!
 //! WTRANSPORT_STATIC=1 links the archive, and WTRANSPORT_STATIC=0 the shared library. Otherwise the
-//! shared library is linked, unless the folder has the archive alone.
+//! shared library is linked, unless the folder has the archive alone. With WTRANSPORT_NO_LINK=1, for
+//! `cargo doc` and `cargo check`, it looks for none.
 use std::env;
 use std::path::Path;
 use std::process::{exit, Command};
 
 fn main() {
-    for name in ["WTRANSPORT_LIB_DIR", "WTRANSPORT_STATIC", "PKG_CONFIG_PATH"] {
+    let names =
+        ["WTRANSPORT_LIB_DIR", "WTRANSPORT_STATIC", "WTRANSPORT_NO_LINK", "PKG_CONFIG_PATH"];
+    for name in names {
         println!("cargo:rerun-if-env-changed={name}");
     }
     println!("cargo:rerun-if-changed=build.rs");
-    if env::var_os("DOCS_RS").is_some() {
+    let links_nothing = env::var("WTRANSPORT_NO_LINK").map_or(false, |value| value != "0");
+    if links_nothing || env::var_os("DOCS_RS").is_some() {
         return;
     }
     let wanted = env::var("WTRANSPORT_STATIC").ok().map(|value| value != "0");
@@ -40,7 +44,8 @@ fn link_installed(wanted: Option<bool>) {
         Some(flags) => flags,
         None => fail(
             "pkg-config finds no libwtransport 0.8: install it (libwtransport-dev, or c/install in \
-             Vesgrauf's repository), or name its folder in WTRANSPORT_LIB_DIR",
+             Vesgrauf's repository), or name its folder in WTRANSPORT_LIB_DIR; `cargo doc` and `cargo \
+             check` need none with WTRANSPORT_NO_LINK=1",
         ),
     };
     // a library in a folder of the system has no flag, and one that is not installed no variable

@@ -143,7 +143,8 @@ pub enum Event<'a> {
     Rejected(u32, FieldList),
     /// The peer closed the session whose own stream this is. Reset and stop the streams of the session
     /// ([`Stream::belongs`](crate::Stream::belongs)) with
-    /// [`Code::WEBTRANSPORT_SESSION_GONE`], and end the own half of this one.
+    /// [`Code::WEBTRANSPORT_SESSION_GONE`], end the own half of this one, and drop its
+    /// [`Sending`](crate::Sending).
     SessionClosed(Close),
     /// The session whose own stream this is ended otherwise. Reset and stop its streams, as for
     /// [`SessionClosed`](Event::SessionClosed).
@@ -181,7 +182,7 @@ pub enum Event<'a> {
     /// stream of a session there is none: what becomes of the own half is the application's to decide, and
     /// [`from_http3`](crate::error::application_codes::from_http3) says which of its codes QUIC's is.
     Reset(Option<Code>),
-    /// The stream ended, without an error.
+    /// The stream ended, without an error. Nothing follows but [`More`](Self::More).
     End,
     /// Allocation failed in the library. The call can be repeated, with the bytes that were not consumed.
     NoMemory,

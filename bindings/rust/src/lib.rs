@@ -40,8 +40,9 @@
 //! 5. A reset of a stream, a request to stop it and a datagram go to [`Connection::reset`],
 //!    [`Connection::stop`] (or [`Connection::stopped`]) and [`Connection::datagram`].
 //! 6. To close a session it sends what [`Sending::close`] appends on the session's stream, ends its half of the
-//!    stream, and calls [`Connection::abandon`]. In each case the streams of a session that is over are reset
-//!    and stopped.
+//!    stream, and calls [`Connection::abandon`]. It reads the peer's half on to its end: if that is stopped, the
+//!    peer may see the stop before the close. In each case the streams of a session that is over are reset and
+//!    stopped, and its [`Sending`] is dropped.
 //! 7. After the end of a stream its [`Stream`] may be dropped, that of a session too: a server's
 //!    [`Connection`] knows which requests have begun. A client keeps those of its sessions. One that is dropped
 //!    before its end is [abandoned](Connection::abandon) first.
@@ -68,9 +69,15 @@
 //! | `Connection::read_datagram` | [`Connection::datagram`] |
 //! | `SendStream::reset`, `RecvStream::stop`, `Connection::close` with `VarInt::from_u64(code.number())` | what an error asks for |
 //!
-//! A task for each stream reads it in a loop. The tasks of a connection share the [`Connection`] and the table of its
-//! [`Stream`]s in a mutex, which none of them holds while it waits, and a `tokio::sync::Notify` that wakes those whose
-//! streams wait. `SendStream::finish` of quinn 0.9 panics if it is called again after it ended.
+//! A task for each stream reads it in a loop. The tasks of a connection share the [`Connection`], the table of its
+//! [`Stream`]s and that of the [`Sending`]s of its open sessions in a mutex, which none of them holds while it waits,
+//! and a `tokio::sync::watch` that wakes all of them when SETTINGS came, and when a session is answered or over. A task
+//! whose stream waits then reads it again; one whose session is over ([`Stream::belongs`]) resets and stops its
+//! stream, and abandons it. The loop ends at [`Event::More`] after the end of the stream.
+//!
+//! quinn allows datagrams, and 100 streams of each kind, unless its `TransportConfig` says otherwise. The ALPN protocol
+//! is set in rustls, as `alpn_protocols`. Two things of quinn 0.9 surprise: `SendStream::finish` panics if it is called
+//! again after it ended, and a `RecvStream` that is dropped before its end stops its stream.
 //!
 //! Here a client of this crate asks such a server for a session, without a network in between:
 //!
@@ -152,8 +159,9 @@
 //! # Building
 //!
 //! The build script finds the library by `pkg-config`, or in the folder that the environment variable
-//! `WTRANSPORT_LIB_DIR` names. `WTRANSPORT_STATIC=1` links the archive `libwtransport.a`. The library needs
-//! x86-64 with SSE4.2 and POPCNT.
+//! `WTRANSPORT_LIB_DIR` names. `WTRANSPORT_STATIC=1` links the archive `libwtransport.a`. With
+//! `WTRANSPORT_NO_LINK=1`, `cargo doc` and `cargo check` need no library. The library needs x86-64 with SSE4.2
+//! and POPCNT.
 //!
 //! Without the feature `std`, which is on by default, the crate needs `alloc` alone: the errors then do not
 //! implement [`std::error::Error`].

@@ -341,7 +341,9 @@ impl Sending {
     }
 
     /// Appends, for the session's own stream, a DATA frame with the capsule that closes the session. End the
-    /// QUIC stream after it, call [`Connection::abandon`], and reset the streams of the session.
+    /// QUIC stream after it, call [`Connection::abandon`], and reset the streams of the session. The peer's
+    /// half of the session's stream is read to its end, and not stopped: the peer may see a stop before the
+    /// capsule, and then the session is lost to it.
     ///
     /// # Errors
     ///

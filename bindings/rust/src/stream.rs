@@ -30,8 +30,9 @@ impl Stream {
     }
 
     /// Says that the CONNECT request of the stream is answered with this status, after the answer was
-    /// written: with 2xx its session is open. A status from 100 to 199 changes nothing. Read the stream
-    /// again afterwards, and [`join`](crate::Connection::join) those that wait for the session.
+    /// written: with 2xx its session is open. A status from 100 to 199 changes nothing, nor does the
+    /// answer to another request. Read the stream again afterwards, and
+    /// [`join`](crate::Connection::join) those that wait for the session.
     pub fn answer(&mut self, status: u32) {
         sys::stream_answer(&mut self.state, status);
     }
