@@ -281,7 +281,7 @@ impl Link {
     pub fn end(&mut self, id: u64) -> Result<(), Error> {
         match self.connection.finish(id) {
             Ok(()) => {}
-            Err(Refused::NoStream) if id % 4 < 2 => {}
+            Err(Refused::NoStream) if self.outgoing.sends_on(id) => {}
             Err(_) => return Ok(()),
         }
         self.outgoing.end(id)?;
