@@ -62,6 +62,9 @@ CAPSULES = {
     0x190B4D43: "WT_STREAMS_BLOCKED_BIDI",
     0x190B4D44: "WT_STREAMS_BLOCKED_UNI",
 }
+# The capsules of flow control, by how many integers are their values (draft-ietf-webtrans-http3).
+LIMITS = dict.fromkeys((0x190B4D3D, 0x190B4D3F, 0x190B4D40, 0x190B4D41, 0x190B4D43, 0x190B4D44), 1)
+LIMITS |= dict.fromkeys((0x190B4D3E, 0x190B4D42), 2)
 PROTOCOLS = (b"webtransport", b"webtransport-h3", b"connect-udp", b"connect-ip")
 # The longest value of a close: a code, and a reason of 1024 bytes.
 LONGEST_CLOSE = 4 + 1024
@@ -73,6 +76,8 @@ CODES = {
     "H3_MESSAGE_ERROR": 0x10E,
     "H3_DATAGRAM_ERROR": 0x33,
     "QPACK_DECOMPRESSION_FAILED": 0x200,
+    "QPACK_ENCODER_STREAM_ERROR": 0x201,
+    "QPACK_DECODER_STREAM_ERROR": 0x202,
 }
 # The symbols of Huffman text by the length of their words (RFC 7541, appendix B).
 WORDS = {
@@ -112,6 +117,10 @@ WORDS = {
 
 class Bad(Exception):
     """Bytes that cannot be decoded."""
+
+
+class Short(Bad):
+    """Too few bytes."""
 
 
 @cache
@@ -193,7 +202,7 @@ def is_reserved(number, step=0x1F, start=0x21):
 def integer_at(content, at, bits):
     """Returns an integer with a prefix and the offset after it (RFC 7541, section 5.1)."""
     if at >= len(content):
-        raise Bad("the end")
+        raise Short("the end")
     most = (1 << bits) - 1
     value = content[at] & most
     at += 1
@@ -202,7 +211,7 @@ def integer_at(content, at, bits):
     shift = 0
     while True:
         if at >= len(content):
-            raise Bad("the end")
+            raise Short("the end")
         byte = content[at]
         at += 1
         value += (byte & 127) << shift
@@ -213,16 +222,28 @@ def integer_at(content, at, bits):
             return value, at
 
 
-def string_at(content, at, bits):
-    """Returns a string literal and the offset after it (RFC 9204, section 4.1.2)."""
+def literal_at(content, at, bits):
+    """Returns whether a string literal is Huffman text, its bytes, and the offset after it (RFC
+    9204, section 4.1.2)."""
     if at >= len(content):
-        raise Bad("the end")
+        raise Short("the end")
     is_huffman = content[at] >> bits & 1
     size, at = integer_at(content, at, bits)
     if at + size > len(content):
-        raise Bad("the end")
-    text = content[at : at + size]
-    return (huffman(text) if is_huffman else text), at + size
+        raise Short("the end")
+    return (is_huffman, content[at : at + size]), at + size
+
+
+def text_of(string):
+    """Returns the text of a string literal."""
+    is_huffman, content = string
+    return huffman(content) if is_huffman else content
+
+
+def string_at(content, at, bits):
+    """Returns the text of a string literal and the offset after it."""
+    string, at = literal_at(content, at, bits)
+    return text_of(string), at
 
 
 def entry(index):
@@ -264,6 +285,42 @@ def line_at(content, at, has_table):
         name, at = of_table("post_base", 3)
     value, at = string_at(content, at, 7)
     return (name, value), at
+
+
+def insertion_at(content, at):
+    """Returns the members of an instruction of an encoder stream and the offset after it (RFC 9204,
+    section 4.3). An instruction is read to its end before its strings are."""
+    first = content[at]
+    if first & 0x80:
+        index, at = integer_at(content, at, 6)
+        value, at = literal_at(content, at, 7)
+        name = {"dynamic": index} if not first & 0x40 else entry(index)[0]
+        members = {"static": index} if first & 0x40 else {}
+        members["field"] = (name, text_of(value))
+        return {"type": "Insert with Name Reference", **members}, at
+    if first & 0x40:
+        name, at = literal_at(content, at, 5)
+        value, at = literal_at(content, at, 7)
+        line = (text_of(name), text_of(value))
+        return {"type": "Insert with Literal Name", "field": line}, at
+    number, at = integer_at(content, at, 5)
+    if first & 0x20:
+        return {"type": "Set Dynamic Table Capacity", "capacity": number}, at
+    return {"type": "Duplicate", "field": ({"dynamic": number},)}, at
+
+
+def acknowledgment_at(content, at):
+    """Returns the members of an instruction of a decoder stream and the offset after it (RFC 9204,
+    section 4.4)."""
+    first = content[at]
+    number, at = integer_at(content, at, 7 if first & 0x80 else 6)
+    if first & 0x80:
+        return {"type": "Section Acknowledgment", "stream": number}, at
+    if first & 0x40:
+        return {"type": "Stream Cancellation", "stream": number}, at
+    if number == 0:
+        raise Bad("an increment of 0")
+    return {"type": "Insert Count Increment", "increment": number}, at
 
 
 @dataclass
@@ -357,6 +414,17 @@ def close_in(value):
     except UnicodeDecodeError:
         return None
     return {"code": int.from_bytes(value[:4], "big"), "reason": value[4:]}
+
+
+def limit_in(number, value):
+    """Returns the members that show the limit in a complete capsule."""
+    first = number_at(value, 0)
+    if LIMITS.get(number) == 1 and first and first[1] == len(value):
+        return {"limit": first[0]}
+    pair = pair_at(value, 0)
+    if LIMITS.get(number) == 2 and pair and pair[2] == len(value):
+        return {"stream": pair[0], "limit": pair[1]}
+    return {}
 
 
 def settings_of(content):
@@ -521,8 +589,23 @@ class Reader:
             self.read_frames("control")
         elif kind == 1:
             self.read_frames("response")
+        elif kind == 2:
+            self.read_instructions(insertion_at, "QPACK_ENCODER_STREAM_ERROR")
+        elif kind == 3:
+            self.read_instructions(acknowledgment_at, "QPACK_DECODER_STREAM_ERROR")
         elif self.left():
             self.add(len(self.left()), item="payload")
+
+    def read_instructions(self, instruction_at, name):
+        """Reads instructions to the last byte."""
+        while self.at < len(self.content):
+            try:
+                members, after = instruction_at(self.content, self.at)
+            except Short as short:
+                raise cut(self.at, "instruction", 1) from short
+            except Bad as bad:
+                raise faulted(self.at, name) from bad
+            self.add(after - self.at, item="instruction", **members)
 
     @staticmethod
     def stream_name(kind):
@@ -625,6 +708,7 @@ class Reader:
                 if close is None:
                     return faulted(self.places[0], "H3_DATAGRAM_ERROR")
                 capsule |= close
+            capsule |= limit_in(number, self.held[after : after + length])
             shown.append(capsule)
             self.held = self.held[after + length :]
             self.places = self.places[after + length :]
@@ -647,6 +731,8 @@ class Reader:
             close = close_in(value)
             members |= close or {}
             stop = None if close else faulted(start, "H3_DATAGRAM_ERROR")
+        else:
+            members |= limit_in(number, value)
         self.add(after - start + len(value), **members)
         if stop:
             raise stop

@@ -22,6 +22,10 @@ REFUSED = "0124000027003a73746174757303343034270963617073756c652d70726f746f636f6
 # a DATA frame with the close of a session, code 7 and reason "bye"
 CLOSE = "000a68430700000007627965"
 TRAILERS = "0106000021780179"
+# the instructions of the examples of RFC 9204, appendix B
+INSERTIONS = "023fbd01c00f7777772e6578616d706c652e636f6dc10c2f73616d706c652f706174684a637573746f6d"
+INSERTIONS += "2d6b65790c637573746f6d2d76616c756502810d637573746f6d2d76616c756532"
+ACKNOWLEDGMENTS = "03840148"
 # the head of a control stream and an empty SETTINGS
 SETTINGS = "000400"
 CLOSED = ("CLOSE_WEBTRANSPORT_SESSION, 7 bytes", "code = 7", "reason = bye")
@@ -321,8 +325,8 @@ ROWS = [
     ),
     (
         "all-capsules-of-drafts",
-        "990b4d3d0105990b4d3e0105990b4d3f0105990b4d400105990b4d410105990b4d420105990b4d43"
-        "0105990b4d440105800078ae0105000105",
+        "990b4d3d0105990b4d3e020405990b4d3f0105990b4d400105990b4d410105990b4d42020405990b4d43"
+        "0105990b4d440105800078ae00000105",
         "capsules --strict",
         0,
         (
@@ -331,7 +335,7 @@ ROWS = [
             "WT_DATA_BLOCKED",
             "WT_STREAM_DATA_BLOCKED",
             "WT_STREAMS_BLOCKED_BIDI",
-            "57    end",
+            "58    end",
         ),
     ),
     # reasons of a close that are hard to show
@@ -437,6 +441,165 @@ ROWS = [
         "uni",
         2,
         ("H3_ID_ERROR (0x108): a session ID is a multiple of 4",),
+    ),
+    # instructions
+    (
+        "encoder-stream",
+        INSERTIONS,
+        "uni --open --strict",
+        0,
+        (
+            "1     instruction        Set Dynamic Table Capacity 220, 3 bytes\n",
+            "4     instruction        Insert with Name Reference, static 0, 17 bytes\n",
+            "        :authority = www.example.com\n",
+            "21    instruction        Insert with Name Reference, static 1, 14 bytes\n",
+            "        :path = /sample/path\n",
+            "35    instruction        Insert with Literal Name, 24 bytes\n",
+            "        custom-key = custom-value\n",
+            "59    instruction        Duplicate, 1 byte\n",
+            "        (dynamic 2)\n",
+            "60    instruction        Insert with Name Reference, 15 bytes\n",
+            "        (dynamic 1) = custom-value2\n",
+            "75    end",
+        ),
+    ),
+    (
+        "encoder-stream-json",
+        INSERTIONS,
+        "uni --open --json",
+        0,
+        (
+            '"item":"instruction","type":"Set Dynamic Table Capacity","capacity":220}',
+            '"static":1,"field":[":path","/sample/path"]}',
+            '"type":"Insert with Literal Name","field":["custom-key","custom-value"]}',
+            '"type":"Duplicate","field":[{"dynamic":2}]}',
+            '"field":[{"dynamic":1},"custom-value2"]}',
+        ),
+    ),
+    (
+        "encoder-stream-page",
+        INSERTIONS,
+        "uni --open --html",
+        0,
+        ("Insert with Literal Name, 24 bytes", "custom-key = custom-value"),
+    ),
+    (
+        "decoder-stream",
+        ACKNOWLEDGMENTS,
+        "uni --open --strict",
+        0,
+        (
+            "1     instruction        Section Acknowledgment, stream 4, 1 byte\n",
+            "2     instruction        Insert Count Increment 1, 1 byte\n",
+            "3     instruction        Stream Cancellation, stream 8, 1 byte\n",
+            "4     end",
+        ),
+    ),
+    (
+        "decoder-stream-json",
+        ACKNOWLEDGMENTS,
+        "uni --open --json",
+        0,
+        (
+            '"type":"Section Acknowledgment","stream":4}',
+            '"type":"Insert Count Increment","increment":1}',
+            '"type":"Stream Cancellation","stream":8}',
+        ),
+    ),
+    *(
+        (f"cut-instruction-{length}", INSERTIONS[: 2 * length], "uni", 0, (f"{at}     cut ",))
+        for at, lengths in ((1, range(2, 4)), (4, range(5, 21)))
+        for length in lengths
+    ),
+    ("cut-acknowledgment", "03ff80", "uni --open", 0, ("1     cut ", "at least 1 byte missing")),
+    (
+        "long-capacity",
+        "023fffffffffffffffffff02",
+        "uni --open",
+        2,
+        ("QPACK_ENCODER_STREAM_ERROR (0x201): an integer is above 2^64 - 1",),
+    ),
+    (
+        "no-static-entry",
+        "02ff240161",
+        "uni --open",
+        2,
+        ("QPACK_ENCODER_STREAM_ERROR (0x201): the static table has no entry of this index",),
+    ),
+    ("last-static-entry", "02ff230161", "uni --open", 0, ("static 98", "x-frame-options = a")),
+    (
+        "no-huffman-text",
+        "0241618100",
+        "uni --open",
+        2,
+        ("QPACK_ENCODER_STREAM_ERROR (0x201): a string is not Huffman text",),
+    ),
+    (
+        "no-increment",
+        "03018400",
+        "uni --open",
+        2,
+        ("3     fault", "QPACK_DECODER_STREAM_ERROR (0x202): an increment is 0"),
+    ),
+    (
+        "long-acknowledgment",
+        "03ffffffffffffffffffff02",
+        "uni --open",
+        2,
+        ("QPACK_DECODER_STREAM_ERROR (0x202): an integer is above 2^64 - 1",),
+    ),
+    # the values of capsules
+    (
+        "limits",
+        "990b4d3d0480010000990b4d3e030840c8990b4d400103990b4d410480000005",
+        "capsules --strict",
+        0,
+        (
+            "WT_MAX_DATA, 4 bytes\n",
+            "            limit = 65536\n",
+            "WT_MAX_STREAM_DATA, 3 bytes\n",
+            "            stream = 8\n",
+            "            limit = 200\n",
+            "WT_MAX_STREAMS_UNI, 1 byte\n",
+            "            limit = 3\n",
+            "WT_DATA_BLOCKED, 4 bytes\n",
+            "            limit = 5\n",
+        ),
+    ),
+    (
+        "limits-in-data",
+        SESSION + "0007990b4d42030840" + "000164" + "0006990b4d430107",
+        "bi --open",
+        0,
+        ("            stream = 8\n", "            limit = 100\n", "limit = 7\n"),
+    ),
+    (
+        "limits-in-data-json",
+        SESSION + "0008990b4d4203084064",
+        "bi --open --json",
+        0,
+        ('"type":"WT_STREAM_DATA_BLOCKED","number":420171074,"payload":3,"stream":8,"limit":100}',),
+    ),
+    *(
+        (
+            f"no-limit-{number}",
+            digits,
+            "capsules --strict",
+            2,
+            ("H3_MESSAGE_ERROR: the value of a capsule is not that of its type (RFC 9297",),
+        )
+        for number, digits in enumerate(
+            ("990b4d3d00", "990b4d3d020101", "990b4d3e0108", "990b4d3e03080101", "800078ae0100")
+        )
+    ),
+    ("empty-drain", "800078ae00", "capsules --strict", 0, ("DRAIN_WEBTRANSPORT_SESSION, 0",)),
+    ("datagram-capsule", "0003616263", "capsules --strict", 0, ("DATAGRAM, 3 bytes",)),
+    (
+        "no-limit-in-data",
+        SESSION + "0005990b4d3d00",
+        "bi --open --strict",
+        2,
+        ("H3_MESSAGE_ERROR: the value of a capsule is not that of its type",),
     ),
     # datagrams and field sections
     (

@@ -19,7 +19,7 @@ struct Row {
     end: (&'static str, u64),
 }
 
-static STREAMS: [Row; 22] = [
+static STREAMS: [Row; 25] = [
     Row {
         case: "a session request of Chromium, and a reserved capsule",
         kind: Recorded::Bi,
@@ -124,6 +124,47 @@ static STREAMS: [Row; 22] = [
             (40, 12, "PRIORITY_UPDATE"),
         ],
         end: ("whole", 0),
+    },
+    Row {
+        case: "the encoder stream of aioquic",
+        kind: Recorded::Uni,
+
+        // recorded: nginx-c2s-6.bin
+        bytes: b"\x02\x3f\xe1\x1f\xc0\x8a\xa0\xe4\x1d\x13\x9d\x09\xb8\xd3\x4c\xb7\xff\x20\x87\xae\
+        \xc3\xc6\x56\x02\xb8\x3f\xc1\x88\x60\xd5\x48\x5f\x2b\xce\x9a\x68",
+        open: true,
+        items: &[
+            (0, 1, "QPACK encoder"),
+            (1, 3, "Set Dynamic Table Capacity"),
+            (4, 12, "Insert with Name Reference"),
+            (16, 10, "Insert with Name Reference"),
+            (26, 10, "Insert with Name Reference"),
+        ],
+        end: ("whole", 0),
+    },
+    Row {
+        case: "an insertion with an index above the static table",
+        kind: Recorded::Uni,
+        bytes: b"\x02\x20\xff\x24\x01a\x00",
+        open: true,
+        items: &[
+            (0, 1, "QPACK encoder"),
+            (1, 1, "Set Dynamic Table Capacity"),
+            (2, 5, "unread"),
+        ],
+        end: ("fault", 0x201),
+    },
+    Row {
+        case: "an acknowledgment that is cut",
+        kind: Recorded::Uni,
+        bytes: b"\x03\x48\xff\x80",
+        open: false,
+        items: &[
+            (0, 1, "QPACK decoder"),
+            (1, 1, "Stream Cancellation"),
+            (2, 2, "unread"),
+        ],
+        end: ("cut", 0),
     },
     Row {
         case: "a setting of HTTP/2",
@@ -239,6 +280,7 @@ fn name_of(item: &Item) -> &'static str {
         Content::Datagram(_) => "datagram",
         Content::Section(_) => "section",
         Content::Settings(_) => "settings",
+        Content::Instruction(instruction) => instruction.name(),
         Content::Unread => "unread",
     }
 }
@@ -248,7 +290,7 @@ fn state_of(end: End) -> (&'static str, u64) {
     match end {
         End::Complete => ("whole", 0),
         End::Cut(_) => ("cut", 0),
-        End::Fault(fault) => ("fault", fault.code.to_code().into_inner()),
+        End::Fault(fault) => ("fault", fault.code.code().number().into_inner()),
     }
 }
 

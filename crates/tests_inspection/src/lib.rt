@@ -3,6 +3,8 @@
 #![tactic(auto)]
 
 #[cfg(test)]
+mod display;
+#[cfg(test)]
 mod inspections;
 #[cfg(test)]
 mod rules;
@@ -12,3 +14,5 @@ mod same;
 mod shown;
 #[cfg(test)]
 mod tables;
+#[cfg(test)]
+mod values;

@@ -1,60 +1,10 @@
-//! The display of inspections as text, JSON and pages: of each kind of recording, of values that
-//! a terminal, a JSON parser or a browser might interpret, and after failed allocations. The
-//! expected output follows from docs/INSPECTOR.md and the standards.
+//! The display of inspections as text, JSON and pages: of each kind of recording, and after failed
+//! allocations. The expected output follows from docs/INSPECTOR.md and the standards.
+use crate::display::{Given, Shown, show_once, text_in};
 use crate::same::assert_same;
-use json::{Reader, Scratch, Token, is_valid};
 use std::alloc::{AllocError, Global};
 use std::process::Abort;
-use wt_inspection::{Recorded, inspect};
-use wt_inspection_views::html::write_html;
-use wt_inspection_views::json_lines::write_json;
-use wt_inspection_views::plain::LINE_MARK;
-use wt_inspection_views::text::write_text;
-
-/// A recording that is shown.
-#[derive(Clone, Copy)]
-struct Given<'a> {
-    bytes: &'a [u8],
-    kind: Recorded,
-    /// Whether more bytes may follow.
-    open: bool,
-    /// Whether payload is shown.
-    payload: bool,
-}
-
-/// An inspection in each output format.
-#[derive(Drop)]
-struct Shown {
-    text: String,
-    lines: Vec<u8>,
-    page: Vec<u8>,
-}
-
-/// Returns a field section alone, with no more to come.
-fn section_of(bytes: &[u8]) -> Given<'_> {
-    Given {
-        bytes,
-        kind: Recorded::Section,
-        open: false,
-        payload: false,
-    }
-}
-
-/// Displays bytes in each format.
-fn show_once(alloc: Global, given: Given<'_>) -> Result<Shown, AllocError> {
-    let Given {
-        bytes,
-        kind,
-        open,
-        payload,
-    } = given;
-    let found = inspect(alloc, kind, bytes, open)?;
-    Ok(Shown {
-        text: write_text(alloc, &found, bytes, payload)?,
-        lines: write_json(alloc, &found, bytes, payload)?,
-        page: write_html(alloc, "section", &found, bytes)?,
-    })
-}
+use wt_inspection::Recorded;
 
 /// Displays bytes in each format, again if allocation failed.
 fn show_again(alloc: Global, given: Given<'_>) -> Result<Shown, AllocError> {
@@ -62,11 +12,6 @@ fn show_again(alloc: Global, given: Given<'_>) -> Result<Shown, AllocError> {
         Ok(shown) => Ok(shown),
         Err(AllocError) => show_once(alloc, given),
     }
-}
-
-/// Returns bytes as text.
-fn text_in(bytes: &[u8]) -> &str {
-    str::from_utf8(bytes).unwrap_or("not UTF-8")
 }
 
 /// A recording, and how it is shown.
@@ -81,7 +26,7 @@ struct Row {
     part: &'static str,
 }
 
-static ROWS: [Row; 9] = [
+static ROWS: [Row; 12] = [
     Row {
         case: "a response",
         given: Given {
@@ -176,6 +121,36 @@ static ROWS: [Row; 9] = [
         part: "            reason = bye, w\u{f6}rld\n",
     },
     Row {
+        case: "capsules of flow control, and one that is empty where a limit was due",
+        given: Given {
+            bytes: b"\x99\x0b\x4d\x3d\x04\x80\x01\x00\x00\x99\x0b\x4d\x42\x03\x08\x40\x64\
+                \x99\x0b\x4d\x3f\x00",
+            kind: Recorded::Capsules,
+            open: false,
+            payload: false,
+        },
+        text: "0     capsule            WT_MAX_DATA, 4 bytes
+            limit = 65536
+9     capsule            WT_STREAM_DATA_BLOCKED, 3 bytes
+            stream = 8
+            limit = 100
+17    capsule            WT_MAX_STREAMS_BIDI, 0 bytes
+        warning: H3_MESSAGE_ERROR: the value of a capsule is not that of its type (RFC 9297, section 3.3)
+22    end
+",
+        lines: "{\"at\":0,\"length\":9,\"item\":\"capsule\",\"type\":\"WT_MAX_DATA\",\
+            \"number\":420171069,\"payload\":4,\"limit\":65536}
+{\"at\":9,\"length\":8,\"item\":\"capsule\",\"type\":\"WT_STREAM_DATA_BLOCKED\",\
+    \"number\":420171074,\"payload\":3,\"stream\":8,\"limit\":100}
+{\"at\":17,\"length\":5,\"item\":\"capsule\",\"type\":\"WT_MAX_STREAMS_BIDI\",\
+    \"number\":420171071,\"payload\":0}
+{\"at\":17,\"item\":\"warning\",\"code\":270,\"name\":\"H3_MESSAGE_ERROR\",\"why\":\"the value \
+    of a capsule is not that of its type (RFC 9297, section 3.3)\"}
+{\"at\":22,\"item\":\"end\",\"state\":\"whole\"}
+",
+        part: "            stream = 8\n</span><span>            limit = 100\n</span>",
+    },
+    Row {
         case: "a setting of HTTP/2",
         given: Given {
             bytes: b"\x33\x01\x02\x00",
@@ -221,6 +196,68 @@ static ROWS: [Row; 9] = [
             <span>        ID 0\n</span></details><b></b></div>",
     },
     Row {
+        case: "the encoder streams of RFC 9204, appendix B, and an instruction that is cut",
+        given: Given {
+            bytes: b"\x02\x3f\xbd\x01\xc0\x0fwww.example.com\x4acustom-key\x0ccustom-value\x02\
+                \x81\x0dcustom-value2\x3f",
+            kind: Recorded::Uni,
+            open: true,
+            payload: false,
+        },
+        text: "0     stream             QPACK encoder, type 0x2
+1     instruction        Set Dynamic Table Capacity 220, 3 bytes
+4     instruction        Insert with Name Reference, static 0, 17 bytes
+        :authority = www.example.com
+21    instruction        Insert with Literal Name, 24 bytes
+        custom-key = custom-value
+45    instruction        Duplicate, 1 byte
+        (dynamic 2)
+46    instruction        Insert with Name Reference, 15 bytes
+        (dynamic 1) = custom-value2
+61    not read           1 byte
+61    cut                instruction, at least 1 byte missing
+",
+        lines: "{\"at\":0,\"length\":1,\"item\":\"stream\",\"type\":\"QPACK encoder\",\"number\":2}
+{\"at\":1,\"length\":3,\"item\":\"instruction\",\"type\":\"Set Dynamic Table Capacity\",\
+    \"capacity\":220}
+{\"at\":4,\"length\":17,\"item\":\"instruction\",\"type\":\"Insert with Name Reference\",\
+    \"static\":0,\"field\":[\":authority\",\"www.example.com\"]}
+{\"at\":21,\"length\":24,\"item\":\"instruction\",\"type\":\"Insert with Literal Name\",\
+    \"field\":[\"custom-key\",\"custom-value\"]}
+{\"at\":45,\"length\":1,\"item\":\"instruction\",\"type\":\"Duplicate\",\"field\":[{\"dynamic\":2}]}
+{\"at\":46,\"length\":15,\"item\":\"instruction\",\"type\":\"Insert with Name Reference\",\
+    \"field\":[{\"dynamic\":1},\"custom-value2\"]}
+{\"at\":61,\"length\":1,\"item\":\"unread\"}
+{\"at\":61,\"item\":\"end\",\"state\":\"cut\",\"of\":\"instruction\",\"missing\":1}
+",
+        part: "Insert with Literal Name, 24 bytes\n</summary><span>        custom-key = custom-value\n",
+    },
+    Row {
+        case: "the decoder streams of RFC 9204, appendix B, and an increment of 0",
+        given: Given {
+            bytes: b"\x03\x84\x01\x48\x00",
+            kind: Recorded::Uni,
+            open: true,
+            payload: false,
+        },
+        text: "0     stream             QPACK decoder, type 0x3
+1     instruction        Section Acknowledgment, stream 4, 1 byte
+2     instruction        Insert Count Increment 1, 1 byte
+3     instruction        Stream Cancellation, stream 8, 1 byte
+4     not read           1 byte
+4     fault              QPACK_DECODER_STREAM_ERROR (0x202): an increment is 0 (RFC 9204, section 4.4.3)
+",
+        lines: "{\"at\":0,\"length\":1,\"item\":\"stream\",\"type\":\"QPACK decoder\",\"number\":3}
+{\"at\":1,\"length\":1,\"item\":\"instruction\",\"type\":\"Section Acknowledgment\",\"stream\":4}
+{\"at\":2,\"length\":1,\"item\":\"instruction\",\"type\":\"Insert Count Increment\",\"increment\":1}
+{\"at\":3,\"length\":1,\"item\":\"instruction\",\"type\":\"Stream Cancellation\",\"stream\":8}
+{\"at\":4,\"length\":1,\"item\":\"unread\"}
+{\"at\":4,\"item\":\"end\",\"state\":\"fault\",\"code\":514,\"name\":\"QPACK_DECODER_STREAM_ERROR\",\
+    \"why\":\"an increment is 0 (RFC 9204, section 4.4.3)\"}
+",
+        part: "<summary>1     instruction        Section Acknowledgment, stream 4, 1 byte\n</summary>",
+    },
+    Row {
         case: "a section that needs the dynamic table",
         given: Given {
             bytes: b"\x07\x00\xd7\x85",
@@ -262,17 +299,6 @@ static ROWS: [Row; 9] = [
     },
 ];
 
-/// Returns whether each line is valid JSON.
-fn are_json<R: Abort>(rt: &R, alloc: Global, lines: &str) -> bool {
-    let mut scratch = Scratch::new(alloc);
-    for line in lines.lines() {
-        if !is_valid(line, &mut scratch).expect(rt, "memory") {
-            return false;
-        }
-    }
-    true
-}
-
 /// Returns whether a page contains these bytes.
 fn has_part(page: &[u8], part: &[u8]) -> bool {
     page.windows(part.len().max(1)).any(|window| window == part)
@@ -306,213 +332,4 @@ fn each_kind_is_shown_past_refused_memory(rt: HostRuntime) {
     for row in &ROWS {
         check_row(&rt, rt.alloc(), row);
     }
-}
-
-/// A section with a field `x`, and how its value is shown.
-struct ValueRow {
-    section: &'static [u8],
-    /// The value in the text.
-    text: &'static str,
-    /// The key of the value in the JSON, which is `hex` for digits.
-    key: &'static str,
-    /// The string that a JSON parser finds there.
-    value: &'static str,
-}
-
-static VALUES: [ValueRow; 15] = [
-    ValueRow {
-        section: b"\x00\x00\x21x\x03a\nb",
-        text: "a\\x0ab",
-        key: "fields",
-        value: "a\nb",
-    },
-    ValueRow {
-        section: b"\x00\x00\x21x\x03a\r0",
-        text: "a\\x0d0",
-        key: "fields",
-        value: "a\r0",
-    },
-    ValueRow {
-        section: b"\x00\x00\x21x\x04\x1b[1m",
-        text: "\\x1b[1m",
-        key: "fields",
-        value: "\u{1b}[1m",
-    },
-    ValueRow {
-        section: b"\x00\x00\x21x\x02\xc3\x28",
-        text: "\\xc3(",
-        key: "hex",
-        value: "c328",
-    },
-    ValueRow {
-        section: b"\x00\x00\x21x\x04\xc2\x9b1m",
-        text: "\\xc2\\x9b1m",
-        key: "hex",
-        value: "c29b316d",
-    },
-    ValueRow {
-        section: b"\x00\x00\x21x\x01\x7f",
-        text: "\\x7f",
-        key: "hex",
-        value: "7f",
-    },
-    ValueRow {
-        section: b"\x00\x00\x21x\x04\\x41",
-        text: "\\x5cx41",
-        key: "fields",
-        value: "\\x41",
-    },
-    ValueRow {
-        section: b"\x00\x00\x21x\x01\x00",
-        text: "\\x00",
-        key: "fields",
-        value: "\0",
-    },
-    ValueRow {
-        // RIGHT-TO-LEFT OVERRIDE, U+202E
-        section: b"\x00\x00\x21x\x05a\xe2\x80\xaeb",
-        text: "a\\xe2\\x80\\xaeb",
-        key: "hex",
-        value: "61e280ae62",
-    },
-    ValueRow {
-        // ZERO WIDTH SPACE, U+200B
-        section: b"\x00\x00\x21x\x05a\xe2\x80\x8bb",
-        text: "a\\xe2\\x80\\x8bb",
-        key: "hex",
-        value: "61e2808b62",
-    },
-    ValueRow {
-        // TAG LATIN CAPITAL LETTER A, U+E0041
-        section: b"\x00\x00\x21x\x04\xf3\xa0\x81\x81",
-        text: "\\xf3\\xa0\\x81\\x81",
-        key: "hex",
-        value: "f3a08181",
-    },
-    ValueRow {
-        // the mark of lines, U+258C
-        section: b"\x00\x00\x21x\x05\xe2\x96\x8c 0",
-        text: "\\xe2\\x96\\x8c 0",
-        key: "fields",
-        value: "\u{258c} 0",
-    },
-    ValueRow {
-        // Hebrew, which is seen as it is after its name
-        section: b"\x00\x00\x21x\x04\xd7\xa9\xd7\x9c",
-        text: "\u{5e9}\u{5dc}",
-        key: "fields",
-        value: "\u{5e9}\u{5dc}",
-    },
-    ValueRow {
-        section: b"\x00\x00\x21x\x03\"}]",
-        text: "\"}]",
-        key: "fields",
-        value: "\"}]",
-    },
-    ValueRow {
-        section: b"\x00\x00\x21x\x06w\xc3\xb6rld",
-        text: "w\u{f6}rld",
-        key: "fields",
-        value: "w\u{f6}rld",
-    },
-];
-
-/// Returns the last key and the last string that a JSON parser finds among its first tokens.
-fn last_words<'a>(reader: &mut Reader<'a>) -> (&'a str, &'a str) {
-    let mut key = "";
-    let mut text = "";
-    for _ in 0..64 {
-        match reader.next() {
-            Some(Token::Key(found)) => key = found,
-            Some(Token::String(found)) => text = found,
-            _ => {}
-        }
-    }
-    (key, text)
-}
-
-/// Asserts the last key and string in the first line, and that each line is valid JSON.
-fn check_lines<R: Abort>(rt: &R, alloc: Global, lines: &str, wanted: (&str, &str)) {
-    assert_same(rt, are_json(rt, alloc, lines), true, wanted.1);
-    let mut scratch = Scratch::new(alloc);
-    let line = lines.lines().next().unwrap_or("");
-    let mut reader = Reader::new(line, &mut scratch).expect(rt, "memory");
-    assert_same(rt, last_words(&mut reader), wanted, wanted.1);
-}
-
-/// Asserts the value in the text and in the parsed JSON.
-fn check_value<R: Abort>(rt: &R, alloc: Global, row: &ValueRow) {
-    let given = section_of(row.section);
-    let shown = show_once(alloc, given).expect(rt, "memory");
-    let line = shown.text.as_str().lines().nth(1).unwrap_or("");
-    assert_same(
-        rt,
-        line.strip_prefix(LINE_MARK)
-            .and_then(|words| words.strip_prefix("        x = ")),
-        Some(row.text),
-        row.text,
-    );
-    let lines = text_in(shown.lines.as_slice());
-    check_lines(rt, alloc, lines, (row.key, row.value));
-}
-
-#[test]
-fn values_are_shown_as_text(rt: HostRuntime) {
-    for row in &VALUES {
-        check_value(&rt, rt.alloc(), row);
-    }
-}
-
-#[test]
-fn names_are_shown_in_ascii(rt: HostRuntime) {
-    // Names with a blank, and with a letter that is written from right to left (RFC 9204, section
-    // 4.5.6).
-    let sections: [(&[u8], &str); 2] = [
-        (b"\x00\x00\x25a = b\x01c", "a\\x20=\\x20b = c"),
-        (b"\x00\x00\x22\xd7\xa9\x02\xd7\x9c", "\\xd7\\xa9 = \u{5dc}"),
-    ];
-    for (section, words) in sections {
-        let shown = show_once(rt.alloc(), section_of(section)).expect(&rt, "memory");
-        let line = shown.text.as_str().lines().nth(1).unwrap_or("");
-        let came = line.strip_prefix(LINE_MARK).map(|line| line.trim_start());
-        assert_same(&rt, came, Some(words), words);
-    }
-}
-
-/// The length of a long name.
-const LONG: usize = 61_440;
-
-/// Returns a section with a field that has a long name and an empty value (RFC 9204, section
-/// 4.5.6).
-fn long_section<R: Abort>(rt: &R, alloc: Global) -> Vec<u8> {
-    // 61440 is 7 and 61433, which is 121 + 95 * 128 + 3 * 128 * 128.
-    let head = b"\x00\x00\x27\xf9\xdf\x03";
-    let mut bytes = Vec::from_slice(alloc, head).expect(rt, "memory");
-    bytes.resize(6 + LONG, b'n').expect(rt, "memory");
-    bytes.push(0).expect(rt, "memory");
-    bytes
-}
-
-#[test]
-fn a_long_name_is_shown(rt: HostRuntime) {
-    let bytes = long_section(&rt, rt.alloc());
-    let shown = show_once(rt.alloc(), section_of(bytes.as_slice())).expect(&rt, "memory");
-    let line = shown.text.as_str().lines().nth(1).unwrap_or("");
-    assert_same(
-        &rt,
-        line.len(),
-        LONG + 15,
-        "after a mark of 4 bytes, indented by 8, and followed by an equals sign",
-    );
-    assert_same(
-        &rt,
-        line.trim_end_matches(" = ")
-            .trim_start_matches(LINE_MARK)
-            .trim_start()
-            .len(),
-        LONG,
-        "the name",
-    );
-    let lines = text_in(shown.lines.as_slice());
-    assert_same(&rt, are_json(&rt, rt.alloc(), lines), true, "lines");
 }

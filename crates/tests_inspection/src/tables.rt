@@ -254,7 +254,7 @@ fn check_row<R: Abort>(rt: &R, alloc: Global, row: &Row) {
     check_section(rt, alloc, section, row);
     let is_malformed = matches!(section.fault, Some(SectionFault::Malformed(_)));
     let is_fault =
-        matches!(found.end, End::Fault(fault) if fault.code.to_code().into_inner() == 0x200);
+        matches!(found.end, End::Fault(fault) if fault.code.code().number().into_inner() == 0x200);
     assert_same(rt, is_fault, is_malformed, row.case);
 }
 

@@ -299,6 +299,7 @@ one_item (content-is.Capsule c) role first place bytes len next tail within h re
 one_item (content-is.Datagram d) role first place bytes len next tail within h readable = absurd h
 one_item (content-is.Section section) role first place bytes len next tail within h readable = absurd h
 one_item (content-is.Settings lines) role first place bytes len next tail within h readable = absurd h
+one_item (content-is.Instruction item) role first place bytes len next tail within h readable = absurd h
 
 -- ---- what follows payload, or the end of the reading
 
@@ -312,6 +313,7 @@ payload_stays (content-is.Capsule c) place bytes len after h = absurd h
 payload_stays (content-is.Datagram d) place bytes len after h = absurd h
 payload_stays (content-is.Section section) place bytes len after h = absurd h
 payload_stays (content-is.Settings lines) place bytes len after h = absurd h
+payload_stays (content-is.Instruction item) place bytes len after h = absurd h
 
 never_back : (items : List Item) (role : StreamRole) (first : Bool) (stage final : Stage) (bytes rest : List ℕ) → Reads (Ok next-is.Payload) stage bytes items (Ok (next-is.Frames role first)) final rest → ⊥
 never_back [] role first stage final bytes rest (same, still, all) = cc same

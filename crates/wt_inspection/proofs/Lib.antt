@@ -1,4 +1,5 @@
 pub mod InsertionLemmas
+pub mod InstructionLemmas
 pub mod TilesLemmas
 pub mod SectionLemmas
 pub mod ResolvedLemmas
@@ -8,6 +9,7 @@ pub mod RecordingLemmas
 pub mod ItemFrameLemmas
 pub mod ItemStopLemmas
 pub mod CapsuleLemmas
+pub mod FlowLemmas
 pub mod WalkLemmas
 pub mod MessageLemmas
 pub mod FlagLemmas

@@ -140,6 +140,7 @@ no_frame_moves role first at bytes (content-is.Capsule c) after stage h = refl
 no_frame_moves role first at bytes (content-is.Datagram d) after stage h = refl
 no_frame_moves role first at bytes (content-is.Section x) after stage h = refl
 no_frame_moves role first at bytes (content-is.Settings lines) after stage h = refl
+no_frame_moves role first at bytes (content-is.Instruction item) after stage h = refl
 no_frame_moves role first at bytes content-is.Unread after stage h = refl
 
 -- so does what is no frame
@@ -172,6 +173,8 @@ other_moves : (next : Next) (at : ℕ) (bytes : List ℕ) (content : Content) (a
 other_moves (next-is.Frames role first) at bytes content after stage h = absurd h
 other_moves next-is.Head at bytes content after stage h = refl
 other_moves next-is.Payload at bytes content after stage h = refl
+other_moves next-is.Encoder at bytes content after stage h = refl
+other_moves next-is.Decoder at bytes content after stage h = refl
 other_moves next-is.Capsules at bytes content after stage h = refl
 other_moves next-is.Datagram at bytes content after stage h = refl
 other_moves next-is.Section at bytes content after stage h = refl

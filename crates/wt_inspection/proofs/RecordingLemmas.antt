@@ -92,6 +92,7 @@ head_session place bytes mid len number (content-is.Capsule c) after e k none = 
 head_session place bytes mid len number (content-is.Datagram d) after e k none = absurd none
 head_session place bytes mid len number (content-is.Section x) after e k none = absurd none
 head_session place bytes mid len number (content-is.Settings lines) after e k none = absurd none
+head_session place bytes mid len number (content-is.Instruction item) after e k none = absurd none
 
 -- a head with a push ID is that of a unidirectional stream whose type is that of a push stream
 pub head_push : (place : ℕ) (bytes mid : List ℕ) (len number : ℕ) (content : Content) (after : Then) → number_at bytes ≡ Some (number, mid) → has_session (stream_kind_of number) ≡ false → is_push number ≡ true → IsPushHead place bytes len content after → IsNext next-is.Head place bytes len content after
@@ -109,3 +110,4 @@ head_push place bytes mid len number (content-is.Capsule c) after e k push none 
 head_push place bytes mid len number (content-is.Datagram d) after e k push none = absurd none
 head_push place bytes mid len number (content-is.Section x) after e k push none = absurd none
 head_push place bytes mid len number (content-is.Settings lines) after e k push none = absurd none
+head_push place bytes mid len number (content-is.Instruction item) after e k push none = absurd none

@@ -29,6 +29,7 @@ plain_content sent bytes content-is.Payload none = tt
 plain_content sent bytes (content-is.Capsule capsule) none = tt
 plain_content sent bytes (content-is.Datagram datagram) none = tt
 plain_content sent bytes (content-is.Settings settings) none = tt
+plain_content sent bytes (content-is.Instruction item) none = tt
 plain_content sent bytes content-is.Unread none = tt
 
 -- no item yet

@@ -1,8 +1,9 @@
 -- Capsules of data that is cut anywhere, step by step.
-use Rattle.std.proofs.Common.{◌≡◌, ◌≢◌, ℕ, ◌+◌, ◌-◌, ◌<◌, ◌≤◌, ◌^◌, List, [], ◌∷◌, ◌++◌, length, take, drop, Option, Some, None, Result, Ok, Err, refl, sym, ap, subst, ◌∙◌, append_assoc, append-nil, arith, inl, length-append}
-use Rattle.std.specs.Prelude.{IsSome, IfOk, codes}
-use Rattle.std.proofs.lemmas.Bool.{le-ltb, lt-ltb}
+use Rattle.std.proofs.Common.{◌≡◌, ◌≢◌, ℕ, ◌+◌, ◌-◌, ◌<◌, ◌≤◌, ◌^◌, true, false, List, [], ◌∷◌, ◌++◌, length, take, drop, Option, Some, None, Result, Ok, Err, refl, sym, ap, subst, ◌∙◌, append_assoc, append-nil, arith, inl, inr, length-append}
+use Rattle.std.specs.Prelude.{IsSome, IfOk, codes, Bool, ◌||◌, if◌then◌else◌}
+use Rattle.std.proofs.lemmas.Bool.{cases_Bool, le-ltb, lt-ltb}
 use Rattle.std.proofs.lemmas.List.{take_all, take-append-drop}
+use Rattle.std.proofs.Math.Seq.{take-append_seam}
 use Rattle.wtp_core.specs.declared.error.ErrorCode.{ErrorCode}
 use Rattle.wtp_core.specs.declared.error.ErrorCode.TheVariants.{Datagram}
 use Rattle.wtp_core.specs.Varint.{number_at}
@@ -29,6 +30,8 @@ use Rattle.wtp_wire.proofs.PairLemmas.{pair_at-encoded, pair_at-more}
 use Rattle.wt_inspection_model.specs.declared.item.capsule.CapsuleItem.{CapsuleItem}
 use Rattle.wt_inspection_model.specs.declared.item.capsule.CloseReason.{CloseReason}
 use Rattle.wt_inspection_model.specs.declared.item.ending.Fault.{Fault}
+use Rattle.wt_inspection_model.specs.declared.item.ending.FaultCode.{FaultCode}
+use Rattle.wt_inspection_model.specs.declared.item.ending.FaultCode.TheVariants.{Library}
 use Rattle.wt_inspection_model.specs.declared.item.ending.Cut.{Cut}
 use Rattle.wt_inspection_model.specs.declared.item.ending.End.TheVariants as end-is
 use Rattle.wt_inspection.specs.declared.reading.Phase.{Phase}
@@ -40,6 +43,8 @@ use Rattle.wt_inspection.specs.declared.capsules.CapsuleWalk.{CapsuleWalk}
 use Rattle.wt_inspection.specs.DataCapsules.{Stage, Opening, Plain, Session, IsFaulty, SaysBy, StartsCapsule, StartsCapsules, EndsWith, place_of}
 use Rattle.wt_inspection.specs.Recording.{Then, EndsStage, TakesData}
 use Rattle.wt_inspection.specs.CapsuleNames.{capsule_name}
+use Rattle.wt_inspection_model.specs.declared.item.capsule.FlowLimit.{FlowLimit}
+use Rattle.wt_inspection.specs.FlowLimits.{has_limit, is_limit, is_stream_limit, limit_of, only_limit, only_stream_limit}
 use Rattle.wt_inspection.specs.Walks.{Fits, Holds, HoldsAt, HoldsOf, IsBad, IsFaultOf, IsStage, IsStageAt, IsWhole, Judges, JudgesBy, LacksOf, TakesPiece, begins_at}
 
 -- ---- a capsule of an unknown type
@@ -55,18 +60,36 @@ unknown_front came value more n len k e size =
 unknown_ends : (came value : List ℕ) (n len : ℕ) → capsule_kind_of n ≡ None → pair_at came ≡ Some ((n, len), value) → length value < len → EndsWith (capsule_front came) None
 unknown_ends came value n len k e less = rw (front_of_pair came value n len e, k, no_more len value less) refl
 
-lacks_ends : (u : UnknownCapsule) (n : ℕ) (came : List ℕ) → 0 < n → LacksOf u n came → EndsWith (capsule_front came) None
-lacks_ends u n came some (none, (value, e, sum)) = unknown_ends came value u.number u.announced none e (omega (arith, some, sum))
+lacks_ends : (u : UnknownCapsule) (kept : List ℕ) (n : ℕ) (came : List ℕ) → 0 < n → LacksOf u kept n came → EndsWith (capsule_front came) None
+lacks_ends u kept n came some (none, (value, e, sum, same)) = unknown_ends came value u.number u.announced none e (omega (arith, some, sum))
 
-lacks_more : (u : UnknownCapsule) (n m : ℕ) (came front : List ℕ) → LacksOf u n came → length front ≤ n → m ≡ n - length front → LacksOf u m (came ++ front)
-lacks_more u n m came front (none, (value, e, sum)) fits is = (none, (value ++ front, pair_at-more came value front u.number u.announced e, omega (arith, length-append value front, sum, fits, is)))
+lacks_more : (u : UnknownCapsule) (kept now : List ℕ) (n m : ℕ) (came front : List ℕ) → LacksOf u kept n came → length front ≤ n → m ≡ n - length front → (has_limit u.number ≡ true → now ≡ kept ++ front) → LacksOf u now m (came ++ front)
+lacks_more u kept now n m came front (none, (value, e, sum, same)) fits is keeps = (none, (value ++ front, pair_at-more came value front u.number u.announced e, omega (arith, length-append value front, sum, fits, is), λ has. keeps has ∙ ap (λ (x : List ℕ). x ++ front) (same has)))
 
-lacks_whole : (u : UnknownCapsule) (n : ℕ) (came : List ℕ) (item : CapsuleItem) → n ≡ 0 → item.number ≡ u.number → item.name.now ≡ capsule_name u.number → item.announced ≡ u.announced → item.close ≡ None → LacksOf u n came → IsWhole came item
-lacks_whole u n came item zero number name announced close (none, (value, e, sum)) = λ more. record {
+-- types without a limit
+no_limit_by : (a b : Bool) (x y : Option FlowLimit) → (a || b) ≡ false → (if a then x else (if b then y else None)) ≡ None
+no_limit_by false false x y e = refl
+no_limit_by false true x y e = absurd (cc e)
+no_limit_by true b x y e = absurd (cc e)
+
+no_limit : (n : ℕ) (value : List ℕ) → has_limit n ≡ false → limit_of n value ≡ None
+unfolding limit_of
+no_limit n value none = no_limit_by (is_limit n) (is_stream_limit n) (only_limit (number_at value)) (only_stream_limit (pair_at value)) none
+
+-- the limit of a value that is kept, if its type has one
+limit_kept : (n : ℕ) (kept value : List ℕ) → (has_limit n ≡ true → kept ≡ value) → limit_of n kept ≡ limit_of n value
+limit_kept n kept value same = elim (cases_Bool (has_limit n)) [
+  | inl has ↦ ap (limit_of n) (same has)
+  | inr none ↦ no_limit n kept none ∙ sym (no_limit n value none)
+]
+
+lacks_whole : (u : UnknownCapsule) (kept : List ℕ) (n : ℕ) (came : List ℕ) (item : CapsuleItem) → n ≡ 0 → item.number ≡ u.number → item.name.now ≡ capsule_name u.number → item.announced ≡ u.announced → item.close ≡ None → item.limit ≡ limit_of u.number kept → LacksOf u kept n came → IsWhole came item
+lacks_whole u kept n came item zero number name announced close limit (none, (value, e, sum, same)) = λ more. let size : item.announced ≡ length value = omega (arith, announced, sum, zero) in record {
   value = value ++ more;
   numbers = rw (number, announced) (pair_at-more came value more u.number u.announced e);
   name = name ∙ ap capsule_name (sym number);
   first = rw (unknown_front came value more u.number u.announced none e (omega (arith, sum, zero))) (close, refl);
+  limit = limit ∙ limit_kept u.number kept value same ∙ ap (limit_of u.number) (sym (ap (λ (k : ℕ). take k (value ++ more)) size ∙ take-append_seam value more)) ∙ ap (λ (k : ℕ). limit_of k (take item.announced (value ++ more))) (sym number);
 }
 
 -- ---- a capsule of a known kind
@@ -99,48 +122,52 @@ not_other CloseWebTransportSession value j = j
 pub other_known : (kind : CapsuleKind) (value held : List ℕ) → IsCapsule kind value held → (length held < 2 ^ 62 → Judges (capsule_in held) closing-is.Other) → ⊥
 other_known kind value held k judges = not_other kind value (known_judged kind value held closing-is.Other k judges)
 
-pub close_known : (kind : CapsuleKind) (value held : List ℕ) (reason : CloseReason) (item : CapsuleItem) → item.number ≡ capsule_number_of kind → item.name.now ≡ capsule_name (capsule_number_of kind) → item.announced ≡ length value → item.close ≡ Some reason → IsCapsule kind value held → (length held < 2 ^ 62 → Judges (capsule_in held) (closing-is.Close reason)) → IsWhole held item
-close_known kind value held reason item number name announced close k judges = λ more. record {
+kind_no_limit : (kind : CapsuleKind) (value : List ℕ) → limit_of (capsule_number_of kind) value ≡ None
+kind_no_limit CloseWebTransportSession value = no_limit (capsule_number_of CloseWebTransportSession) value refl
+
+pub close_known : (kind : CapsuleKind) (value held : List ℕ) (reason : CloseReason) (item : CapsuleItem) → item.number ≡ capsule_number_of kind → item.name.now ≡ capsule_name (capsule_number_of kind) → item.announced ≡ length value → item.close ≡ Some reason → item.limit ≡ None → IsCapsule kind value held → (length held < 2 ^ 62 → Judges (capsule_in held) (closing-is.Close reason)) → IsWhole held item
+close_known kind value held reason item number name announced close limit k judges = λ more. record {
   value = value ++ more;
   numbers = rw (number, announced) (ap (λ (x : List ℕ). pair_at (x ++ more)) k.parts ∙ ap pair_at (append_assoc k.head value more) ∙ pair_at-encoded (capsule_number_of kind) (length value) k.head (value ++ more) k.encoded);
   name = name ∙ ap capsule_name (sym number);
   first = rw (known_front kind value held more k, close) (says kind value reason (known_judged kind value held (closing-is.Close reason) k judges), refl);
+  limit = limit ∙ sym (ap (λ (n : ℕ). limit_of n (take item.announced (value ++ more))) number ∙ kind_no_limit kind (take item.announced (value ++ more)));
 }
 
-pub bad_known : (kind : CapsuleKind) (value held : List ℕ) (code : ErrorCode) (fault : Fault) → fault.code ≡ code → IsCapsule kind value held → (length held < 2 ^ 62 → Judges (capsule_in held) (closing-is.Bad code)) → IsBad held fault
+pub bad_known : (kind : CapsuleKind) (value held : List ℕ) (code : ErrorCode) (fault : Fault) → fault.code ≡ Library code → IsCapsule kind value held → (length held < 2 ^ 62 → Judges (capsule_in held) (closing-is.Bad code)) → IsBad held fault
 bad_known kind value held code fault same k judges = λ more.
     let (bad, datagram) = faulty kind value code (known_judged kind value held (closing-is.Bad code) k judges) in
-    rw (known_front kind value held more k) (bad, ap (λ (c : ErrorCode). Some c) (same ∙ datagram))
+    rw (known_front kind value held more k) (bad, ap (λ (c : FaultCode). Some c) (same ∙ ap (λ (c : ErrorCode). Library c) datagram))
 
-long_bad : (bytes : List ℕ) (end : ℕ) (fault : Fault) → IsLongHead (take end bytes) → fault.code ≡ Datagram → IsBad bytes fault
+long_bad : (bytes : List ℕ) (end : ℕ) (fault : Fault) → IsLongHead (take end bytes) → fault.code ≡ Library Datagram → IsBad bytes fault
 long_bad bytes end fault h same = λ more.
     let parts : bytes ++ more ≡ take end bytes ++ (drop end bytes ++ more) = ap (λ (x : List ℕ). x ++ more) (sym (take-append-drop end bytes)) ∙ append_assoc (take end bytes) (drop end bytes) more in
-    rw (starts-front (bytes ++ more) (TooLong (drop end bytes ++ more)) (take end bytes, h, parts)) (ap (λ (c : ErrorCode). Some c) same)
+    rw (starts-front (bytes ++ more) (TooLong (drop end bytes ++ more)) (take end bytes, h, parts)) (ap (λ (c : FaultCode). Some c) same)
 
 -- ---- what is held
 
-holds_part : (unknown : Option UnknownCapsule) (skip_remaining : ℕ) (held came : List ℕ) → unknown ≡ None → HoldsOf unknown skip_remaining held came → (skip_remaining ≡ 0) × (held ≡ came) × IsCapsulePart came
-holds_part None skip_remaining held came none h = h
-holds_part (Some u) skip_remaining held came none h = absurd (cc none)
+holds_part : (unknown : Option UnknownCapsule) (kept : List ℕ) (skip_remaining : ℕ) (held came : List ℕ) → unknown ≡ None → HoldsOf unknown kept skip_remaining held came → (skip_remaining ≡ 0) × (held ≡ came) × IsCapsulePart came
+holds_part None kept skip_remaining held came none h = h
+holds_part (Some u) kept skip_remaining held came none h = absurd (cc none)
 
-holds_lacks : (unknown : Option UnknownCapsule) (u : UnknownCapsule) (skip_remaining : ℕ) (held came : List ℕ) → unknown ≡ Some u → HoldsOf unknown skip_remaining held came → (0 < skip_remaining) × (held ≡ []) × LacksOf u skip_remaining came
-holds_lacks unknown u skip_remaining held came is h = rw is at h
+holds_lacks : (unknown : Option UnknownCapsule) (u : UnknownCapsule) (kept : List ℕ) (skip_remaining : ℕ) (held came : List ℕ) → unknown ≡ Some u → HoldsOf unknown kept skip_remaining held came → (0 < skip_remaining) × (held ≡ []) × LacksOf u kept skip_remaining came
+holds_lacks unknown u kept skip_remaining held came is h = rw is at h
 
 part_ends : (came : List ℕ) → IsCapsulePart came → EndsWith (capsule_front came) None
 part_ends [] part = rw front_end refl
 part_ends (b ∷ came) part = rw (part_cut (b ∷ came) (omega arith) part) refl
 
-of_ends : (unknown : Option UnknownCapsule) (skip_remaining : ℕ) (held came : List ℕ) → HoldsOf unknown skip_remaining held came → EndsWith (capsule_front came) None
-of_ends None skip_remaining held came (none, same, part) = part_ends came part
-of_ends (Some u) skip_remaining held came (some, none, lacks) = lacks_ends u skip_remaining came some lacks
+of_ends : (unknown : Option UnknownCapsule) (kept : List ℕ) (skip_remaining : ℕ) (held came : List ℕ) → HoldsOf unknown kept skip_remaining held came → EndsWith (capsule_front came) None
+of_ends None kept skip_remaining held came (none, same, part) = part_ends came part
+of_ends (Some u) kept skip_remaining held came (some, none, lacks) = lacks_ends u kept skip_remaining came some lacks
 
 -- it has no complete capsule
 pub holds_ends : (walk : CapsuleWalk) (came : List ℕ) → Holds walk came → EndsWith (capsule_front came) None
-holds_ends walk came h = of_ends walk.unknown walk.cursor.skip_remaining walk.held.items came h.0
+holds_ends walk came h = of_ends walk.unknown walk.value.items walk.cursor.skip_remaining walk.held.items came h.0
 
 -- nothing
-pub holds_none : (unknown : Option UnknownCapsule) (skip_remaining : ℕ) (held : List ℕ) → unknown ≡ None → skip_remaining ≡ 0 → held ≡ [] → HoldsOf unknown skip_remaining held [] × (length held ≤ 1043)
-holds_none unknown skip_remaining held none zero empty = (rw none (zero, empty, inl (frame_need_some [])), omega (arith, ap length empty))
+pub holds_none : (unknown : Option UnknownCapsule) (kept : List ℕ) (skip_remaining : ℕ) (held : List ℕ) → unknown ≡ None → skip_remaining ≡ 0 → held ≡ [] → HoldsOf unknown kept skip_remaining held [] × (length held ≤ 1043)
+holds_none unknown kept skip_remaining held none zero empty = (rw none (zero, empty, inl (frame_need_some [])), omega (arith, ap length empty))
 
 no_pair : pair_at [] ≡ None
 unfolding pair_at number_at
@@ -151,52 +178,52 @@ some_came came p e empty = cc (rw empty at e, no_pair)
 
 pub pending_none : (walk : CapsuleWalk) (came : List ℕ) → walk.held.items ≡ [] → walk.unknown ≡ None → Holds walk came → came ≡ []
 pending_none walk came empty none h =
-    let (skip_remaining, same, part) = holds_part walk.unknown walk.cursor.skip_remaining walk.held.items came none h.0 in
+    let (skip_remaining, same, part) = holds_part walk.unknown walk.value.items walk.cursor.skip_remaining walk.held.items came none h.0 in
     sym same ∙ empty
 
 pub pending_held : (walk : CapsuleWalk) (came : List ℕ) → walk.held.items ≢ [] → Holds walk came → came ≢ []
-pending_held walk came some h = by walk.unknown walk.cursor.skip_remaining walk.held.items some h.0
+pending_held walk came some h = by walk.unknown walk.value.items walk.cursor.skip_remaining walk.held.items some h.0
   where
-    by : (unknown : Option UnknownCapsule) (skip_remaining : ℕ) (held : List ℕ) → held ≢ [] → HoldsOf unknown skip_remaining held came → came ≢ []
-    by None skip_remaining held some (none, same, part) = λ empty. some (same ∙ empty)
-    by (Some u) skip_remaining held some (more, none, lacks) = absurd (some none)
+    by : (unknown : Option UnknownCapsule) (kept : List ℕ) (skip_remaining : ℕ) (held : List ℕ) → held ≢ [] → HoldsOf unknown kept skip_remaining held came → came ≢ []
+    by None kept skip_remaining held some (none, same, part) = λ empty. some (same ∙ empty)
+    by (Some u) kept skip_remaining held some (more, none, lacks) = absurd (some none)
 
 pub pending_unknown : (walk : CapsuleWalk) (came : List ℕ) → IsSome walk.unknown → Holds walk came → came ≢ []
-pending_unknown walk came some h = by walk.unknown walk.cursor.skip_remaining walk.held.items some h.0
+pending_unknown walk came some h = by walk.unknown walk.value.items walk.cursor.skip_remaining walk.held.items some h.0
   where
-    by : (unknown : Option UnknownCapsule) (skip_remaining : ℕ) (held : List ℕ) → IsSome unknown → HoldsOf unknown skip_remaining held came → came ≢ []
-    by None skip_remaining held some h = absurd (cc some)
-    by (Some u) skip_remaining held some (more, none, (kind, (value, e, sum))) = some_came came ((u.number, u.announced), value) e
+    by : (unknown : Option UnknownCapsule) (kept : List ℕ) (skip_remaining : ℕ) (held : List ℕ) → IsSome unknown → HoldsOf unknown kept skip_remaining held came → came ≢ []
+    by None kept skip_remaining held some h = absurd (cc some)
+    by (Some u) kept skip_remaining held some (more, none, (kind, (value, e, sum, same))) = some_came came ((u.number, u.announced), value) e
 
 pub pending_is : (walk : CapsuleWalk) (u : UnknownCapsule) (came : List ℕ) → walk.unknown ≡ Some u → Holds walk came → came ≢ []
 pending_is walk u came is h = pending_unknown walk came (rw is refl) h
 
 -- ---- an unknown capsule goes on
 
-pub still_lacks : (u : UnknownCapsule) (skip_remaining : ℕ) (held came : List ℕ) → 0 < skip_remaining → held ≡ [] → LacksOf u skip_remaining came → HoldsOf (Some u) skip_remaining held came × (length held ≤ 1043)
-still_lacks u skip_remaining held came some none lacks = ((some, none, lacks), omega (arith, ap length none))
+pub still_lacks : (u : UnknownCapsule) (kept : List ℕ) (skip_remaining : ℕ) (held came : List ℕ) → 0 < skip_remaining → held ≡ [] → LacksOf u kept skip_remaining came → HoldsOf (Some u) kept skip_remaining held came × (length held ≤ 1043)
+still_lacks u kept skip_remaining held came some none lacks = ((some, none, lacks), omega (arith, ap length none))
 
-pub lacks_none : (u : UnknownCapsule) (skip_remaining : ℕ) (held came : List ℕ) (item : CapsuleItem) → skip_remaining ≤ 0 → held ≡ [] → item.number ≡ u.number → item.name.now ≡ capsule_name u.number → item.announced ≡ u.announced → item.close ≡ None → LacksOf u skip_remaining came → IsWhole came item × (HoldsOf None skip_remaining held [] × (length held ≤ 1043))
-lacks_none u skip_remaining held came item zero none number name announced close lacks =
+pub lacks_none : (u : UnknownCapsule) (kept : List ℕ) (skip_remaining : ℕ) (held came : List ℕ) (item : CapsuleItem) → skip_remaining ≤ 0 → held ≡ [] → item.number ≡ u.number → item.name.now ≡ capsule_name u.number → item.announced ≡ u.announced → item.close ≡ None → item.limit ≡ limit_of u.number kept → LacksOf u kept skip_remaining came → IsWhole came item × (HoldsOf None kept skip_remaining held [] × (length held ≤ 1043))
+lacks_none u kept skip_remaining held came item zero none number name announced close limit lacks =
     let none_due : skip_remaining ≡ 0 = omega (arith, zero) in
-    (lacks_whole u skip_remaining came item none_due number name announced close lacks, holds_none None skip_remaining held refl none_due none)
+    (lacks_whole u kept skip_remaining came item none_due number name announced close limit lacks, holds_none None kept skip_remaining held refl none_due none)
 
 -- ---- a step
 
 -- bytes of a value are skipped
-pub skips : (old : CapsuleWalk) (u : UnknownCapsule) (cursor : CapsuleCursor) (found : AnyCapsule) (came front : List ℕ) → old.unknown ≡ Some u → Fits old (length front) → AnyIs found old.cursor front cursor → Holds old came → (old.held.items ≡ []) × LacksOf u cursor.skip_remaining (came ++ front)
-skips old u cursor found came front is fits any h =
-    let (some, none, lacks) = holds_lacks old.unknown u old.cursor.skip_remaining old.held.items came is h.0 in
+pub skips : (old : CapsuleWalk) (u : UnknownCapsule) (now : List ℕ) (cursor : CapsuleCursor) (found : AnyCapsule) (came front : List ℕ) → old.unknown ≡ Some u → Fits old (length front) → AnyIs found old.cursor front cursor → (has_limit u.number ≡ true → now ≡ old.value.items ++ front) → Holds old came → (old.held.items ≡ []) × LacksOf u now cursor.skip_remaining (came ++ front)
+skips old u now cursor found came front is fits any keeps h =
+    let (some, none, lacks) = holds_lacks old.unknown u old.value.items old.cursor.skip_remaining old.held.items came is h.0 in
     let missing = missing_due old.cursor old.held.items some in
     let most : length front ≤ old.cursor.skip_remaining = omega (arith, missing, some, fits (omega (arith, missing, some))) in
-    (none, lacks_more u old.cursor.skip_remaining cursor.skip_remaining came front lacks most (skips_all found old.cursor cursor front most any))
+    (none, lacks_more u old.value.items now old.cursor.skip_remaining cursor.skip_remaining came front lacks most (skips_all found old.cursor cursor front most any) keeps)
 
 pub begins_before : (came : List ℕ) (start place : ℕ) → came ≢ [] → begins_at came start place ≡ start
 begins_before [] start place some = absurd (some refl)
 begins_before (b ∷ came) start place some = refl
 
 pub begins_held : (old : CapsuleWalk) (came : List ℕ) (place : ℕ) → old.unknown ≡ None → Holds old came → begins_at old.held.items old.at place ≡ begins_at came old.at place
-begins_held old came place none h = let (skip_remaining, same, part) = holds_part old.unknown old.cursor.skip_remaining old.held.items came none h.0 in ap (λ (x : List ℕ). begins_at x old.at place) same
+begins_held old came place none h = let (skip_remaining, same, part) = holds_part old.unknown old.value.items old.cursor.skip_remaining old.held.items came none h.0 in ap (λ (x : List ℕ). begins_at x old.at place) same
 
 -- the start of a capsule is held, and no more comes than is missing
 record HoldsPart (old : CapsuleWalk) (came front : List ℕ) : Type 0 where
@@ -207,7 +234,7 @@ record HoldsPart (old : CapsuleWalk) (came front : List ℕ) : Type 0 where
 
 holds_front : (old : CapsuleWalk) (came front : List ℕ) → old.unknown ≡ None → Fits old (length front) → Holds old came → HoldsPart old came front
 holds_front old came front none fits h =
-    let (skip_remaining, same, part) = holds_part old.unknown old.cursor.skip_remaining old.held.items came none h.0 in
+    let (skip_remaining, same, part) = holds_part old.unknown old.value.items old.cursor.skip_remaining old.held.items came none h.0 in
     record {
       skip_remaining = skip_remaining;
       same = same;
@@ -218,8 +245,8 @@ holds_front old came front none fits h =
 from_none : (skip_remaining end : ℕ) (bytes : List ℕ) → skip_remaining ≡ 0 → between skip_remaining end bytes ≡ take end bytes
 from_none skip_remaining end bytes zero = let size : end - 0 ≡ end = omega arith in rw zero (ap (λ (k : ℕ). take k bytes) size)
 
-pub holds_more : (old : CapsuleWalk) (unknown : Option UnknownCapsule) (cursor : CapsuleCursor) (held came front : List ℕ) (n : ℕ) → old.unknown ≡ None → Fits old (length front) → unknown ≡ None → held ≡ old.held.items ++ front → LeavesPart n old.cursor (old.held.items ++ front) cursor → Holds old came → HoldsOf unknown cursor.skip_remaining held (came ++ front) × (length held ≤ 1043)
-holds_more old unknown cursor held came front n none fits still is f h =
+pub holds_more : (old : CapsuleWalk) (unknown : Option UnknownCapsule) (kept : List ℕ) (cursor : CapsuleCursor) (held came front : List ℕ) (n : ℕ) → old.unknown ≡ None → Fits old (length front) → unknown ≡ None → held ≡ old.held.items ++ front → LeavesPart n old.cursor (old.held.items ++ front) cursor → Holds old came → HoldsOf unknown kept cursor.skip_remaining held (came ++ front) × (length held ≤ 1043)
+holds_more old unknown kept cursor held came front n none fits still is f h =
     let p = holds_front old came front none fits h in
     let zero : n ≡ 0 = omega (arith, p.skip_remaining, f.skip_remaining) in
     let all : old.held.items ++ front ≡ came ++ front = ap (λ (x : List ℕ). x ++ front) p.same in
@@ -227,19 +254,19 @@ holds_more old unknown cursor held came front n none fits still is f h =
     let few : length (old.held.items ++ front) ≤ 1043 = rw zero at f.few in
     (rw still (omega (arith, p.skip_remaining, f.skip_remaining), is ∙ all, part), omega (arith, ap length is, few))
 
-pub holds_long : (old : CapsuleWalk) (cursor : CapsuleCursor) (came front : List ℕ) (fault : Fault) → old.unknown ≡ None → Fits old (length front) → fault.code ≡ Datagram → FindsLongHead old.cursor (old.held.items ++ front) cursor → Holds old came → IsBad (came ++ front) fault
+pub holds_long : (old : CapsuleWalk) (cursor : CapsuleCursor) (came front : List ℕ) (fault : Fault) → old.unknown ≡ None → Fits old (length front) → fault.code ≡ Library Datagram → FindsLongHead old.cursor (old.held.items ++ front) cursor → Holds old came → IsBad (came ++ front) fault
 holds_long old cursor came front fault none fits same f h =
     let p = holds_front old came front none fits h in
     let all : old.held.items ++ front ≡ came ++ front = ap (λ (x : List ℕ). x ++ front) p.same in
     rw (← all) (long_bad (old.held.items ++ front) f.end fault (rw (from_none old.cursor.skip_remaining f.end (old.held.items ++ front) p.skip_remaining) at f.head) same)
 
-pub holds_unknown : (old : CapsuleWalk) (cursor : CapsuleCursor) (came front : List ℕ) (u : UnknownCapsule) → old.unknown ≡ None → Fits old (length front) → FindsUnknown u old.cursor (old.held.items ++ front) cursor → Holds old came → LacksOf u cursor.skip_remaining (came ++ front)
-holds_unknown old cursor came front u none fits f h =
+pub holds_unknown : (old : CapsuleWalk) (kept : List ℕ) (cursor : CapsuleCursor) (came front : List ℕ) (u : UnknownCapsule) → kept ≡ [] → old.unknown ≡ None → Fits old (length front) → FindsUnknown u old.cursor (old.held.items ++ front) cursor → Holds old came → LacksOf u kept cursor.skip_remaining (came ++ front)
+holds_unknown old kept cursor came front u empty none fits f h =
     let p = holds_front old came front none fits h in
     let all : old.held.items ++ front ≡ came ++ front = ap (λ (x : List ℕ). x ++ front) p.same in
     let head : IsUnknownHead u.number u.announced (take u.start (came ++ front)) = rw all at (rw (from_none old.cursor.skip_remaining u.start (old.held.items ++ front) p.skip_remaining) at f.head) in
     let pair : pair_at (came ++ front) ≡ Some ((u.number, u.announced), []) = ends_unknown old.cursor came front u.number u.announced u.start p.skip_remaining p.part p.most (rw all at f.within) head in
-    (no_kind_none u.number f.head.no_kind, ([], pair, omega (arith, f.skip_remaining)))
+    (no_kind_none u.number f.head.no_kind, ([], pair, omega (arith, f.skip_remaining), λ has. empty))
 
 pub holds_known : (old : CapsuleWalk) (cursor : CapsuleCursor) (came front : List ℕ) (place : CapsuleSpan) → old.unknown ≡ None → Fits old (length front) → FindsKnown place old.cursor (old.held.items ++ front) cursor → Holds old came → (old.held.items ++ front ≡ came ++ front) × (cursor.skip_remaining ≡ 0) × IsCapsule place.kind (capsule_value place (old.held.items ++ front)) (old.held.items ++ front)
 holds_known old cursor came front place none fits f h =
@@ -291,16 +318,16 @@ bad_ends at walk new phase payload taken fault on Plain adds some h = absurd h
 none_missing : (c : CapsuleCursor) (held came : List ℕ) → c.skip_remaining ≡ 0 → held ≡ came → missing_from c held ≡ missing_of (pair_at came) came
 none_missing c held came zero same = rw (zero, same) refl
 
-lacks_missing : (u : UnknownCapsule) (n : ℕ) (came : List ℕ) → LacksOf u n came → n ≡ missing_of (pair_at came) came
-lacks_missing u n came (kind, (value, e, sum)) = rw e (omega (arith, sum))
+lacks_missing : (u : UnknownCapsule) (kept : List ℕ) (n : ℕ) (came : List ℕ) → LacksOf u kept n came → n ≡ missing_of (pair_at came) came
+lacks_missing u kept n came (kind, (value, e, sum, same)) = rw e (omega (arith, sum))
 
 -- what the cursor lacks of a capsule is what its bytes lack
 missing_is : (walk : CapsuleWalk) (came : List ℕ) → Holds walk came → missing_from walk.cursor walk.held.items ≡ missing_of (pair_at came) came
-missing_is walk came h = by walk.unknown walk.held.items h.0
+missing_is walk came h = by walk.unknown walk.value.items walk.held.items h.0
   where
-    by : (unknown : Option UnknownCapsule) (held : List ℕ) → HoldsOf unknown walk.cursor.skip_remaining held came → missing_from walk.cursor held ≡ missing_of (pair_at came) came
-    by None held (zero, same, part) = none_missing walk.cursor held came zero same
-    by (Some u) held (some, none, lacks) = missing_due walk.cursor held some ∙ lacks_missing u walk.cursor.skip_remaining came lacks
+    by : (unknown : Option UnknownCapsule) (kept held : List ℕ) → HoldsOf unknown kept walk.cursor.skip_remaining held came → missing_from walk.cursor held ≡ missing_of (pair_at came) came
+    by None kept held (zero, same, part) = none_missing walk.cursor held came zero same
+    by (Some u) kept held (some, none, lacks) = missing_due walk.cursor held some ∙ lacks_missing u kept walk.cursor.skip_remaining came lacks
 
 pub ends_whole : (walk : CapsuleWalk) (stage : Stage) → IsStage (phase-is.Session walk) stage → ((came : List ℕ) → Holds walk came → came ≡ []) → EndsStage stage end-is.Complete
 ends_whole walk (Session held start) h none = rw (none held h.0) refl

@@ -1,8 +1,7 @@
 -- The capsules that the DATA frames of a session have, wherever they are cut (RFC 9297, section
 -- 3.2).
-use Rattle.std.specs.Prelude.{◌≡◌, ℕ, ◌+◌, ◌-◌, List, [], ◌∷◌, length, nat_lt, if◌then◌else◌}
+use Rattle.std.specs.Prelude.{◌≡◌, ℕ, ◌+◌, ◌-◌, List, [], ◌∷◌, length, take, nat_lt, if◌then◌else◌}
 use Rattle.std.specs.Prelude.{string_bytes, Option, Some, None}
-use Rattle.wtp_core.specs.declared.error.ErrorCode.{ErrorCode}
 use Rattle.wtp_core.specs.declared.error.ErrorCode.TheVariants as code-is
 use Rattle.wtp_wire.specs.declared.capsule.CapsuleKind.{CapsuleKind}
 use Rattle.wtp_wire.specs.declared.capsule.CapsuleKind.TheVariants.{CloseWebTransportSession}
@@ -10,9 +9,12 @@ use Rattle.wtp_wire.specs.CapsuleFront.{CapsuleFront, Found, Unknown, TooLong, C
 use Rattle.wtp_wire.specs.CapsuleFront.{capsule_front}
 use Rattle.wtp_wire.specs.CloseSession.{close_in}
 use Rattle.wt_inspection_model.specs.declared.item.capsule.CapsuleItem.{CapsuleItem}
+use Rattle.wt_inspection_model.specs.declared.item.ending.FaultCode.{FaultCode}
+use Rattle.wt_inspection_model.specs.declared.item.ending.FaultCode.TheVariants.{Library}
 use Rattle.wt_inspection_model.specs.declared.item.capsule.CloseReason.{CloseReason}
 use Rattle.wtp_wire.specs.Settings.{pair_at}
 use Rattle.wt_inspection.specs.CapsuleNames.{capsule_name}
+use Rattle.wt_inspection.specs.FlowLimits.{limit_of}
 
 -- the code and the reason of a close
 abbrev pub HasText : Option (ℕ × List ℕ) → Option CloseReason → Type 0
@@ -40,6 +42,7 @@ pub record StartsCapsule (bytes : List ℕ) (c : CapsuleItem) (behind : List ℕ
   pub numbers : pair_at bytes ≡ Some ((c.number, c.announced), value)
   pub name : c.name.now ≡ capsule_name c.number
   pub first : IsFirst (capsule_front bytes) c.close behind
+  pub limit : c.limit ≡ limit_of c.number (take c.announced value)
 
 -- The place of the byte that has n bytes of the data left, it among them, if the last `size` of
 -- them are a piece at a place, and a capsule that began before the piece is at `start`.
@@ -57,12 +60,12 @@ StartsCapsules place bytes (c ∷ cs) rest =
     × StartsCapsules place behind cs rest
 
 -- the first capsule is not complete, or it has this fault
-abbrev pub EndsWith : CapsuleFront → Option ErrorCode → Type 0
+abbrev pub EndsWith : CapsuleFront → Option FaultCode → Type 0
 EndsWith Cut fault = fault ≡ None
 EndsWith End fault = fault ≡ None
-EndsWith (TooLong rest) fault = fault ≡ Some code-is.Datagram
+EndsWith (TooLong rest) fault = fault ≡ Some (Library code-is.Datagram)
 EndsWith (Found kind value rest) fault =
-    IsFaulty kind value × (fault ≡ Some code-is.Datagram)
+    IsFaulty kind value × (fault ≡ Some (Library code-is.Datagram))
 EndsWith (Unknown rest) fault = ⊥
 
 -- How far the message of a stream went: before its header section; after that of a message whose

@@ -5,10 +5,12 @@ pub mod Resolved
 pub mod Heads
 pub mod Tiles
 pub mod CapsuleNames
+pub mod FlowLimits
 pub mod DataCapsules
 pub mod SessionSections
 pub mod Stops
 pub mod UniHeads
+pub mod Instructions
 pub mod Recording
 pub mod Walks
 pub mod Warnings

@@ -5,6 +5,8 @@ use Rattle.std.specs.Prelude.{◌&&◌, false, not, List, [], ◌∷◌, length,
 use Rattle.std.specs.Prelude.{Option, Some, None, Result, Ok, Err}
 use Rattle.std.specs.Str.{bytes_eq}
 use Rattle.wtp_core.specs.Varint.{number_at}
+use Rattle.wtp_dynamic.specs.DecoderStream.{acknowledgment_at}
+use Rattle.wtp_dynamic.specs.Instruction.{instruction_at}
 use Rattle.wtp_wire.specs.AnyCapsule.{missing_of}
 use Rattle.wtp_wire.specs.Kind.{kind_of}
 use Rattle.wtp_wire.specs.StreamKind.{stream_kind_of}
@@ -33,6 +35,8 @@ use Rattle.wt_inspection_model.specs.declared.item.Signal.{Signal}
 use Rattle.wt_inspection_model.specs.declared.item.Signal.TheVariants as signal-is
 use Rattle.wt_inspection_model.specs.declared.item.capsule.CapsuleItem.{CapsuleItem}
 use Rattle.wt_inspection_model.specs.declared.item.capsule.CloseReason.{CloseReason}
+use Rattle.wt_inspection_model.specs.declared.item.ending.FaultCode.{FaultCode}
+use Rattle.wt_inspection_model.specs.declared.item.ending.FaultCode.TheVariants.{Library}
 use Rattle.wt_inspection_model.specs.declared.item.ending.End.{End}
 use Rattle.wt_inspection_model.specs.declared.item.ending.End.TheVariants as end-is
 use Rattle.wt_inspection_model.specs.declared.item.fields.FieldSection.{FieldSection}
@@ -44,15 +48,19 @@ use Rattle.wt_inspection.specs.declared.reading.Next.{Next}
 use Rattle.wt_inspection.specs.declared.reading.Next.TheVariants as next-is
 use Rattle.wt_inspection.specs.declared.reading.Recorded.{Recorded}
 use Rattle.wt_inspection.specs.declared.reading.Recorded.TheVariants as recorded-is
-pub use Rattle.wt_inspection.specs.Stops.{Then, IsCutAt, IsFaultAt, IsCut, Faults, StopsWith}
+pub use Rattle.wt_inspection.specs.Stops.{Then, IsCutAt, IsFaultAt, IsFaultBy, IsCut, Faults}
+pub use Rattle.wt_inspection.specs.Stops.{StopsBy, StopsWith}
 pub use Rattle.wt_inspection.specs.Stops.{pair_lacks}
 pub use Rattle.wt_inspection.specs.UniHeads.{after_head, has_session, is_push, IsPlainHead, IsHead}
 pub use Rattle.wt_inspection.specs.UniHeads.{IsNoSession, IsNoPush, IsNoId, IsNoHead, IsSessionHead}
 pub use Rattle.wt_inspection.specs.UniHeads.{IsPushHead}
 use Rattle.wt_inspection.specs.CapsuleNames.{capsule_name}
+use Rattle.wt_inspection.specs.FlowLimits.{limit_of}
 use Rattle.wt_inspection.specs.DataCapsules.{Stage, Opening, Plain, Session, StartsCapsules}
 use Rattle.wt_inspection.specs.DataCapsules.{EndsWith, place_of}
 use Rattle.wt_inspection.specs.Heads.{IsSessionItem, IsDatagramItem}
+use Rattle.wt_inspection.specs.Instructions.{IsAcknowledgment, IsInsertion, IsNoAcknowledgment}
+use Rattle.wt_inspection.specs.Instructions.{IsNoInsertion}
 use Rattle.wt_inspection_model.specs.Names.{frame_name_of}
 use Rattle.wtp_wire.specs.Settings.{pair_at}
 use Rattle.wt_inspection.specs.Sections.{IsSection}
@@ -218,10 +226,12 @@ pub record IsCapsuleAt (at : ℕ) (bytes : List ℕ) (len : ℕ) (c : CapsuleIte
   pub place : c.at ≡ at
   pub name : c.name.now ≡ capsule_name c.number
   pub most : len ≤ head + c.announced
-  pub cut : len < head + c.announced → (len ≡ length bytes) × (c.close ≡ None)
+  pub cut : len < head + c.announced → (len ≡ length bytes) × (c.close ≡ None) × (c.limit ≡ None)
       × IsCut at (codes "capsule") ((head + c.announced) - len) after
   pub whole : len ≡ head + c.announced → len < 2 ^ 62
       → Closes at (capsule_in (take len bytes)) c.close after
+  pub limit : len ≡ head + c.announced
+      → c.limit ≡ limit_of c.number (take c.announced (drop head bytes))
 
 -- ---- items
 
@@ -240,6 +250,14 @@ IsNext (next-is.Frames role first) at bytes len content-is.Unread after =
     (len ≡ length bytes) × IsNoFrame role first at bytes (pair_at bytes) after
 IsNext next-is.Payload at bytes len content-is.Payload after =
     (len ≡ length bytes) × (after ≡ Ok next-is.Payload)
+IsNext next-is.Encoder at bytes len (content-is.Instruction item) after =
+    IsInsertion bytes len item after
+IsNext next-is.Encoder at bytes len content-is.Unread after =
+    (len ≡ length bytes) × IsNoInsertion at (instruction_at bytes) after
+IsNext next-is.Decoder at bytes len (content-is.Instruction item) after =
+    IsAcknowledgment bytes len item after
+IsNext next-is.Decoder at bytes len content-is.Unread after =
+    (len ≡ length bytes) × IsNoAcknowledgment at (acknowledgment_at bytes) after
 IsNext next-is.Capsules at bytes len (content-is.Capsule c) after =
     IsCapsuleAt at bytes len c after
 IsNext next-is.Capsules at bytes len content-is.Unread after =
@@ -266,15 +284,15 @@ IsStep (Err end) at bytes len content after =
 -- ---- messages
 
 -- the reading goes on, or ends with this fault of the capsule at this place
-abbrev pub Follows : ℕ → Option ErrorCode → Then → Then → Type 0
+abbrev pub Follows : ℕ → Option FaultCode → Then → Then → Type 0
 Follows at None on after = after ≡ on
-Follows at (Some c) on after = StopsWith at c after
+Follows at (Some c) on after = StopsBy at c after
 
 -- These bytes have these capsules. The rest is not a complete capsule, or its first capsule has a
 -- fault.
 abbrev pub TakesAll : (ℕ → ℕ) → List ℕ → List CapsuleItem → Then → Then → Stage → Type 0
 TakesAll place bytes capsules on after next =
-    (rest : List ℕ) × (fault : Option ErrorCode)
+    (rest : List ℕ) × (fault : Option FaultCode)
     × StartsCapsules place bytes capsules rest × EndsWith (capsule_front rest) fault
     × Follows (place (length rest)) fault on after × (next ≡ Session rest (place (length rest)))
 
@@ -420,7 +438,7 @@ may_not_be_cut other more stop = false
 abbrev pub EndsStopped : ErrorCode → Bool → End → End → Type 0
 EndsStopped c false stop end = end ≡ stop
 EndsStopped c true (end-is.Cut cut) (end-is.Fault fault) =
-    (fault.code ≡ c) × (fault.at ≡ cut.at) × (fault.missing ≡ cut.missing)
+    (fault.code ≡ Library c) × (fault.at ≡ cut.at) × (fault.missing ≡ cut.missing)
 EndsStopped c true (end-is.Cut cut) other = ⊥
 EndsStopped c true stop end = end ≡ stop
 

@@ -17,8 +17,11 @@ use Rattle.wt_inspection.specs.declared.reading.Next.{Next}
 use Rattle.wt_inspection.specs.declared.reading.Next.TheVariants as next-is
 use Rattle.wt_inspection.specs.Stops.{IsCut, StopsWith, Then, pair_lacks}
 
+-- frames on a control stream, and the instructions of QPACK's streams (RFC 9204, section 4.2)
 abbrev pub after_head : Option StreamKind → Next
 after_head (Some stream-is.Control) = next-is.Frames role-is.UniRemote true
+after_head (Some stream-is.QPackEncoder) = next-is.Encoder
+after_head (Some stream-is.QPackDecoder) = next-is.Decoder
 after_head other = next-is.Payload
 
 -- a session ID follows the type of a stream of this kind

@@ -1,5 +1,5 @@
 -- What the reading of a message remembers, and what the bytes of a capsule lead to.
-use Rattle.std.specs.Prelude.{◌≡◌, ◌≢◌, ℕ, ◌+◌, ◌<◌, ◌≤◌, List, [], ◌∷◌, ◌++◌, length, Option, Some}
+use Rattle.std.specs.Prelude.{◌≡◌, ◌≢◌, ℕ, ◌+◌, ◌<◌, ◌≤◌, List, [], ◌∷◌, ◌++◌, length, Option, Some, true}
 use Rattle.std.specs.Prelude.{None, Ok, Err}
 use Rattle.wtp_core.specs.declared.error.ErrorCode.TheVariants.{Datagram}
 use Rattle.wtp_wire.specs.declared.capsule.CapsuleKind.{CapsuleKind}
@@ -13,6 +13,7 @@ use Rattle.wtp_wire.specs.CloseSession.{close_in}
 use Rattle.wt_inspection.specs.DataCapsules.{Stage, Opening, Plain, Session, HasText, StartsCapsule}
 use Rattle.wt_inspection.specs.DataCapsules.{StartsCapsules, EndsWith}
 use Rattle.wtp_wire.specs.Settings.{pair_at}
+use Rattle.wt_inspection.specs.FlowLimits.{has_limit}
 use Rattle.wt_inspection.specs.Recording.{Then}
 use Rattle.wt_inspection.specs.declared.capsules.CapsuleWalk.{CapsuleWalk}
 use Rattle.wt_inspection.specs.declared.capsules.CloseOutcome.{CloseOutcome}
@@ -27,23 +28,27 @@ use Rattle.wt_inspection.specs.declared.reading.Phase.TheVariants as phase-is
 
 -- ---- what is held
 
--- of this capsule of an unknown type the type and the length came, and its value but for n bytes
-abbrev pub LacksOf : UnknownCapsule → ℕ → List ℕ → Type 0
-LacksOf u n came =
+-- of this capsule of an unknown type the type and the length came, and its value but for n bytes,
+-- which is kept if it has a limit
+abbrev pub LacksOf : UnknownCapsule → List ℕ → ℕ → List ℕ → Type 0
+LacksOf u kept n came =
     (capsule_kind_of u.number ≡ None)
     × ((value : List ℕ) × (pair_at came ≡ Some ((u.number, u.announced), value))
-    × (length value + n ≡ u.announced))
+    × (length value + n ≡ u.announced) × (has_limit u.number ≡ true → kept ≡ value))
 
 -- these bytes of a capsule came: the start of one, all of which is held; or one whose value is
--- skipped, of which nothing is held
-abbrev pub HoldsOf : Option UnknownCapsule → ℕ → List ℕ → List ℕ → Type 0
-HoldsOf None skip_remaining held came = (skip_remaining ≡ 0) × (held ≡ came) × IsCapsulePart came
-HoldsOf (Some u) skip_remaining held came = (0 < skip_remaining) × (held ≡ []) × LacksOf u skip_remaining came
+-- skipped, of which nothing else is held
+abbrev pub HoldsOf : Option UnknownCapsule → List ℕ → ℕ → List ℕ → List ℕ → Type 0
+HoldsOf None kept skip_remaining held came =
+    (skip_remaining ≡ 0) × (held ≡ came) × IsCapsulePart came
+HoldsOf (Some u) kept skip_remaining held came =
+    (0 < skip_remaining) × (held ≡ []) × LacksOf u kept skip_remaining came
 
 -- what is held is short, however long the capsule is
 abbrev pub Holds : CapsuleWalk → List ℕ → Type 0
 Holds walk came =
-    HoldsOf walk.unknown walk.cursor.skip_remaining walk.held.items came × (length walk.held.items ≤ 1043)
+    HoldsOf walk.unknown walk.value.items walk.cursor.skip_remaining walk.held.items came
+    × (length walk.held.items ≤ 1043)
 
 -- the same, where the first of these bytes is at this place
 abbrev pub HoldsAt : CapsuleWalk → List ℕ → ℕ → Type 0

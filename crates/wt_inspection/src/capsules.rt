@@ -1,6 +1,6 @@
 //! Capsules (RFC 9297, section 3.2).
 ghost use Rattle.std.specs.Prelude.{◌≡◌, ◌≢◌, ◌+◌, ◌%◌, ◌==◌, ◌≤◌, ◌<◌, ◌^◌, ◌++◌, ℕ, List, []};
-ghost use Rattle.std.specs.Prelude.{IsSome, Some, None, IfOk, IfSome, codes, length, string_bytes};
+ghost use Rattle.std.specs.Prelude.{IsSome, Some, None, true, IfOk, IfSome, codes, length, string_bytes};
 ghost use Rattle.wtp_wire.specs.AnyCapsule.{missing_from};
 ghost use Rattle.wtp_wire.specs.Capsule.{capsule_in};
 ghost use Rattle.wtp_wire.specs.CapsuleCursor.{capsule_value};
@@ -11,12 +11,16 @@ ghost use Rattle.wt_inspection.specs.CapsuleNames.{capsule_name, other_name as o
 ghost use Rattle.wt_inspection.specs.DataCapsules.{place_of};
 ghost use Rattle.wt_inspection.specs.Walks.{Fits, Holds, HoldsAt, IsFaultOf, JudgesBy, JudgesClose};
 ghost use Rattle.wt_inspection.specs.Walks.{Judges, LacksOf, TakesPiece, Stepped, begins_at};
+ghost use Rattle.wt_inspection.specs.FlowLimits.{has_limit};
 ghost use Rattle.wt_inspection.specs.Resolved.{HasNoSection};
 
+use crate::limits::{breach_of, has_limit, limit_of};
 use crate::reading::{Next, Reading, Step, Then, cut, fault, fault_at};
 use std::alloc::{AllocError, Global};
 use std::borrow::CowSlice;
-use wt_inspection_model::item::{CapsuleItem, CloseReason, Content, Cut, Fault};
+use wt_inspection_model::item::{
+    CapsuleItem, CloseReason, Content, Cut, Fault, FaultCode, FlowLimit,
+};
 use wtp_core::error::{ErrorCode, Refused};
 use wtp_core::varint::VarInt;
 use wtp_wire::capsule::capsules::CloseWebTransportSession;
@@ -35,6 +39,8 @@ pub(crate) struct CapsuleWalk {
     held: Vec<u8>,
     /// The capsule of an unknown type whose value the cursor skips.
     unknown: Option<UnknownCapsule>,
+    /// The bytes of that value so far, if its type has a limit.
+    value: Vec<u8>,
     /// The place of the first byte of the capsule that has begun.
     at: usize,
 }
@@ -78,6 +84,7 @@ impl CapsuleWalk {
             cursor: CapsuleCursor::new(),
             held: Vec::new(alloc),
             unknown: None,
+            value: Vec::new(alloc),
             at: 0,
         }
     }
@@ -130,20 +137,36 @@ impl CapsuleWalk {
             → Stepped (begins_at came self.old.at place) step self.new (came ++ front.now)) }
     {
         match self.unknown {
-            Some(unknown) => Ok(self.skip(unknown, front)),
+            Some(unknown) => self.skip(unknown, front),
             None => self.hold(place, front),
         }
     }
 
     /// Takes bytes of an unknown capsule's value, which the cursor skips.
-    fn skip(&mut self, unknown: UnknownCapsule, front: &[u8]) -> WalkStep
+    fn skip(&mut self, unknown: UnknownCapsule, front: &[u8]) -> Result<WalkStep, AllocError>
         requires unknown { self.old.unknown ≡ Some unknown }
         requires fits { Fits self.old (length front.now) }
-        ensures { (place : ℕ) (came : List ℕ) → Holds self.old came
-            → Stepped (begins_at came self.old.at place) result self.new (came ++ front.now) }
+        ensures { IfOk result (λ step. (place : ℕ) (came : List ℕ) → Holds self.old came
+            → Stepped (begins_at came self.old.at place) step self.new (came ++ front.now)) }
     {
+        self.keep(unknown.number, front)?;
         self.cursor.next_any(front);
-        self.go_on(unknown)
+        Ok(self.go_on(unknown))
+    }
+
+    /// Keeps bytes of the value of a capsule of this type, if it has a limit.
+    fn keep(&mut self, number: VarInt, front: &[u8]) -> Result<(), AllocError>
+        ensures value { IfOk result (λ _. has_limit number ≡ true
+            → self.new.value.items ≡ self.old.value.items ++ front.now) }
+        ensures held { IfOk result (λ _. self.new.held.items ≡ self.old.held.items) }
+        ensures unknown { IfOk result (λ _. self.new.unknown ≡ self.old.unknown) }
+        ensures cursor { IfOk result (λ _. self.new.cursor ≡ self.old.cursor) }
+        ensures at { IfOk result (λ _. self.new.at ≡ self.old.at) }
+    {
+        if has_limit(number) {
+            self.value.extend_from_slice(front)?;
+        }
+        Ok(())
     }
 
     /// Takes bytes of a capsule that are held until it is complete.
@@ -160,6 +183,7 @@ impl CapsuleWalk {
             AnyCapsule::TooLong => Ok(WalkStep::Fault(too_long(self.at))),
             AnyCapsule::Unknown(unknown) => {
                 self.held.clear();
+                self.value.clear();
                 Ok(self.go_on(unknown))
             }
             AnyCapsule::Known(found) => self.complete(found),
@@ -176,7 +200,7 @@ impl CapsuleWalk {
     /// Returns the unknown capsule, if none of its value is missing.
     fn go_on(&mut self, unknown: UnknownCapsule) -> WalkStep
         ensures { (came : List ℕ) → self.old.held.items ≡ []
-            → LacksOf unknown self.old.cursor.skip_remaining came
+            → LacksOf unknown self.old.value.items self.old.cursor.skip_remaining came
             → Stepped self.old.at result self.new came }
     {
         if self.cursor.skip_remaining > 0 {
@@ -184,11 +208,13 @@ impl CapsuleWalk {
             return WalkStep::More;
         }
         self.unknown = None;
+        let limit = limit_of(unknown.number, self.value.as_slice());
         WalkStep::Done(capsule_of(
             self.at,
             unknown.number,
             unknown.announced.into_inner(),
             None,
+            limit,
         ))
     }
 
@@ -204,9 +230,12 @@ impl CapsuleWalk {
         let number = found.kind.id();
         let announced = (found.end - found.start) as u64;
         match closing {
-            CloseOutcome::Other => Ok(WalkStep::Done(capsule_of(self.at, number, announced, None))),
+            CloseOutcome::Other => {
+                let item = capsule_of(self.at, number, announced, None, None);
+                Ok(WalkStep::Done(item))
+            }
             CloseOutcome::Close(close) => {
-                let item = capsule_of(self.at, number, announced, Some(close));
+                let item = capsule_of(self.at, number, announced, Some(close), None);
                 Ok(WalkStep::Done(item))
             }
             CloseOutcome::Bad(code) => Ok(WalkStep::Fault(fault_at(self.at, code, BAD_CLOSE))),
@@ -238,7 +267,7 @@ const BAD_CLOSE: &str = "a close capsule is a code and a text of at most 1024 by
 
 /// Returns the fault of a capsule at this place that is too long.
 fn too_long(at: usize) -> Fault
-    ensures code { result.code ≡ ErrorCode.Datagram }
+    ensures code { result.code ≡ FaultCode.Library ErrorCode.Datagram }
     ensures at { IsFaultOf at result }
 {
     let why = "a reason has more than 1024 bytes (draft-ietf-webtrans-http3-02, section 5)";
@@ -246,12 +275,19 @@ fn too_long(at: usize) -> Fault
 }
 
 /// Returns a capsule.
-fn capsule_of(at: usize, id: VarInt, announced: u64, close: Option<CloseReason>) -> CapsuleItem
+fn capsule_of(
+    at: usize,
+    id: VarInt,
+    announced: u64,
+    close: Option<CloseReason>,
+    limit: Option<FlowLimit>,
+) -> CapsuleItem
     ensures at { result.at ≡ at }
     ensures number { result.number ≡ id }
     ensures name { result.name.now ≡ capsule_name id }
     ensures announced { result.announced ≡ announced }
     ensures close { result.close ≡ close }
+    ensures limit { result.limit ≡ limit }
 {
     CapsuleItem {
         at,
@@ -259,6 +295,7 @@ fn capsule_of(at: usize, id: VarInt, announced: u64, close: Option<CloseReason>)
         name: name_of(id),
         announced,
         close,
+        limit,
     }
 }
 
@@ -338,11 +375,16 @@ fn is_reserved(number: VarInt) -> bool
 }
 
 /// Returns the next capsule of bytes that are capsules.
-pub(crate) fn next_capsule(reading: &Reading, at: usize, rest: &[u8]) -> Result<Step, AllocError>
+pub(crate) fn next_capsule(
+    reading: &mut Reading,
+    at: usize,
+    rest: &[u8],
+) -> Result<Step, AllocError>
     requires { 0 < length rest.now }
     ensures within { IfOk result (λ s. s.length ≤ length rest.now) }
     ensures some { IfOk result (λ s. 0 < s.length) }
     ensures read { IfOk result (λ s. IsNext Next.Capsules at rest.now s.length s.content s.after) }
+    ensures phase { IfOk result (λ _. reading.new.phase ≡ reading.old.phase) }
     ensures sections { IfOk result (λ s. HasNoSection s.content) }
 {
     let Some(pair) = first_pair(rest) else {
@@ -355,15 +397,19 @@ pub(crate) fn next_capsule(reading: &Reading, at: usize, rest: &[u8]) -> Result<
         let end = cut(at, "capsule", announced - left as u64);
         return Ok(Step::last(
             rest.len(),
-            Content::Capsule(capsule_of(at, pair.first, announced, None)),
+            Content::Capsule(capsule_of(at, pair.first, announced, None, None)),
             end,
         ));
     }
     let len = pair.size + announced as usize;
     let (close, after) = read_close(reading.alloc, at, rest.split_at(len).0)?;
+    let value = rest.split_at(pair.size).1.split_at(announced as usize).0;
+    let limit = limit_of(pair.first, value);
+    let item = capsule_of(at, pair.first, announced, close, limit);
+    reading.warn(at, breach_of(&item))?;
     Ok(Step {
         length: len,
-        content: Content::Capsule(capsule_of(at, pair.first, announced, close)),
+        content: Content::Capsule(item),
         after,
     })
 }

@@ -4,13 +4,13 @@ ghost use Rattle.wt_inspection.specs.DataCapsules.{Stage};
 ghost use Rattle.wt_inspection.specs.Walks.{IsStage};
 ghost use Rattle.wt_inspection.specs.Warnings.{warning_of};
 ghost use Rattle.wt_inspection.specs.Recording.{EndsEmpty, EndsStage, EndsStopped, IsCutAt};
-ghost use Rattle.wt_inspection.specs.Recording.{IsFaultAt, is_cut_frame};
+ghost use Rattle.wt_inspection.specs.Recording.{IsFaultAt, IsFaultBy, is_cut_frame};
 ghost use Rattle.wt_inspection.specs.Recording.{code_of_nothing, may_not_be_cut, start_of};
 
 use crate::capsules::CapsuleWalk;
 use crate::past::Past;
 use std::alloc::{AllocError, Global};
-use wt_inspection_model::item::{Content, Cut, End, Fault, Rule, Warning};
+use wt_inspection_model::item::{Content, Cut, End, Fault, FaultCode, Rule, Warning};
 use wtp_core::error::ErrorCode;
 use wtp_wire::rules::StreamRole;
 use wtp_wire::stream_header::StreamKind;
@@ -47,6 +47,10 @@ pub enum Next {
     Frames(StreamRole, bool),
     /// Bytes that are not read.
     Payload,
+    /// Instructions of an encoder stream.
+    Encoder,
+    /// Instructions of a decoder stream.
+    Decoder,
     /// Capsules.
     Capsules,
     /// A datagram.
@@ -275,7 +279,7 @@ fn closed(may_not: bool, stop: End, code: ErrorCode, why: &'static str) -> End
     match stop {
         End::Cut(Cut { at, missing, .. }) => End::Fault(Fault {
             at,
-            code,
+            code: FaultCode::Library(code),
             why,
             missing,
         }),
@@ -311,15 +315,27 @@ pub(crate) fn fault(at: usize, code: ErrorCode, why: &'static str) -> End
     End::Fault(fault_at(at, code, why))
 }
 
+/// Returns the end at a fault of any code.
+pub(crate) fn fault_by(at: usize, code: FaultCode, why: &'static str) -> End
+    ensures { IsFaultBy at code result }
+{
+    End::Fault(Fault {
+        at,
+        code,
+        why,
+        missing: 0,
+    })
+}
+
 /// Returns a fault of an item that is complete.
 pub(crate) fn fault_at(at: usize, code: ErrorCode, why: &'static str) -> Fault
-    ensures code { result.code ≡ code }
+    ensures code { result.code ≡ FaultCode.Library code }
     ensures at { result.at ≡ at }
     ensures missing { result.missing ≡ 0 }
 {
     Fault {
         at,
-        code,
+        code: FaultCode::Library(code),
         why,
         missing: 0,
     }

@@ -13,6 +13,7 @@ use crate::capsules::next_capsule;
 use crate::fields::{read_section, section_then};
 use crate::frames::next_frame;
 use crate::insertions::Insertions;
+use crate::instructions::{next_acknowledgment, next_insertion};
 use crate::message::warn_of_section;
 use crate::reading::{
     Next, Reading, Recorded, Step, Then, cut, end_after, end_at, end_of_nothing, fault, start_of,
@@ -180,6 +181,8 @@ fn next_item(
         Next::Head => head_item(reading, at, rest),
         Next::Frames(role, first) => next_frame(reading, sent, role, first, at, rest),
         Next::Payload => Ok(Step::go_on(rest.len(), Content::Payload, Next::Payload)),
+        Next::Encoder => next_insertion(reading.alloc, at, rest),
+        Next::Decoder => Ok(next_acknowledgment(at, rest)),
         Next::Capsules => next_capsule(reading, at, rest),
         Next::Datagram => Ok(datagram_step(at, rest)),
         Next::Section => section_step(reading, sent, at, rest),
@@ -287,8 +290,8 @@ fn after_head(number: VarInt) -> Next
     match StreamKind::parse(number) {
         Some(StreamKind::Control) => Next::Frames(StreamRole::UniRemote, true),
         Some(StreamKind::WebTransport) => Next::Payload,
-        Some(StreamKind::QPackEncoder) => Next::Payload,
-        Some(StreamKind::QPackDecoder) => Next::Payload,
+        Some(StreamKind::QPackEncoder) => Next::Encoder,
+        Some(StreamKind::QPackDecoder) => Next::Decoder,
         Some(StreamKind::Exercise(_)) => Next::Payload,
         None => Next::Payload,
     }

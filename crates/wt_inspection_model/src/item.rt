@@ -3,13 +3,15 @@
 pub mod capsule;
 pub mod ending;
 pub mod fields;
+pub mod instruction;
 pub mod names;
 pub mod rule;
 pub mod settings;
 
-pub use capsule::{CapsuleItem, CloseReason};
-pub use ending::{Cut, End, Fault, Warning};
+pub use capsule::{CapsuleItem, CloseReason, FlowLimit};
+pub use ending::{Cut, End, Fault, FaultCode, Warning};
 pub use fields::{FieldSection, Index, Line, SectionFault, Unknown};
+pub use instruction::Instruction;
 pub use names::{FrameName, StreamName};
 pub use rule::Rule;
 pub use settings::{SettingIssue, SettingLine};
@@ -57,6 +59,8 @@ pub enum Content {
     Section(FieldSection),
     /// The payload of a SETTINGS frame (RFC 9114, section 7.2.4).
     Settings(Vec<SettingLine>),
+    /// An instruction on an encoder or decoder stream of QPACK (RFC 9204, sections 4.3 and 4.4).
+    Instruction(Instruction),
     /// Bytes that were not read: too few for an item, or at or after an error.
     Unread,
 }

@@ -16,6 +16,8 @@ use Rattle.wt_inspection_model.specs.declared.item.Signal.{Signal}
 use Rattle.wt_inspection_model.specs.declared.item.Signal.TheVariants as signal-is
 use Rattle.wt_inspection_model.specs.declared.item.capsule.CapsuleItem.{CapsuleItem}
 use Rattle.wt_inspection_model.specs.declared.item.capsule.CloseReason.{CloseReason}
+use Rattle.wt_inspection_model.specs.declared.item.capsule.FlowLimit.{FlowLimit}
+use Rattle.wt_inspection_model.specs.declared.item.capsule.FlowLimit.TheVariants as limit-is
 use Rattle.wt_inspection_model.specs.declared.item.ending.Warning.{Warning}
 use Rattle.wt_inspection_model.specs.declared.item.fields.FieldSection.{FieldSection}
 use Rattle.wt_inspection_model.specs.declared.item.fields.Index.{Index}
@@ -24,6 +26,8 @@ use Rattle.wt_inspection_model.specs.declared.item.fields.Line.{Line}
 use Rattle.wt_inspection_model.specs.declared.item.fields.Unknown.{Unknown}
 use Rattle.wt_inspection_model.specs.declared.item.fields.Unknown.TheVariants as unknown-is
 use Rattle.wt_inspection_model.specs.declared.item.fields.SectionFault.{SectionFault}
+use Rattle.wt_inspection_model.specs.declared.item.instruction.Instruction.{Instruction}
+use Rattle.wt_inspection_model.specs.declared.item.instruction.Instruction.TheVariants as instruction-is
 use Rattle.std.specs.List.{flat_map}
 use Rattle.wt_inspection_views.specs.Escaped.{IsShown, name_byte}
 use Rattle.wt_inspection_model.specs.declared.item.names.FrameName.{FrameName}
@@ -43,9 +47,15 @@ abbrev pub close_lines : Option CloseReason → ℕ
 close_lines None = 0
 close_lines (Some close) = 2
 
--- the number of lines for a capsule and its close
+-- the number of lines for a limit of flow control, and for the stream that it is of
+abbrev pub limit_lines : Option FlowLimit → ℕ
+limit_lines None = 0
+limit_lines (Some (limit-is.Session limit)) = 1
+limit_lines (Some (limit-is.Stream stream limit)) = 2
+
+-- the number of lines for a capsule, its close and its limit
 abbrev pub capsule_lines : CapsuleItem → ℕ
-capsule_lines capsule = 1 + close_lines capsule.close
+capsule_lines capsule = 1 + close_lines capsule.close + limit_lines capsule.limit
 
 -- the number of lines for what a frame says of requests and pushes
 abbrev pub signal_lines : Signal → ℕ
@@ -61,12 +71,21 @@ parts_lines (parts-is.Settings settings) = length settings.items
 parts_lines (parts-is.Capsules capsules) = sum_by capsule_lines capsules.items
 parts_lines (parts-is.Signal signal) = signal_lines signal
 
+-- the number of lines for an instruction: one, and one for the entry that it inserts
+abbrev pub instruction_lines : Instruction → ℕ
+instruction_lines (instruction-is.InsertStatic index line) = 2
+instruction_lines (instruction-is.InsertDynamic line) = 2
+instruction_lines (instruction-is.InsertLiteral line) = 2
+instruction_lines (instruction-is.Duplicate line) = 2
+instruction_lines other = 1
+
 -- the number of lines for an item without its payload bytes
 abbrev pub content_lines : Content → ℕ
 content_lines (content-is.Frame frame) = 1 + parts_lines frame.parts
 content_lines (content-is.Capsule capsule) = capsule_lines capsule
 content_lines (content-is.Section section) = 1 + field_lines section
 content_lines (content-is.Settings settings) = 1 + length settings.items
+content_lines (content-is.Instruction instruction) = instruction_lines instruction
 content_lines other = 1
 
 -- the number of lines for a payload of n bytes, at 32 bytes per line

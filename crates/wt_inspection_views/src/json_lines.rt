@@ -10,7 +10,7 @@ use crate::split_warnings;
 use crate::text::shown_of;
 pub use object::Lines;
 use object::Object;
-use parts::{add_capsule, add_capsules, add_section, add_settings, add_signal};
+use parts::{add_capsule, add_capsules, add_instruction, add_section, add_settings, add_signal};
 use std::alloc::{AllocError, Global};
 use wt_inspection_model::item::{
     CapsuleItem, Content, Cut, DatagramHead, End, Fault, FieldSection, FrameItem, Inspection, Item,
@@ -22,8 +22,8 @@ use wtp_core::error::Code;
 /// one for the end, each on its own line that ends with a line feed.
 ///
 /// - Each object has `at`, its offset in bytes, and `item`, one of `stream`, `frame`, `session`,
-///   `payload`, `capsule`, `datagram`, `section`, `settings`, `unread`, `warning`, `hint` and
-///   `end`.
+///   `payload`, `capsule`, `datagram`, `section`, `settings`, `instruction`, `unread`, `warning`,
+///   `hint` and `end`.
 /// - A number above 2^53 - 1 is a string of its decimal digits, so that each reader of JSON has it
 ///   exactly (RFC 8259, section 6).
 ///   Items have their number of bytes as `length`; together they cover the whole input.
@@ -120,6 +120,7 @@ fn add_content(object: &mut Object, content: &Content)
         Content::Datagram(head) => add_datagram(object, *head),
         Content::Section(section) => add_section_item(object, section),
         Content::Settings(settings) => add_settings_item(object, settings.as_slice()),
+        Content::Instruction(instruction) => add_instruction(object, instruction),
         Content::Unread => object.add_text("item", "unread"),
     }
 }
@@ -316,6 +317,6 @@ fn add_fault(object: &mut Object, fault: Fault)
     object.add_number("at", fault.at as u64);
     object.add_text("item", "end");
     object.add_text("state", "fault");
-    add_code(object, Code::from(fault.code));
+    add_code(object, fault.code.code());
     object.add_text("why", fault.why)
 }

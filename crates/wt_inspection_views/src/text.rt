@@ -15,15 +15,14 @@ mod words;
 use crate::{bytes_of, split_warnings};
 pub use lines::Lines;
 use parts::{
-    add_capsule, add_fields, add_hex, add_settings, add_signal, add_warnings as add_each_warning,
-    count_bytes,
+    add_capsule, add_fields, add_hex, add_instruction, add_settings, add_signal,
+    add_warnings as add_each_warning, count_bytes,
 };
 use std::alloc::{AllocError, Global};
 use wt_inspection_model::item::{
     CapsuleItem, Content, Cut, DatagramHead, End, Fault, FieldSection, FrameItem, FrameName,
     Inspection, Item, Parts, StreamHead, Warning,
 };
-use wtp_core::error::Code;
 use wtp_wire::frame::FrameKind;
 
 /// Formats an inspection of `bytes` as text.
@@ -181,6 +180,7 @@ fn add_item(text: &mut Lines, item: &Item)
             text.add_size(at, "settings", size);
             add_settings(text, settings.as_slice())
         }
+        Content::Instruction(instruction) => add_instruction(text, at, instruction, size),
         Content::Unread => text.add_size(at, "not read", size),
     }
 }
@@ -290,8 +290,8 @@ fn words_of_cut(alloc: Global, cut: Cut) -> Result<String, AllocError> {
 
 /// Returns the details of an error.
 fn words_of_fault(alloc: Global, fault: Fault) -> Result<String, AllocError> {
-    let code = Code::from(fault.code);
-    let number = fault.code.to_code().into_inner();
     let why = fault.why;
+    let code = fault.code.code();
+    let number = code.number().into_inner();
     format!(in alloc; "{code} ({number:#x}): {why}")
 }

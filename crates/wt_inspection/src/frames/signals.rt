@@ -5,7 +5,7 @@ ghost use Rattle.wt_inspection.specs.Recording.{HasParts, IsNotAlone};
 ghost use Rattle.wt_inspection.specs.Resolved.{HasNoFields, PartsWith};
 
 use crate::fields::{read_section, section_then};
-use crate::frames::Found;
+use crate::frames::contents::Found;
 use crate::insertions::Insertions;
 use crate::message::warn_of_promise;
 use crate::reading::{Next, Reading};

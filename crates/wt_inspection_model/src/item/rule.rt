@@ -51,6 +51,8 @@ pub enum Rule {
     BadSetting,
     /// Nothing follows a capsule that closes the session.
     DataAfterClose,
+    /// A capsule of flow control contains its integers, and one that drains a session nothing.
+    BadCapsuleValue,
     /// A field name has no upper-case letters.
     UpperCaseName,
     /// A field name is a token.
@@ -223,6 +225,9 @@ impl Rule {
             }
             Rule::DataAfterClose => {
                 "bytes follow the close of the session (draft-ietf-webtrans-http3-02, section 5)"
+            }
+            Rule::BadCapsuleValue => {
+                "the value of a capsule is not that of its type (RFC 9297, section 3.3)"
             }
             _ => self.why_of_message(),
         }

@@ -1,12 +1,12 @@
 //! Members with nested values.
 ghost use Rattle.std.specs.Prelude.{List, Bool};
-ghost use Rattle.wt_inspection_views.specs.Objects.{AddsElements, AddsMembers};
+ghost use Rattle.wt_inspection_views.specs.Objects.{AddsElements, AddsMembers, AddsValue};
 
 use super::object::Object;
 use crate::text::parts::name_setting;
 use wt_inspection_model::item::{
-    CapsuleItem, CloseReason, FieldSection, Index, Line, SectionFault, SettingIssue, SettingLine,
-    Signal, Unknown,
+    CapsuleItem, CloseReason, FieldSection, FlowLimit, Index, Instruction, Line, SectionFault,
+    SettingIssue, SettingLine, Signal, Unknown,
 };
 
 /// Appends the lines of a field section and, if they end early, the reason.
@@ -32,12 +32,29 @@ fn add_fields(object: &mut Object, lines: &[Line])
     }
 }
 
-/// Appends a field line: its name and its value. An object with the index of an entry of the
-/// dynamic table stands for what is unknown.
+/// Appends a field line as an element of an array: its name and its value.
 fn add_field(object: &mut Object, line: &Line)
     ensures { AddsElements object.old object.new }
 {
     object.begin_array();
+    add_texts(object, line);
+    object.end_array()
+}
+
+/// Appends a field line as the value of a member.
+fn add_line(object: &mut Object, line: &Line)
+    ensures { AddsValue object.old object.new }
+{
+    object.begin_array();
+    add_texts(object, line);
+    object.end_array()
+}
+
+/// Appends the name and the value of a field line. An object with the index of an entry of the
+/// dynamic table stands for what is unknown.
+fn add_texts(object: &mut Object, line: &Line)
+    ensures { AddsElements object.old object.new }
+{
     match line.unknown {
         None => {
             object.add_value(line.name.as_slice());
@@ -49,7 +66,6 @@ fn add_field(object: &mut Object, line: &Line)
             object.add_value(line.value.as_slice())
         }
     }
-    object.end_array()
 }
 
 /// Appends the index of an entry of the dynamic table.
@@ -108,6 +124,35 @@ pub(super) fn add_signal(object: &mut Object, signal: &Signal)
             add_section(object, section);
         }
     }
+}
+
+/// Appends an instruction.
+pub(super) fn add_instruction(object: &mut Object, instruction: &Instruction)
+    ensures { AddsMembers object.old object.new }
+{
+    object.add_text("item", "instruction");
+    object.add_text("type", instruction.name());
+    match instruction {
+        Instruction::SetCapacity(capacity) => object.add_number("capacity", *capacity),
+        Instruction::InsertStatic(index, line) => {
+            object.add_number("static", *index);
+            add_inserted(object, line)
+        }
+        Instruction::InsertDynamic(line) => add_inserted(object, line),
+        Instruction::InsertLiteral(line) => add_inserted(object, line),
+        Instruction::Duplicate(line) => add_inserted(object, line),
+        Instruction::AcknowledgeSection(stream) => object.add_number("stream", *stream),
+        Instruction::CancelStream(stream) => object.add_number("stream", *stream),
+        Instruction::IncrementCount(count) => object.add_number("increment", *count),
+    }
+}
+
+/// Appends the line that an instruction inserts.
+fn add_inserted(object: &mut Object, line: &Line)
+    ensures { AddsMembers object.old object.new }
+{
+    object.add_name("field");
+    add_line(object, line)
 }
 
 /// Appends settings.
@@ -192,6 +237,21 @@ pub(super) fn add_capsule(object: &mut Object, capsule: &CapsuleItem)
     match &capsule.close {
         None => {}
         Some(close) => add_close(object, close),
+    }
+    add_limit(object, capsule.limit)
+}
+
+/// Appends a limit of flow control, if there is one.
+fn add_limit(object: &mut Object, limit: Option<FlowLimit>)
+    ensures { AddsMembers object.old object.new }
+{
+    match limit {
+        None => {}
+        Some(FlowLimit::Session(limit)) => object.add_number("limit", limit),
+        Some(FlowLimit::Stream(stream, limit)) => {
+            object.add_number("stream", stream);
+            object.add_number("limit", limit)
+        }
     }
 }
 

@@ -3,17 +3,17 @@ ghost use Rattle.std.specs.List.{flat_map};
 ghost use Rattle.std.specs.Prelude.{◌≡◌, ◌++◌, ◌∷◌, IfOk, length, string_bytes};
 ghost use Rattle.wt_inspection_views.specs.Escaped.{hex_byte};
 ghost use Rattle.wt_inspection_views.specs.Lines.{Gains};
-ghost use Rattle.wt_inspection_views.specs.TextLines.{capsule_lines, close_lines, field_lines};
+ghost use Rattle.wt_inspection_views.specs.TextLines.{capsule_lines, close_lines, field_lines, limit_lines};
 ghost use Rattle.wt_inspection_views.specs.TextLines.{hex_lines, stop_lines};
 ghost use Rattle.wt_inspection_views.specs.TextLines.{IsFieldLine, IsKnownLine, IsNamedLine, IsPriorityLine, IsReasonLine};
-ghost use Rattle.wt_inspection_views.specs.TextLines.{entry_words, signal_lines};
+ghost use Rattle.wt_inspection_views.specs.TextLines.{entry_words, instruction_lines, signal_lines};
 
 use super::lines::Lines;
 use crate::escaped::{add_escaped, add_hex_byte, add_name};
 use std::alloc::{AllocError, Global};
 use wt_inspection_model::item::{
-    CapsuleItem, CloseReason, FieldSection, Index, Line, SectionFault, SettingIssue, SettingLine,
-    Signal, Unknown, Warning,
+    CapsuleItem, CloseReason, FieldSection, FlowLimit, Index, Instruction, Line, SectionFault,
+    SettingIssue, SettingLine, Signal, Unknown, Warning,
 };
 use wtp_wire::settings::SettingId;
 
@@ -110,6 +110,48 @@ pub(super) fn add_signal(text: &mut Lines, signal: &Signal)
     }
 }
 
+/// Appends the lines of an instruction of this size. What it inserts has the line of a field.
+pub(super) fn add_instruction(text: &mut Lines, at: usize, instruction: &Instruction, size: u64)
+    ensures { Gains (instruction_lines instruction.now) text.old text.new }
+{
+    text.add_head(
+        at,
+        "instruction",
+        words_of_instruction(text.alloc, instruction, size),
+    );
+    match instruction {
+        Instruction::InsertStatic(_, line)
+        | Instruction::InsertDynamic(line)
+        | Instruction::InsertLiteral(line)
+        | Instruction::Duplicate(line) => text.add_formatted(words_of_field(text.alloc, line)),
+        Instruction::SetCapacity(_)
+        | Instruction::AcknowledgeSection(_)
+        | Instruction::CancelStream(_)
+        | Instruction::IncrementCount(_) => {}
+    }
+}
+
+/// Returns the details of an instruction: its name, its number, if it has one, and its size.
+fn words_of_instruction(
+    alloc: Global,
+    instruction: &Instruction,
+    size: u64,
+) -> Result<String, AllocError> {
+    let name = instruction.name();
+    let size = count_bytes(alloc, size)?;
+    match instruction {
+        Instruction::SetCapacity(number) | Instruction::IncrementCount(number) => {
+            format!(in alloc; "{name} {number}, {size}")
+        }
+        Instruction::InsertStatic(index, _) => format!(in alloc; "{name}, static {index}, {size}"),
+        Instruction::AcknowledgeSection(id) | Instruction::CancelStream(id) => {
+            format!(in alloc; "{name}, stream {id}, {size}")
+        }
+        Instruction::InsertDynamic(_) | Instruction::InsertLiteral(_) | Instruction::Duplicate(_) =>
+            format!(in alloc; "{name}, {size}"),
+    }
+}
+
 /// Returns the line of a priority: its displayed form.
 fn words_of_priority(alloc: Global, value: &[u8]) -> Result<String, AllocError>
     ensures { IfOk result (λ words. IsPriorityLine value.now (string_bytes words)) }
@@ -183,7 +225,24 @@ pub(super) fn add_capsule(text: &mut Lines, at: Option<usize>, capsule: &Capsule
     ensures { Gains (capsule_lines capsule.now) text.old text.new }
 {
     text.add_capsule(at, capsule);
-    add_close(text, &capsule.close)
+    add_close(text, &capsule.close);
+    add_limit(text, capsule.limit)
+}
+
+/// Appends the lines of a limit, if there is one.
+fn add_limit(text: &mut Lines, limit: Option<FlowLimit>)
+    ensures { Gains (limit_lines limit) text.old text.new }
+{
+    match limit {
+        None => {}
+        Some(FlowLimit::Session(limit)) => {
+            text.add_formatted(format!(in text.alloc; "            limit = {limit}"));
+        }
+        Some(FlowLimit::Stream(stream, limit)) => {
+            text.add_formatted(format!(in text.alloc; "            stream = {stream}"));
+            text.add_formatted(format!(in text.alloc; "            limit = {limit}"));
+        }
+    }
 }
 
 /// Appends the lines of the reason for closing a session, if there is one.

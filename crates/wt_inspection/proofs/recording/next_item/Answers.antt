@@ -18,8 +18,8 @@ returns-in-Datagram-clause-stage c =
 pub returns-in-Capsules-clause-stage : goal.returns-in-Capsules-clause-stage
 returns-in-Capsules-clause-stage c =
     ok_map _ _ c.next_capsule.result
-    (λ s h. other_leads next-is.Capsules (Ok c.args.next) c.args.reading.now.phase c.args.reading.now.phase c.args.at c.args.rest.now s.content s.after tt (ap (λ (x : Next). Ok x) c.in-Capsules.is) refl)
-    c.next_capsule.ensures.within
+    (λ s same. other_leads next-is.Capsules (Ok c.args.next) c.args.reading.now.phase c.next_capsule.new.reading.phase c.args.at c.args.rest.now s.content s.after tt (ap (λ (x : Next). Ok x) c.in-Capsules.is) same)
+    c.next_capsule.ensures.phase
 
 pub returns-in-Settings-clause-stage : goal.returns-in-Settings-clause-stage
 returns-in-Settings-clause-stage c =
@@ -36,3 +36,13 @@ returns-in-Section-clause-stage c =
 pub returns-in-Payload-clause-stage : goal.returns-in-Payload-clause-stage
 returns-in-Payload-clause-stage c =
     other_leads next-is.Payload (Ok c.args.next) c.args.reading.now.phase c.args.reading.now.phase c.args.at c.args.rest.now c.go_on.result.content c.go_on.result.after tt (ap (λ (x : Next). Ok x) c.in-Payload.is) refl
+
+pub returns-in-Encoder-clause-stage : goal.returns-in-Encoder-clause-stage
+returns-in-Encoder-clause-stage c =
+    ok_map _ _ c.next_insertion.result
+    (λ s h. other_leads next-is.Encoder (Ok c.args.next) c.args.reading.now.phase c.args.reading.now.phase c.args.at c.args.rest.now s.content s.after tt (ap (λ (x : Next). Ok x) c.in-Encoder.is) refl)
+    c.next_insertion.ensures.within
+
+pub returns-in-Decoder-clause-stage : goal.returns-in-Decoder-clause-stage
+returns-in-Decoder-clause-stage c =
+    other_leads next-is.Decoder (Ok c.args.next) c.args.reading.now.phase c.args.reading.now.phase c.args.at c.args.rest.now c.next_acknowledgment.result.content c.next_acknowledgment.result.after tt (ap (λ (x : Next). Ok x) c.in-Decoder.is) refl

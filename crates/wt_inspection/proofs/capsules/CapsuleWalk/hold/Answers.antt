@@ -6,7 +6,7 @@ use Rattle.wt_inspection.proofs.capsules.CapsuleWalk.hold.Goals as goal
 pub returns-in-More : goal.returns-in-More
 returns-in-More c = λ came h.
     let all : c.as_slice.result.now ≡ c.args.self.now.held.items ++ c.args.front.now = c.as_slice.ensures.value ∙ c.in_ok-extend_from_slice.ensures.items in
-    (holds_more c.args.self.now _ _ _ came c.args.front.now _ c.requires.none c.requires.fits c.requires.none c.in_ok-extend_from_slice.ensures.items (rw all at c.in-More.ensures.first) h, c.start_at-self.ensures ∙ begins_held c.args.self.now came c.args.place c.requires.none h)
+    (holds_more c.args.self.now _ _ _ _ came c.args.front.now _ c.requires.none c.requires.fits c.requires.none c.in_ok-extend_from_slice.ensures.items (rw all at c.in-More.ensures.first) h, c.start_at-self.ensures ∙ begins_held c.args.self.now came c.args.place c.requires.none h)
 
 pub returns-in-TooLong : goal.returns-in-TooLong
 returns-in-TooLong c = λ came h.
@@ -17,7 +17,7 @@ pub returns-in-Unknown : goal.returns-in-Unknown
 returns-in-Unknown c = λ came h.
     let all : c.as_slice.result.now ≡ c.args.self.now.held.items ++ c.args.front.now = c.as_slice.ensures.value ∙ c.in_ok-extend_from_slice.ensures.items in
     let begins : c.start_at-self.result ≡ begins_at came c.args.self.now.at c.args.place = c.start_at-self.ensures ∙ begins_held c.args.self.now came c.args.place c.requires.none h in
-    subst (λ (n : ℕ). Stepped n c.go_on.result c.go_on.new.self (came ++ c.args.front.now)) begins (c.go_on.ensures (came ++ c.args.front.now) c.clear.ensures.items (holds_unknown c.args.self.now _ came c.args.front.now c.in-Unknown.unknown c.requires.none c.requires.fits (rw all at c.in-Unknown.ensures.first) h))
+    subst (λ (n : ℕ). Stepped n c.go_on.result c.go_on.new.self (came ++ c.args.front.now)) begins (c.go_on.ensures (came ++ c.args.front.now) c.clear.ensures.items (holds_unknown c.args.self.now _ _ came c.args.front.now c.in-Unknown.unknown c.clear-in-Unknown.ensures.items c.requires.none c.requires.fits (rw all at c.in-Unknown.ensures.first) h))
 
 pub returns-in-Known : goal.returns-in-Known
 returns-in-Known c =

@@ -4,7 +4,7 @@ use Rattle.wt_inspection_model.specs.Names.{frame_name_of}
 use Rattle.wt_inspection_model.specs.declared.item.names.FrameName.TheVariants as name-is
 use Rattle.wt_inspection.proofs.WalkLemmas.{ok_map}
 use Rattle.wt_inspection.proofs.MessageLemmas.{headers_leads, quiet_leads}
-use Rattle.wt_inspection.proofs.frames.other_parts.Goals as goal
+use Rattle.wt_inspection.proofs.frames.contents.other_parts.Goals as goal
 
 pub returns-in-Read-Settings-clause-stage : goal.returns-in-Read-Settings-clause-stage
 returns-in-Read-Settings-clause-stage c =

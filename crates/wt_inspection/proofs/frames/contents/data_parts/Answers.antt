@@ -1,8 +1,8 @@
 use Rattle.std.proofs.Common.{refl}
 use Rattle.wt_inspection.specs.declared.reading.Phase.TheVariants.{Session}
 use Rattle.wt_inspection.proofs.WalkLemmas.{good_ends, bad_ends}
-use Rattle.wt_inspection.proofs.frames.data_parts.Goals.{in-Some, in-None}
-use Rattle.wt_inspection.proofs.frames.data_parts.Goals as goal
+use Rattle.wt_inspection.proofs.frames.contents.data_parts.Goals.{in-Some, in-None}
+use Rattle.wt_inspection.proofs.frames.contents.data_parts.Goals as goal
 
 pub returns-clause-stage : goal.returns-clause-stage
 returns-clause-stage c = λ stage h.

@@ -3,7 +3,7 @@ use Rattle.wt_inspection_model.specs.Names.{frame_name_of}
 use Rattle.wt_inspection.specs.Recording.{is_data}
 use Rattle.wt_inspection.proofs.WalkLemmas.{ok_map}
 use Rattle.wt_inspection.proofs.MessageLemmas.{data_has}
-use Rattle.wt_inspection.proofs.frames.parts_of.Goals as goal
+use Rattle.wt_inspection.proofs.frames.contents.parts_of.Goals as goal
 
 pub returns-then-is_data-clause-parts : goal.returns-then-is_data-clause-parts
 returns-then-is_data-clause-parts c =
