@@ -187,16 +187,16 @@ fn session_request(alloc: Global, url: &str) -> Result<FieldList, Error> {
 
 /// Returns the fields of a request with content.
 fn request(alloc: Global, path: &str) -> Result<FieldList, Error> {
-    let length = format!(in alloc; "{CONTENT}")?;
-    let list = FieldList::from_fields(
+    let mut list = FieldList::from_fields(
         alloc,
         &[
             (b":method", b"POST"),
             (b":scheme", b"https"),
             (b":authority", b"example.com"),
-            (b":path", path.as_bytes()),
-            (b"content-length", length.as_bytes()),
         ],
     )?;
+    list.append(b":path", path.as_bytes())?;
+    let length = format!(in alloc; "{CONTENT}")?;
+    list.push(b"content-length", length.as_bytes())?;
     Ok(list)
 }
