@@ -209,11 +209,14 @@ static STREAMS: [Row; 25] = [
         end: ("cut", 0),
     },
     Row {
-        case: "instructions of an encoder are not read",
+        case: "a capacity of 4096 (RFC 9204, section 4.3.1)",
         kind: Recorded::Uni,
         bytes: b"\x02\x3f\xe1\x1f",
         open: true,
-        items: &[(0, 1, "QPACK encoder"), (1, 3, "payload")],
+        items: &[
+            (0, 1, "QPACK encoder"),
+            (1, 3, "Set Dynamic Table Capacity"),
+        ],
         end: ("whole", 0),
     },
     Row {
