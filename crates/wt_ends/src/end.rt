@@ -23,7 +23,7 @@ pub struct Link {
     pub alloc: Global,
     pub connection: H3Connection,
     pub outgoing: Outgoing,
-    /// The open sessions whose streams were closed here, of which the application was not told.
+    /// Open sessions whose streams were closed here, to be reported to the application.
     lost: VecDeque<u64>,
 }
 

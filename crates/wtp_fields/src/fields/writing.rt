@@ -98,6 +98,9 @@ impl FieldList {
     /// request or a response have the pseudo-header fields first (RFC 9114, section 4.3). Whether a
     /// message may have these fields is checked where it is sent, by `wtp_sending`.
     ///
+    /// The texts of one array have one lifetime, or the prover does not cover the caller: add a field
+    /// whose text has another by [`append`](Self::append).
+    ///
     /// Returns [`AllocError`] if allocation fails.
     #[tactic(auto, using(std::proofs::lemmas::List::map_more))]
     pub fn from_fields(alloc: Global, fields: &[(&[u8], &[u8])]) -> Result<Self, AllocError>
