@@ -13,7 +13,7 @@ use wtp_core::error::Code;
 use wtp_qpack::qpack::DecodingError;
 
 /// The reason that a field section is refused.
-#[derive(Clone, Copy, Debug, Error)]
+#[derive(Clone, Copy, Debug, PartialEq, Eq, Error)]
 pub enum SectionError {
     /// The bytes end within an integer, a string or the section's prefix.
     #[error("section ends too early")]
@@ -45,7 +45,7 @@ pub enum SectionError {
 }
 
 /// The reason that an instruction of the encoder stream is refused.
-#[derive(Clone, Copy, Debug, Error)]
+#[derive(Clone, Copy, Debug, PartialEq, Eq, Error)]
 pub enum EncoderStreamError {
     /// An integer exceeds 2^64 - 1.
     #[error("integer overflow")]
@@ -77,7 +77,7 @@ pub enum EncoderStreamError {
 }
 
 /// The reason that an instruction of the decoder stream is refused.
-#[derive(Clone, Copy, Debug, Error)]
+#[derive(Clone, Copy, Debug, PartialEq, Eq, Error)]
 pub enum DecoderStreamError {
     /// An integer exceeds 2^64 - 1, or has more bytes than any up to that needs.
     #[error("integer overflow")]

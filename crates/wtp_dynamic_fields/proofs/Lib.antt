@@ -1,3 +1,4 @@
+pub mod AgainLemmas
 pub mod LineLemmas
 pub mod OpenLemmas
 pub mod StaticLines

@@ -11,13 +11,13 @@ use Rattle.wtp_dynamic.specs.Chain.{◌>>=◌, or_fault}
 use Rattle.wtp_dynamic.specs.Faults.{section_fault, of_section}
 use Rattle.wtp_dynamic.specs.Table.{Table, insert_count}
 use Rattle.wtp_dynamic.specs.InsertCount.{most_entries, count_of}
-use Rattle.wtp_dynamic.specs.Section.{Prefix, prefix_at, required_by, base_of}
+use Rattle.wtp_dynamic.specs.Section.{Prefix, prefix_at, required_by, base_of, is_blocked}
 use Rattle.wtp_dynamic.proofs.Chains.{memory_only}
 use Rattle.wtp_dynamic_decoder.specs.Decoder.{Decoder, IsOpened, Refuses}
 use Rattle.wtp_dynamic_fields.specs.declared.section.TableSectionError.{TableSectionError}
 use Rattle.wtp_dynamic_fields.specs.declared.section.TableSectionError.TheVariants.{Section, TooLarge, Memory}
 use Rattle.wtp_dynamic_fields.specs.Lists.{list_error, LinesGive}
-use Rattle.wtp_dynamic_fields.specs.Reading.{SectionGives}
+use Rattle.wtp_dynamic_fields.specs.Reading.{SectionGives, TableGives}
 
 -- ---- the fault of a prefix is not a failed allocation
 
@@ -97,3 +97,26 @@ refusal_given limit stream section old new error.TooManyBlocked refuses = refuse
 refusal_given limit stream section old new error.Memory (inl (same, is)) = absurd (prefix_not_memory old.table section is)
 refusal_given limit stream section old new error.Memory (inr (inl (named, many))) = cc named
 refusal_given limit stream section old new error.Memory (inr (inr (named, kept))) = inl kept
+
+-- ---- a table alone
+
+-- the prefix has a fault
+pub prefix_refused : (limit : ℕ) (table : Table) (section : List ℕ) (fault : SectionError) → prefix_at table section ≡ Err fault → TableGives limit table section (Err (list_error fault))
+prefix_refused limit table section error.UnexpectedEnd is = inl is
+prefix_refused limit table section error.IntegerOverflow is = inl is
+prefix_refused limit table section error.InvalidString is = inl is
+prefix_refused limit table section error.IndexNotFound is = inl is
+prefix_refused limit table section error.EntryNotFound is = inl is
+prefix_refused limit table section error.InvalidInsertCount is = inl is
+prefix_refused limit table section error.NegativeBase is = inl is
+prefix_refused limit table section error.TooManyBlocked is = inl is
+prefix_refused limit table section error.Memory is = absurd (prefix_not_memory table section is)
+
+-- the lines have an error
+lines_error : (limit : ℕ) (table : Table) (section : List ℕ) (prefix : Prefix) (e : TableSectionError) → prefix_at table section ≡ Ok prefix → is_blocked table prefix ≡ false → LinesGive limit table prefix (Err e) → TableGives limit table section (Err e)
+lines_error limit table section prefix (Section fault) is free give = inr (prefix.required, record { prefix = prefix; is = is; free = free; needs = refl; give = give })
+lines_error limit table section prefix TooLarge is free give = (prefix.required, record { prefix = prefix; is = is; free = free; needs = refl; give = give })
+lines_error limit table section prefix Memory is free give = (prefix.required, record { prefix = prefix; is = is; free = free; needs = refl; give = give })
+
+pub error_there : (limit : ℕ) (table : Table) (section : List ℕ) (prefix : Prefix) (lines : Prefix × List ℕ) (rest : List ℕ) (e : TableSectionError) → prefix_at table section ≡ Ok prefix → is_blocked table prefix ≡ false → lines ≡ (prefix, rest) → LinesGive limit table lines.0 (Err e) → TableGives limit table section (Err e)
+error_there limit table section prefix lines rest e is free same give = lines_error limit table section prefix e is free (subst (λ (x : Prefix × List ℕ). LinesGive limit table x.0 (Err e)) same give)

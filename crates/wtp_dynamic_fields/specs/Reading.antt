@@ -1,9 +1,10 @@
 -- What a decoder makes of a section of a stream (RFC 9204, sections 2.2 and 4.5).
-use Rattle.std.specs.Prelude.{◌≡◌, ◌⊎◌, ℕ, List, Result, Ok, Err}
+use Rattle.std.specs.Prelude.{◌≡◌, ◌⊎◌, ℕ, true, false, List, Result, Ok, Err}
 use Rattle.wtp_qpack.specs.Field.{Field}
 use Rattle.wtp_dynamic.specs.declared.error.SectionError.{SectionError}
 use Rattle.wtp_dynamic.specs.declared.error.SectionError.TheVariants as error
-use Rattle.wtp_dynamic.specs.Section.{Prefix, prefix_at}
+use Rattle.wtp_dynamic.specs.Table.{Table}
+use Rattle.wtp_dynamic.specs.Section.{Prefix, prefix_at, is_blocked}
 use Rattle.wtp_dynamic_decoder.specs.Decoder.{Decoder, IsOpened, IsWaiting, IsOneTooMany, IsNotKept}
 use Rattle.wtp_dynamic_fields.specs.declared.section.Decoded.{Decoded}
 use Rattle.wtp_dynamic_fields.specs.declared.section.Decoded.TheVariants.{Fields, Blocked}
@@ -47,3 +48,36 @@ SectionGives limit stream section old new (Err TooLarge) =
     HasError limit stream section old new TooLarge
 SectionGives limit stream section old new (Err Memory) =
     IsNotKept stream section old new ⊎ HasError limit stream section old new Memory
+
+-- ---- a table alone, which keeps no account of the streams that wait
+
+-- the section does not wait, and these are its lines
+pub record HasLinesIn (limit : ℕ) (table : Table) (section : List ℕ) (required : ℕ)
+    (lines : Result (List Field) TableSectionError) : Type 0 where
+  pub prefix : Prefix
+  pub is : prefix_at table section ≡ Ok prefix
+  pub free : is_blocked table prefix ≡ false
+  pub needs : required ≡ prefix.required
+  pub give : LinesGive limit table prefix lines
+
+-- the section needs so many insertions, and there were fewer (section 2.1.2)
+pub record IsBlockedIn (table : Table) (section : List ℕ) (required : ℕ) : Type 0 where
+  pub prefix : Prefix
+  pub is : prefix_at table section ≡ Ok prefix
+  pub needs : required ≡ prefix.required
+  pub blocked : is_blocked table prefix ≡ true
+
+abbrev pub HasErrorIn : ℕ → Table → List ℕ → TableSectionError → Type 0
+HasErrorIn limit table section e =
+    (required : ℕ) × HasLinesIn limit table section required (Err e)
+
+-- The result for a section: its fields and its count; how many insertions it needs; the error of its
+-- prefix or of its first faulty line; or refused memory for a line.
+abbrev pub TableGives : ℕ → Table → List ℕ → Result Decoded TableSectionError → Type 0
+TableGives limit table section (Ok (Fields list required)) =
+    HasLinesIn limit table section required (Ok list)
+TableGives limit table section (Ok (Blocked required)) = IsBlockedIn table section required
+TableGives limit table section (Err (Section fault)) =
+    (prefix_at table section ≡ Err fault) ⊎ HasErrorIn limit table section (Section fault)
+TableGives limit table section (Err TooLarge) = HasErrorIn limit table section TooLarge
+TableGives limit table section (Err Memory) = HasErrorIn limit table section Memory

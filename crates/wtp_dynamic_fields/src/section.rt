@@ -2,12 +2,13 @@
 ghost use Rattle.std.specs.Prelude.{◌≡◌, ◌≢◌, IfErr};
 ghost use Rattle.wtp_dynamic.specs.declared.error.SectionError.TheVariants as error;
 ghost use Rattle.wtp_dynamic_fields.specs.Lists.{list_error, list_code, LinesGive};
-ghost use Rattle.wtp_dynamic_fields.specs.Reading.{SectionGives};
+ghost use Rattle.wtp_dynamic_fields.specs.Reading.{SectionGives, TableGives};
 
 use std::alloc::{AllocError, Global};
 use thiserror::Error;
 use wtp_core::error::Code;
 use wtp_dynamic::error::SectionError;
+use wtp_dynamic::section;
 use wtp_dynamic::table::DynamicTable;
 use wtp_dynamic_decoder::decoder::{Opened, QpackDecoder};
 use wtp_dynamic_decoder::lines::{LineRoom, SectionLines};
@@ -116,6 +117,42 @@ pub fn decode(
         }
         Ok(Opened::Blocked(required)) => Ok(Decoded::Blocked(required)),
         Err(fault) => Err(TableSectionError::from(fault)),
+    }
+}
+
+/// Decodes a field section with a dynamic table, to its fields, in order. It is as [`decode`], but keeps
+/// no account of the streams that wait: the caller counts them (RFC 9204, section 2.1.2).
+///
+/// Returns [`Decoded::Blocked`] if the section needs more insertions than there were.
+///
+/// # Errors
+///
+/// [`TableSectionError::Section`] for an invalid prefix, and for the first line that cannot be decoded;
+/// [`TableSectionError::TooLarge`] if the size exceeds `limit` with a line before that; and
+/// [`TableSectionError::Memory`] only if allocation failed, at a line after valid ones that has a
+/// Huffman-encoded string, or that is valid and does not exceed the limit. The section can then be
+/// decoded again.
+pub fn decode_with_table(
+    alloc: Global,
+    table: &DynamicTable,
+    section: &[u8],
+    limit: u64,
+) -> Result<Decoded, TableSectionError>
+    ensures read { TableGives limit table.now section.now result }
+    ensures no_fault { IfErr result (λ e. e ≢ TableSectionError.Section error.Memory) }
+{
+    let prefix = match section::read_prefix(table, section) {
+        Ok(prefix) => prefix,
+        Err(fault) => return Err(TableSectionError::from(fault)),
+    };
+    if section::is_blocked(table, &prefix) {
+        return Ok(Decoded::Blocked(prefix.required));
+    }
+    let required = prefix.required;
+    let lines = SectionLines::new(prefix);
+    match read_lines(alloc, table, lines, section.len(), limit) {
+        Ok(list) => Ok(Decoded::Fields(list, required)),
+        Err(fault) => Err(fault),
     }
 }
 
