@@ -2,7 +2,8 @@
 
 It is written from RFC 9114, RFC 9204 and draft-ietf-webtrans-http3-02 and shares no code with the
 program. A section is one of RFC 9114. What field sections contain is not judged; which of them are
-those of interim responses is said by their number. The own settings allow no dynamic table.
+those of interim responses is said by their number. The own settings allow no dynamic table, unless a
+model says otherwise.
 """
 
 from dataclasses import dataclass
@@ -98,6 +99,9 @@ class Model:
     session, of those for which it is known, and how many of its sections are those of interim
     responses."""
 
+    # Whether the own settings allow a dynamic table.
+    has_table = False
+
     def __init__(self, side, content, fin, states, interims=0):
         self.side, self.content, self.fin, self.states = side, content, fin, states
         self.interims = interims
@@ -142,7 +146,7 @@ class Model:
         self.events.append(("opened", self.at, self.purpose))
         if self.purpose == "control":
             return self.control()
-        if self.purpose == "encoder" and self.content[self.at :].strip(b"\x20"):
+        if self.purpose == "encoder" and not self.has_table and self.content[self.at :].strip(b"\x20"):
             return self.fault(0x201)
         if self.purpose == "decoder" and decoder_fault(self.content[self.at :]):
             return self.fault(0x202)

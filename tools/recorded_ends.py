@@ -16,10 +16,12 @@ FRAMES = {"GoAway": "GOAWAY", "Http2": "HTTP2", "WebTransport": "WEBTRANSPORT"}
 
 
 class RecordedEnds(RecordedSessions):
-    """A recorded connection in one direction, which comes to an end of our own."""
+    """A recorded connection in one direction, which comes to an end of our own. That allows a dynamic
+    table of this capacity."""
 
-    def __init__(self, connection):
+    def __init__(self, connection, table=0):
         super().__init__(connection)
+        self.table = table
         self.streams = [stream for stream in self.streams if self.can_be_asked(stream)]
         # (A stream of ours in a session whose own stream is not in the recording is never opened.)
         there = {stream.stream for stream in self.streams}
@@ -41,7 +43,7 @@ class RecordedEnds(RecordedSessions):
         0."""
         first, *lines = super().script(rng, size).splitlines(keepends=True)
         count = sum(line.startswith(("request ", "session ")) for line in lines)
-        head, lines = [f"{first.split()[0]}\n", *lines[:count]], lines[count:]
+        head, lines = [f"{first.split()[0]} {self.table}\n", *lines[:count]], lines[count:]
         if self.added is not None:
             head.append(f"bytes {self.added} {OF_SERVER}\n")
         elif not self.side.is_server and "session" in self.asked.values():
@@ -68,7 +70,7 @@ class RecordedEnds(RecordedSessions):
             return None
         other = Connection(self.name)
         other.streams, other.datagrams = part.streams, part.datagrams
-        return RecordedEnds(other)
+        return RecordedEnds(other, self.table)
 
     def fault(self, found):
         """Returns what is wrong with what was found."""

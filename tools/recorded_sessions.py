@@ -24,6 +24,9 @@ def sections_in(said):
 class RecordedSessions:
     """A recorded connection in one direction."""
 
+    # The capacity of the dynamic table that its receiver allows.
+    table = 0
+
     def __init__(self, connection):
         self.name, self.streams = connection.name, connection.streams
         self.datagrams = connection.datagrams
@@ -61,11 +64,11 @@ class RecordedSessions:
 
         def fields_of(payload):
             # (one that refers to a dynamic table, RFC 9204, section 4.5.1)
-            return None if payload[0] else next(sections)
+            return None if payload[0] and not self.table else next(sections)
 
         around = Surroundings(bool(self.settings), self.allows(), answers=self.answers)
         around.states = {stream.session: decision} if stream.session is not None else {}
-        around.fields_of = fields_of
+        around.fields_of, around.has_table = fields_of, bool(self.table)
         fin, asked = stream.ended == "fin", self.asked.get(stream.stream)
         events, _ = session_events(
             self.side, stream.stream, stream.content, fin, around, stream.opened, asked

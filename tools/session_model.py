@@ -28,7 +28,8 @@ MESSAGE, UNDECODABLE, UNEXPECTED = 0x10E, 0x200, 0x105
 class Surroundings:
     """What the events of a stream depend on beside its bytes: whether the settings of the peer
     came, and allow sessions; the answers to requests by their streams; what became of the sessions
-    of streams; and what a section's payload has: its fields, or None if it cannot be decoded."""
+    of streams; what a section's payload has: its fields, or None if it cannot be decoded; and whether
+    the own settings allow a dynamic table."""
 
     settings: bool = False
     allows: bool = False
@@ -36,6 +37,7 @@ class Surroundings:
     answers: dict = field(default_factory=dict)
     states: dict = field(default_factory=dict)
     fields_of: object = None
+    has_table: bool = False
 
 
 class SessionModel(Model):
@@ -44,6 +46,7 @@ class SessionModel(Model):
     def __init__(self, side, stream, content, fin, around, asked=None):
         super().__init__(side, content, fin, around.states)
         self.stream, self.around, self.asked = stream, around, asked
+        self.has_table = around.has_table
         # How far the message is: it has no header section yet, then content may come, then nothing
         # more; or it is a tunnel, or a session.
         self.stage, self.length, self.interim_count = "head", None, 0

@@ -3,6 +3,8 @@
 #![tactic(auto)]
 
 #[cfg(test)]
+mod dynamic;
+#[cfg(test)]
 mod early;
 #[cfg(test)]
 mod errors;

@@ -16,3 +16,5 @@ mod peers;
 mod playing;
 #[cfg(test)]
 mod sessions;
+#[cfg(test)]
+mod tables;

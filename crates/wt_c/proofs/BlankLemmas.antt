@@ -102,7 +102,7 @@ is_blank w t are s sound e = same_words t (blank s) (sound_of t.capsules w.words
 pub without_stream : (w : WtStream) → ((t : Stream) → IsSound t.capsules → ¬ (AreWordsOf t (blank_words w.words) [])) → IsWithoutStream w
 without_stream w none s sound e = none (blank s) (sound_blank s.capsules) (record { words_are = words_blank s ∙ ap (λ (v : WtStream). blank_words v.words) e; held_are = none_held s.capsules })
 
-pub without_zeros : (w : WtStream) → ¬ (w.reserved ≡ replicate 4 0) → IsWithoutStream w
+pub without_zeros : (w : WtStream) → ¬ (w.reserved ≡ replicate 3 0) → IsWithoutStream w
 without_zeros w other s sound e = other (sym (ap (λ (v : WtStream). v.reserved) e))
 
 -- ---- changes
@@ -162,7 +162,7 @@ restores w s t u e kept is =
     rw (is, ← e) (ap (λ (x : CapsuleWords). stream_struct t x) (restored_place s.capsules t.capsules kept))
   where
     stream_struct : Stream → CapsuleWords → WtStream
-    stream_struct v x = record { words = record (stream_words v) { capsules = x }; reserved = replicate 4 0 }
+    stream_struct v x = record { words = record (stream_words v) { capsules = x }; reserved = replicate 3 0 }
 
 held_after : (o p : Option Place) → (p ≡ o) ⊎ (p ≡ None) → (held_in p ≡ held_in o) ⊎ (held_in p ≡ [])
 held_after o p (inl e) = inl (ap held_in e)

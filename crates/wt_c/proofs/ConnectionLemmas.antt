@@ -18,10 +18,10 @@ no_zeros w other c e = other (sym (ap (λ (v : WtConnection). v.reserved) e))
 pub no_stream : (w : WtStream) (held : List ℕ) → ((s : Stream) → IsSound s.capsules → ¬ (AreWordsOf s w.words (held_by w held))) → IsNoStream w held
 no_stream w held none = inr (λ s sound has. none s sound (record { words_are = ap (λ (v : WtStream). v.words) has.words_are; held_are = has.held_are }))
 
-pub no_stream_zeros : (w : WtStream) (held : List ℕ) → ¬ (w.reserved ≡ replicate 4 0) → IsNoStream w held
+pub no_stream_zeros : (w : WtStream) (held : List ℕ) → ¬ (w.reserved ≡ replicate 3 0) → IsNoStream w held
 no_stream_zeros w held other = inr (λ s sound has. other (sym (ap (λ (v : WtStream). v.reserved) has.words_are)))
 
-pub one_stream : (s : Stream) (w : WtStream) (held : List ℕ) → w.reserved ≡ replicate 4 0 → AreWordsOf s w.words (held_by w held) → HasStream s w held
+pub one_stream : (s : Stream) (w : WtStream) (held : List ℕ) → w.reserved ≡ replicate 3 0 → AreWordsOf s w.words (held_by w held) → HasStream s w held
 one_stream s w held zeros are = record { words_are = rw (are.words_are, zeros) refl; held_are = are.held_are }
 
 -- what is put in front of an array are the bytes that are held

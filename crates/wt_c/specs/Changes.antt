@@ -35,5 +35,5 @@ restored old s = record {
   words = record (stream_words s) {
     capsules = restored_capsules old.words.capsules (stream_words s).capsules;
   };
-  reserved = replicate 4 0;
+  reserved = replicate 3 0;
 }

@@ -11,7 +11,7 @@ use Rattle.wtp_webtransport.specs.declared.event.HeadersKind.{HeadersKind}
 use Rattle.wtp_webtransport.specs.declared.event.HeadersKind.TheVariants as headers
 use Rattle.wtp_webtransport.specs.declared.event.Waits.{Waits as Wait}
 use Rattle.wtp_webtransport.specs.declared.event.Waits.TheVariants as wait
-use Rattle.wtp_webtransport.specs.Events.{Told, Opened, Joins, Joined, Settings, GoAway, Frame, Headers, SessionRequested, SessionReady, Rejected, SessionClosed, SessionLost, Datagram, Draining, Skipped, Data, StreamData, TooLarge, Malformed, StreamError, ConnectionError, Reset, End, NoMemory, Waits, More}
+use Rattle.wtp_webtransport.specs.Events.{Told, Inserted, Opened, Joins, Joined, Settings, GoAway, Frame, Headers, SessionRequested, SessionReady, Rejected, SessionClosed, SessionLost, Datagram, Draining, Skipped, Data, StreamData, TooLarge, Malformed, StreamError, ConnectionError, Reset, End, NoMemory, Waits, More}
 use Rattle.wtp_webtransport.specs.Fault.{code_of}
 use Rattle.wt_c.specs.Fields.{texts_size, capped}
 use Rattle.wt_c.specs.declared.connections.events.WtEvent.{WtEvent}
@@ -71,15 +71,17 @@ rule_number rule.MissingHead = 24
 rule_number rule.ContentTooLong = 25
 rule_number rule.ContentTooShort = 26
 
--- what a stream waits for, and the session
+-- what a stream waits for, and the session, or how many insertions
 abbrev pub wait_number : Option Wait → ℕ
 wait_number None = 0
 wait_number (Some (wait.Session id)) = 1
 wait_number (Some wait.Settings) = 2
 wait_number (Some wait.Answer) = 3
+wait_number (Some (wait.Table required)) = 4
 
 abbrev pub wait_session : Option Wait → ℕ
 wait_session (Some (wait.Session id)) = id
+wait_session (Some (wait.Table required)) = required
 wait_session other = 0
 
 -- ---- events
@@ -140,6 +142,7 @@ c_event (Reset (Some f)) end = plain 23 1 (code_of f)
 c_event (Reset None) end = plain 23 0 0
 c_event End end = plain 24 0 0
 c_event NoMemory end = plain 25 0 0
+c_event (Inserted count) end = plain 26 0 count
 
 -- ---- what an event has beside its bytes in the input
 

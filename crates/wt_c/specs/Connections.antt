@@ -66,7 +66,7 @@ pub record Says (result : ℤ) (w : WtConnection) (test : Connection → Bool) :
 -- ---- streams
 
 abbrev pub stream_with : Stream → WtStream
-stream_with s = record { words = stream_words s; reserved = replicate 4 0 }
+stream_with s = record { words = stream_words s; reserved = replicate 3 0 }
 
 -- the bytes that are held, of an array of the caller: those of a capsule that is cut
 abbrev pub held_by : WtStream → List ℕ → List ℕ

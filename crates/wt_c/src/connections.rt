@@ -1,9 +1,10 @@
 //! Connections: their states in structs of the caller, and what is next on each stream. The calls
 //! are those of the crate `wtp_webtransport`.
-ghost use Rattle.std.specs.Prelude.{◌≡◌, ◌≢◌, ◌⊎◌, ◌==◌, ◌≤◌, not, MatchOption, MatchBool, replicate};
+ghost use Rattle.std.specs.Prelude.{◌≡◌, ◌≢◌, ◌⊎◌, ◌==◌, ◌≤◌, not, IfSome, MatchOption, MatchBool, replicate};
 ghost use Rattle.wtp_webtransport.specs.declared.connection.Connection.{Connection};
 ghost use Rattle.wtp_webtransport.specs.Sessions.{allows_sessions};
 ghost use Rattle.wtp_webtransport.specs.Streams.{connection_of, is_unprocessed_by};
+ghost use Rattle.wtp_webtransport.specs.Words.{without_table};
 ghost use Rattle.wt_c.specs.Connections.{side_with, endpoint_of, IsEndpoint, connection_with, with_connection, HasConnection, IsNoConnection, Says};
 
 pub mod beside;
@@ -90,9 +91,17 @@ impl WtConnection {
     }
 
     // Returns the connection, or `None` if no connection has this struct.
-    #[tactic(auto, using(crate::proofs::ConnectionLemmas::no_words, crate::proofs::ConnectionLemmas::no_zeros))]
     pub(crate) fn connection(&self) -> Option<Connection>
         ensures { MatchOption result (IsNoConnection self.now) (λ c. HasConnection c self.now) }
+    {
+        self.static_connection()
+    }
+
+    // Returns the same, which has no dynamic table.
+    #[tactic(auto, using(crate::proofs::ConnectionLemmas::no_words, crate::proofs::ConnectionLemmas::no_zeros))]
+    pub(crate) fn static_connection(&self) -> Option<Connection>
+        ensures is { MatchOption result (IsNoConnection self.now) (λ c. HasConnection c self.now) }
+        ensures alone { IfSome result (λ c. without_table c ≡ c) }
     {
         if self.reserved != [0; 5] {
             return None;

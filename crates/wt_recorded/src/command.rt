@@ -11,8 +11,8 @@ const LIMIT: u64 = 65_536;
 /// A line of a script.
 #[derive(Drop)]
 pub enum Command {
-    /// Begins an end of this side.
-    Begin(Side),
+    /// Begins an end of this side, which allows a dynamic table of this capacity.
+    Begin(Side, u32),
     /// Sends a request with these fields on the stream with this ID, once the peer allows it.
     Request(u64, FieldList),
     /// Opens the stream with this ID for a session, once that is open.
@@ -36,8 +36,8 @@ impl Command {
     pub fn parse(alloc: Global, line: &str) -> Result<Command> {
         let (name, rest) = first_word(line);
         match name {
-            "server" => Ok(Command::Begin(Side::Server)),
-            "client" => Ok(Command::Begin(Side::Client)),
+            "server" => begin(Side::Server, rest),
+            "client" => begin(Side::Client, rest),
             "bytes" => bytes(alloc, rest, false),
             "end" => bytes(alloc, rest, true),
             "request" => request(alloc, rest),
@@ -61,6 +61,12 @@ fn first_word(line: &str) -> (&str, &str) {
 /// Reads an ID.
 fn number(word: &str) -> Result<u64> {
     word.parse::<u64>().context("no number")
+}
+
+/// Reads the capacity of the dynamic table that an end of this side allows.
+fn begin(side: Side, rest: &str) -> Result<Command> {
+    let table = rest.parse::<u32>().context("no capacity")?;
+    Ok(Command::Begin(side, table))
 }
 
 /// Reads bytes.

@@ -25,10 +25,13 @@ impl Lines {
         }
     }
 
-    /// Appends the line of an event of a stream, after which this is the offset in the stream. `Skipped`, `Waits`
-    /// and `More` have none.
+    /// Appends the line of an event of a stream, after which this is the offset in the stream. `Skipped`, `Inserted`,
+    /// `Waits` and `More` have none.
     pub fn add(&mut self, id: u64, at: u64, event: &Event<'_>) -> Result<(), AllocError> {
-        if matches!(event, Event::Skipped | Event::Waits(_) | Event::More) {
+        if matches!(
+            event,
+            Event::Skipped | Event::Inserted(_) | Event::Waits(_) | Event::More
+        ) {
             return Ok(());
         }
         write!(self.text, "{id} {at} ")?;
@@ -173,6 +176,7 @@ pub fn wait_name(waits: Option<Waits>) -> &'static str {
         Some(Waits::Settings) => "settings",
         Some(Waits::Answer) => "answer",
         Some(Waits::Session(_)) => "session",
+        Some(Waits::Table(_)) => "table",
         None => "bytes",
     }
 }

@@ -4,7 +4,8 @@
 //!
 //! A line of a script is a command, and numbers are decimal:
 //!
-//! - `server`, `client`: begins an end of this side, whose SETTINGS enable WebTransport.
+//! - `server TABLE`, `client TABLE`: begins an end of this side, whose SETTINGS enable WebTransport and allow a
+//!   dynamic table of this capacity, for which any number of streams may wait.
 //! - `request ID HEX`: sends a request with this field section on a stream, as soon as the peer allows it. Until
 //!   then nothing of the stream is read.
 //! - `session ID SESSION`: opens a stream of this session, as soon as the session is open.
@@ -15,7 +16,7 @@
 //! - `datagram HEX`: a QUIC datagram came.
 //!
 //! In the output a line `connection` begins a connection. The others are those of the program `wt_replay` for
-//! messages and sessions, with frames named as in `wtp_frames`. `joins` is left out where a stream is refused at
+//! messages and sessions, with frames named as in `wtp_frames`. Insertions into the table have none. `joins` is left out where a stream is refused at
 //! once. `ID OFFSET refused WHY` says that something was not sent.
 #![tactic(auto)]
 
@@ -34,19 +35,19 @@ use wtp_frames::endpoint::Side;
 fn main(rt: HostRuntime) -> Result<()> {
     let alloc = rt.alloc();
     let mut output = rt.stdout();
-    let mut player = Player::new(alloc, Side::Server, Lines::new(alloc))?;
+    let mut player = Player::new(alloc, Side::Server, 0, Lines::new(alloc))?;
     for line in BufReader::new(alloc, rt.reader())?.lines(alloc) {
         let line = line?;
         let command = Command::parse(alloc, line.as_str()).context(format_args!(
             "in the line {line:?}"
         ))?;
-        if let Command::Begin(side) = command {
+        if let Command::Begin(side, table) = command {
             player.finish()?;
             let mut lines = mem::replace(&mut player.lines, Lines::new(alloc));
             output.write_all(lines.text.as_bytes())?;
             lines.text.clear();
             lines.text.push_str("connection\n")?;
-            player = Player::new(alloc, side, lines)?;
+            player = Player::new(alloc, side, table, lines)?;
         } else {
             player.run(command)?;
         }

@@ -92,11 +92,14 @@ pub struct Player {
 
 impl Player {
     /// Creates an end, which sends its SETTINGS.
-    pub fn new(alloc: Global, side: Side, lines: Lines) -> Result<Self, Error> {
+    pub fn new(alloc: Global, side: Side, table: u32, lines: Lines) -> Result<Self, Error> {
         let mut endpoint = Endpoint::new(side);
         endpoint.webtransport = true;
         endpoint.datagrams = true;
-        let mut connection = H3Connection::new(alloc, endpoint, true, Limits::new());
+        let mut limits = Limits::new();
+        limits.max_table = table;
+        limits.max_blocked = u32::MAX;
+        let mut connection = H3Connection::new(alloc, endpoint, true, limits);
         let settings = Settings::builder(alloc)
             .enable_connect_protocol()?
             .enable_h3_datagrams()?
@@ -118,7 +121,7 @@ impl Player {
     /// Runs a command, and appends the lines of its events.
     pub fn run(&mut self, command: Command) -> Result<(), Error> {
         match command {
-            Command::Begin(_) => {}
+            Command::Begin(_, _) => {}
             Command::Request(id, list) => self.insert(id, Before::Request(list))?,
             Command::Open(id, session) => self.insert(id, Before::Open(session))?,
             Command::Bytes(id, bytes, fin) => self.receive(id, bytes.as_slice(), fin)?,
@@ -208,15 +211,27 @@ impl Player {
             received.event,
             Event::More | Event::Waits(_) | Event::NoMemory
         );
+        let is_over = stream.is_over;
         let consumed = received.consumed;
         drop(received);
         stream.consume(consumed);
+        self.tell(id, is_over)?;
         if is_last {
             return Ok(false);
         }
         self.answer(id)?;
         self.open_some()?;
         Ok(true)
+    }
+
+    /// Tells the encoder of the peer what was read of its table, or that a stream is over.
+    fn tell(&mut self, id: u64, is_over: bool) -> Result<(), Error> {
+        self.connection.acknowledge(id, &mut self.out)?;
+        self.connection.increment(&mut self.out)?;
+        if is_over {
+            self.connection.cancel(id, &mut self.out)?;
+        }
+        Ok(())
     }
 
     /// Tells the streams that wait, and those whose session is over, what an event means for them.

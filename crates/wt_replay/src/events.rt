@@ -202,6 +202,7 @@ pub fn add_left(
         Some(Waits::Settings) => "settings",
         Some(Waits::Answer) => "answer",
         Some(Waits::Session(_)) => "session",
+        Some(Waits::Table(_)) => "table",
         None => "bytes",
     };
     writeln!(out, "{id} {at} left {left} {why}")

@@ -136,7 +136,11 @@ impl Application for Actor {
             Event::Reset(fault) => self.hear_reset(link, id, fault),
             Event::StreamError(fault) => self.hear_refusal(link, id, fault.code()),
             Event::Waits(Waits::Session(session)) => self.hear_early(id, session),
-            Event::Opened(_) | Event::Waits(_) | Event::Skipped | Event::More => Ok(()),
+            Event::Opened(_)
+            | Event::Inserted(_)
+            | Event::Waits(_)
+            | Event::Skipped
+            | Event::More => Ok(()),
             Event::ConnectionError(fault) => Err(fault.into()),
             Event::NoMemory => Err(Error::Memory),
             Event::Joins(_)

@@ -1,5 +1,6 @@
 -- How many streams wait after a call on one.
 use Rattle.std.proofs.Common.{◌≡◌, ℕ, ◌+◌, ◌-◌, ◌≤◌, ◌&&◌, ◌||◌, not, Bool, true, false, cond, ◌==◌, nat_lt, List, length, Option, Some, None, Result, Ok, Err, refl, sym, ap, subst, ◌∙◌, arith}
+use Rattle.std.specs.Prelude.{MatchResult}
 use Rattle.wtp_core.specs.Varint.{number_at}
 use Rattle.wtp_core.specs.declared.error.scope.ErrorScope.{ErrorScope}
 use Rattle.wtp_core.specs.declared.error.scope.ErrorScope.TheVariants as scope
@@ -30,6 +31,13 @@ use Rattle.wtp_messages.specs.Request.{is_connect, asks_for_session}
 use Rattle.wtp_messages.specs.Response.{is_success}
 use Rattle.wtp_wire.specs.declared.capsule.CapsuleError.TheVariants as capsule_error
 use Rattle.wtp_wire.specs.CloseSession.{close_in}
+use Rattle.wtp_dynamic.specs.declared.error.EncoderStreamError.{EncoderStreamError}
+use Rattle.wtp_dynamic.specs.Table.{insert_count}
+use Rattle.wtp_dynamic_decoder.specs.Decoder.{Decoder}
+use Rattle.wtp_dynamic_fields.specs.declared.section.Decoded.{Decoded}
+use Rattle.wtp_dynamic_fields.specs.declared.section.Decoded.TheVariants as decoded
+use Rattle.wtp_dynamic_fields.specs.declared.section.TableSectionError.{TableSectionError}
+use Rattle.wtp_dynamic_fields.specs.declared.section.TableSectionError.TheVariants as table_error
 use Rattle.wtp_webtransport.specs.declared.capsules.CapsuleType.{CapsuleType}
 use Rattle.wtp_webtransport.specs.declared.capsules.CapsuleType.TheVariants as capsule
 use Rattle.wtp_webtransport.specs.Capsules.{Place, Found as Capsules}
@@ -41,11 +49,13 @@ use Rattle.wtp_webtransport.specs.declared.stream.Part.{Part}
 use Rattle.wtp_webtransport.specs.declared.stream.Part.TheVariants as part
 use Rattle.wtp_webtransport.specs.declared.stream.Unread.{Unread}
 use Rattle.wtp_webtransport.specs.declared.stream.Unread.TheVariants as unread
+use Rattle.wtp_webtransport.specs.Events.{Told, Inserted, Waits}
 use Rattle.wtp_webtransport.specs.Fault.{scope_of}
 use Rattle.wtp_webtransport.specs.Prefix.{names_table}
 use Rattle.wtp_webtransport.specs.Sessions.{asks_by, asks_connect, asks_session, allows_sessions}
 use Rattle.wtp_webtransport.specs.Streams.{with_streams, with_frames, connects, due_by, content_due, spoiled_if, GivesNext}
-use Rattle.wtp_webtransport.specs.Receiving.{Outcome, closed_in, fails, goaway_in, in_stream, leaves, malformed, spoiled, found_opened, content_by, closed_if, complete, capsule_found, CapsulesGive, ContentBy, DataBy, ends_by, SessionEndGives, Between, Within, EndBy, too_large_by, interim_by, request_by, response_in, takes, taken_of, ResultGives, PrefixGives, span_in, SectionBy, FoundGives, UnreadBy, GoesOn, DueGives, StreamGives, ReceivesIf, Receives}
+use Rattle.wtp_webtransport.specs.Receiving.{Outcome, closed_in, fails, goaway_in, in_stream, leaves, malformed, spoiled, found_opened, content_by, closed_if, complete, capsule_found, CapsulesGive, ContentBy, DataBy, ends_by, SessionEndGives, Between, Within, EndBy, too_large_by, interim_by, request_by, response_in, takes, taken_of, ResultGives, PrefixGives, span_in, SectionBy, FoundGives, UnreadBy, GoesOn, DueGives, StreamGives, ReceivesIf, read_after, noted, OverGives, TableGives}
+use Rattle.wtp_webtransport.specs.Tables.{with_decoder, instructed, CallBy, Call}
 use Rattle.wtp_streams.specs.Table.{places}
 use Rattle.wtp_streams.proofs.RunLemmas.{WaitsAs, found_waits, interim_counts, abandon_counts, connected_places}
 
@@ -248,12 +258,42 @@ result_keeps (Err section_error.Memory) c s m start end bytes o g = at c s o _ g
 result_keeps (Err (section_error.Decoding x)) c s m start end bytes o g =
     at c s o _ g (fails_keeps c c s s (fault.Section x) (length bytes) (λ h. refl))
 
+-- a section that was read changes nothing of the streams
+noted_streams : (t : Told) (required : ℕ) (c : Connection) → (read_after t required c).streams ≡ c.streams
+noted_streams (Waits why) required c = refl
+noted_streams t required c = refl
+
+noted_keeps : (c : Connection) (s : Stream) (required : ℕ) (p : Outcome) → Keeps c s p → Keeps c s (noted required p)
+noted_keeps c s required p k h =
+    ap (λ (x : Streams). x.waiting + places s.frames) (noted_streams p.1 required p.2) ∙ k h
+
+over_keeps : (r : Result Decoded TableSectionError) (c : Connection) (s : Stream) (m : Message)
+    (start end : ℕ) (bytes : List ℕ) (o : Outcome)
+    → OverGives c s m (span_in start end bytes) r o
+    → Keeps c s o
+over_keeps (Ok (decoded.Fields fields required)) c s m start end bytes o (p, gives, e) =
+    at c s o (noted required p) e
+    (noted_keeps c s required p (result_keeps (Ok fields) c s m start end bytes p gives))
+over_keeps (Ok (decoded.Blocked required)) c s m start end bytes o g = at c s o _ g (λ h. refl)
+over_keeps (Err table_error.TooLarge) c s m start end bytes o g =
+    at c s o _ g (too_large_keeps s.part c s None end)
+over_keeps (Err table_error.Memory) c s m start end bytes o g = at c s o _ g (λ h. refl)
+over_keeps (Err (table_error.Section x)) c s m start end bytes o g =
+    at c s o _ g (fails_keeps c c s s (fault.TableSection x) (length bytes) (λ h. refl))
+
+table_keeps : (d : Option Decoder) (limit : ℕ) (c : Connection) (s : Stream) (m : Message) (start end : ℕ)
+    (bytes : List ℕ) (o : Outcome)
+    → TableGives d limit c s m (span_in start end bytes) bytes o
+    → Keeps c s o
+table_keeps None limit c s m start end bytes o g =
+    at c s o _ g (fails_keeps c c s s fault.SectionPrefix (length bytes) (λ h. refl))
+table_keeps (Some d) limit c s m start end bytes o g = over_keeps g.0 c s m start end bytes o g.2
+
 prefix_keeps : (names : Bool) (limit : ℕ) (c : Connection) (s : Stream) (m : Message) (start end : ℕ)
     (bytes : List ℕ) (o : Outcome)
     → PrefixGives names limit c s m (span_in start end bytes) bytes o
     → Keeps c s o
-prefix_keeps true limit c s m start end bytes o g =
-    at c s o _ g (fails_keeps c c s s fault.SectionPrefix (length bytes) (λ h. refl))
+prefix_keeps true limit c s m start end bytes o g = table_keeps c.decoder limit c s m start end bytes o g
 prefix_keeps false limit c s m start end bytes o g = result_keeps g.0 c s m start end bytes o g.2
 
 section_keeps : (p : Part) (limit : ℕ) (c : Connection) (s : Stream) (start end : ℕ) (bytes : List ℕ) (o : Outcome)
@@ -344,7 +384,7 @@ unread_keeps false limit c s size bytes o g =
 stream_keeps : (u : Unread) (limit : ℕ) (c : Connection) (s : Stream) (bytes : List ℕ) (fin : Bool) (o : Outcome)
     → StreamGives u limit c s bytes fin o
     → Keeps c s o
-stream_keeps (unread.Early size) limit c s bytes fin o g =
+stream_keeps (unread.Early size why) limit c s bytes fin o g =
     unread_keeps (nat_lt (length bytes) size) limit c s size bytes o g
 stream_keeps (unread.Section size) limit c s bytes fin o g =
     unread_keeps (nat_lt (length bytes) size) limit c s size bytes o g
@@ -357,7 +397,24 @@ receives_keeps : (b : Bool) (limit : ℕ) (c : Connection) (s : Stream) (bytes :
 receives_keeps true limit c s bytes fin o g = at c s o _ g (λ h. refl)
 receives_keeps false limit c s bytes fin o g = stream_keeps s.unread limit c s bytes fin o g
 
+instructed_keeps : (r : Result (Unit {0}) EncoderStreamError) (c : Connection) (e : Decoder) (s : Stream)
+    (bytes : List ℕ) (o : Outcome)
+    → MatchResult r
+    (λ _. o ≡ (length bytes, Inserted (insert_count e.table), with_decoder c e, s))
+    (λ f. o ≡ fails (with_decoder c e) s (fault.Instructions f) (length bytes))
+    → Keeps c s o
+instructed_keeps (Ok u) c e s bytes o g = at c s o _ g (λ h. refl)
+instructed_keeps (Err f) c e s bytes o g =
+    at c s o _ g (fails_keeps c (with_decoder c e) s s (fault.Instructions f) (length bytes) (λ h. refl))
+
+call_keeps : (d : Option Decoder) (limit : ℕ) (c : Connection) (s : Stream) (bytes : List ℕ) (fin : Bool)
+    (o : Outcome)
+    → CallBy d limit c s bytes fin o
+    → Keeps c s o
+call_keeps None limit c s bytes fin o g = receives_keeps c.over limit c s bytes fin o g
+call_keeps (Some d) limit c s bytes fin o (e, r, read, g) = instructed_keeps r c e s bytes o g
+
 pub receive_balances : (limit : ℕ) (c : Connection) (s : Stream) (bytes : List ℕ) (fin : Bool) (o : Outcome)
-    → Receives limit c s bytes fin o
+    → Call limit c s bytes fin o
     → Balances c s o.2 o.3
-receive_balances limit c s bytes fin o g = receives_keeps c.over limit c s bytes fin o g
+receive_balances limit c s bytes fin o g = call_keeps (instructed c s bytes) limit c s bytes fin o g

@@ -11,12 +11,12 @@ use Rattle.wtp_webtransport.specs.declared.connection.Connection.{Connection}
 use Rattle.wtp_webtransport.specs.declared.stream.Stream.{Stream}
 use Rattle.wtp_webtransport.specs.declared.event.Waits.{Waits as Wait}
 use Rattle.wtp_webtransport.specs.declared.event.Waits.TheVariants as wait
-use Rattle.wtp_webtransport.specs.Events.{Told, Joins, SessionRequested}
+use Rattle.wtp_webtransport.specs.Events.{Told, Joins, SessionRequested, Waits}
 use Rattle.wtp_webtransport.specs.Streams.{accepted}
 use Rattle.wtp_webtransport.specs.Joining.{Outcome as Joining, rejects}
 use Rattle.wtp_streams.specs.declared.entry.Entry.{Entry}
-use Rattle.wtp_streams.specs.Table.{Table, entry_at, IsLeft, has_too_many, unpaused_by, named_by}
-use Rattle.wtp_streams.specs.Calls.{puts_by, accepts_by, accepts_in, left_by, Result, join_by, join_in, rejects_in, rejected_with, requested_if, then_joined, joined_if, NextBy, ReadsIn, wait_of, ReceivesBy, ReceivesIn, forgets_by, forgets_in, call_by, call_in, awaits_answer, answered_by, answers_if, answers_in, cut_by, cuts_in}
+use Rattle.wtp_streams.specs.Table.{Table, entry_at, IsLeft, has_too_many, has_too_many_blocked, unpaused_by, named_by}
+use Rattle.wtp_streams.specs.Calls.{puts_by, accepts_by, accepts_in, left_by, Result, join_by, join_in, rejects_in, rejected_with, requested_if, blocked_if, then_joined, joined_if, NextBy, ReadsIn, wait_of, ReceivesBy, ReceivesIn, forgets_by, forgets_in, call_by, call_in, awaits_answer, answered_by, answers_if, answers_in, cut_by, cuts_in}
 
 -- ---- entries
 
@@ -139,10 +139,16 @@ requested_left true told t id n len =
     (called_left (λ c s. rejects c s id (Some id)) (entry_at t id) t id)
 requested_left false told t id n len = λ k d. refl
 
+blocked_left : (b : Bool) (told : Told) (t : Table) (id n len : ℕ) → IsLeft id t (blocked_if b told t n len).1
+blocked_left true told t id n len = λ k d. refl
+blocked_left false told t id n len = λ k d. refl
+
 then_left : (told : Told) (t : Table) (id n len : ℕ) → IsLeft id t (then_joined told t id n len).1
 then_left (Joins session) t id n len = joined_left (entry_at t id) t id session n len
 then_left (SessionRequested fields) t id n len =
     requested_left (has_too_many t) (SessionRequested fields) t id n len
+then_left (Waits (wait.Table required)) t id n len =
+    blocked_left (has_too_many_blocked t) (Waits (wait.Table required)) t id n len
 then_left _ t id n len = λ k d. refl
 
 if_left : (x : Option (ℕ × Told)) (t : Table) (id len : ℕ) → IsLeft id t (joined_if x t id len).1

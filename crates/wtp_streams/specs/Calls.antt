@@ -1,6 +1,6 @@
 -- What the calls of a table are: those of a connection on the stream with this ID (RFC 9114, sections 4.1.1,
 -- 5.2 and 6; draft-ietf-webtrans-http3-02, sections 4 and 5; RFC 9297, section 2.1).
-use Rattle.std.specs.Prelude.{◌≡◌, ◌≢◌, ℕ, ◌<◌, ◌^◌, ◌||◌, Bool, true, false, List, Option, Some, None, length}
+use Rattle.std.specs.Prelude.{◌≡◌, ◌≢◌, ℕ, ◌<◌, ◌^◌, ◌||◌, Bool, true, false, List, Option, Some, None, length, Result as Answer, MatchResult}
 use Rattle.std.specs.Ordering.{nat_cmp}
 use Rattle.std.specs.Map.{remove_entry}
 use Rattle.std.specs.BTreeMap.{is_at}
@@ -16,12 +16,15 @@ use Rattle.wtp_webtransport.specs.declared.connection.Connection.{Connection}
 use Rattle.wtp_webtransport.specs.declared.stream.Stream.{Stream}
 use Rattle.wtp_webtransport.specs.declared.event.Waits.{Waits as Wait}
 use Rattle.wtp_webtransport.specs.declared.event.Waits.TheVariants as wait
-use Rattle.wtp_webtransport.specs.Events.{Told, Joins, SessionRequested}
+use Rattle.wtp_webtransport.specs.Events.{Told, Joins, SessionRequested, Waits}
 use Rattle.wtp_webtransport.specs.Streams.{accepted, request_stream, session_stream, answered, waits_for, IsOfSession}
-use Rattle.wtp_webtransport.specs.Receiving.{Outcome, Receives}
+use Rattle.wtp_webtransport.specs.Receiving.{Outcome}
+use Rattle.wtp_webtransport.specs.Tables.{Call, too_many_blocked}
+use Rattle.wtp_dynamic.specs.declared.acknowledgment.Acknowledgment.{Acknowledgment}
+use Rattle.wtp_dynamic_decoder.specs.Decoder.{told as with_told}
 use Rattle.wtp_webtransport.specs.Joining.{Outcome as Joining, joins, resets, stops_half, abandons, overflows, rejects, stops}
 use Rattle.wtp_streams.specs.declared.entry.Entry.{Entry}
-use Rattle.wtp_streams.specs.Table.{Table, entry_at, with_entry, with_new, with_connection, entry_of, is_settings, after_event, joined_len, known_in, has_too_many}
+use Rattle.wtp_streams.specs.Table.{Table, entry_at, with_entry, with_new, with_connection, entry_of, is_settings, after_event, joined_len, known_in, has_too_many, has_too_many_blocked}
 
 -- ---- registering
 
@@ -111,11 +114,25 @@ requested_if false told t id n len = (Some (n, told), t)
 abbrev pub requested_in : Told → Table → ℕ → ℕ → ℕ → Result
 requested_in told t id n len = requested_if (has_too_many t) told t id n len
 
+-- with one more stream that waits for the dynamic table than may, the connection ends (RFC 9204, section
+-- 2.1.2)
+abbrev pub ended_with : ℕ → Told × Connection → Table → Result
+ended_with len x t = (Some (len, x.0), with_connection t x.1)
+
+abbrev pub blocked_if : Bool → Told → Table → ℕ → ℕ → Result
+blocked_if true told t n len = ended_with len (too_many_blocked t.connection) t
+blocked_if false told t n len = (Some (n, told), t)
+
+abbrev pub blocked_in : Told → Table → ℕ → ℕ → Result
+blocked_in told t n len = blocked_if (has_too_many_blocked t) told t n len
+
 -- a stream that belongs to a session is joined with it at once
 abbrev pub then_joined : Told → Table → ℕ → ℕ → ℕ → Result
 then_joined (Joins session) t id n len = join_in t id session n len
 then_joined (SessionRequested fields) t id n len =
     requested_in (SessionRequested fields) t id n len
+then_joined (Waits (wait.Table required)) t id n len =
+    blocked_in (Waits (wait.Table required)) t n len
 then_joined told t id n len = (Some (n, told), t)
 
 abbrev pub joined_if : Option (ℕ × Told) → Table → ℕ → ℕ → Result
@@ -129,7 +146,7 @@ next_of t id e o = (Some (o.0, o.1), outcome_in t id e o.1 o.2 o.3)
 abbrev pub NextBy : Option Entry → Table → ℕ → List ℕ → Bool → Result → Type 0
 NextBy None t id bytes fin r = r ≡ (None, t)
 NextBy (Some e) t id bytes fin r =
-    (o : Outcome) × Receives t.limit t.connection e.stream bytes fin o × (r ≡ next_of t id e o)
+    (o : Outcome) × Call t.limit t.connection e.stream bytes fin o × (r ≡ next_of t id e o)
 
 abbrev pub NextIn : Table → ℕ → List ℕ → Bool → Result → Type 0
 NextIn t id bytes fin r = NextBy (entry_at t id) t id bytes fin r
@@ -173,6 +190,18 @@ forgets_by (Some e) t id = forgotten t id e (abandons t.connection e.stream)
 
 abbrev pub forgets_in : Table → ℕ → Option Told × Table
 forgets_in t id = forgets_by (entry_at t id) t id
+
+-- ---- the own decoder stream
+
+-- the instruction that is due, if there is one, was appended to bytes, and this is the connection then; or
+-- one is due and allocation failed, and nothing changed
+abbrev pub SaysIn : {E : Type 0} → Option Acknowledgment → Connection → (old new : Table)
+    → (before after : List ℕ) → Answer (Unit {0}) E → Type 0
+SaysIn due made old new before after result =
+    MatchResult result
+    (λ _. (new ≡ with_connection old made) × (after ≡ with_told before due))
+    (λ _. (instruction : Acknowledgment) × (due ≡ Some instruction) × (new ≡ old)
+    × (after ≡ before))
 
 -- ---- streams that end before their last byte
 

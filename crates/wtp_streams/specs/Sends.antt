@@ -1,6 +1,6 @@
 -- What the calls of a connection send: what `wtp_sending` may send at the own half of the stream with this ID, and
 -- nothing else changes (RFC 9114, sections 4.1, 5.2 and 6.2.1; draft-ietf-webtrans-http3-02, sections 4 and 5).
-use Rattle.std.specs.Prelude.{◌≡◌, ℕ, ◌^◌, ◌-◌, nat_lt, Bool, true, false, not, ◌&&◌, ◌||◌, is_some, if◌then◌else◌, List, [], Option, Some, None, Result, Ok, Err, is_err}
+use Rattle.std.specs.Prelude.{◌≡◌, ℕ, ◌^◌, ◌-◌, nat_lt, Bool, true, false, not, ◌&&◌, ◌||◌, is_some, if◌then◌else◌, List, [], Option, Some, None, Result, Ok, Err, MatchResult, is_err}
 use Rattle.std.specs.Ordering.{nat_cmp}
 use Rattle.std.specs.Map.{remove_entry}
 use Rattle.std.specs.BTreeMap.{is_at, insert_entry}
@@ -35,8 +35,23 @@ use Rattle.wtp_streams.specs.declared.h3.half.Half.TheVariants.{Idle, Asked as A
 use Rattle.wtp_streams.specs.declared.h3.refused.Refused.{Refused}
 use Rattle.wtp_streams.specs.declared.h3.refused.Refused.TheVariants.{Over, NoStream, StreamExists, InvalidId, GoAway, SettingsMissing, SessionNotOpen, Send}
 use Rattle.wtp_streams.specs.Table.{Table, entry_at, known_in, first_cut, with_connection}
+use Rattle.wtp_dynamic.specs.declared.acknowledgment.Acknowledgment.{Acknowledgment}
+use Rattle.wtp_webtransport.specs.declared.connection.Connection.{Connection}
+use Rattle.wtp_dynamic_decoder.specs.Decoder.{told as with_told}
 use Rattle.wtp_streams.specs.Calls.{asks_session, accepts_in, opens_in, answers_in, abandons_in, resets_in, stops_in, stopped_in, cuts_in, awaited_in, unawaited, ReceivesIn}
 use Rattle.wtp_streams.specs.Ends.{Ends, half_at, opened_at, with_half, with_new_half, without_half, with_table, is_request, is_own, peer_in, asked_of, is_extended, noted_if, is_open, first_opened}
+
+-- ---- the own decoder stream
+
+-- the instruction that is due, if there is one, was appended to bytes, and this is what came then; or one is
+-- due and allocation failed, and nothing changed
+abbrev pub SaysAt : {E : Type 0} → Option Acknowledgment → Connection → (old new : Ends)
+    → (before after : List ℕ) → Result (Unit {0}) E → Type 0
+SaysAt due made old new before after result =
+    MatchResult result
+    (λ _. (new ≡ with_table old (with_connection old.table made)) × (after ≡ with_told before due))
+    (λ _. (instruction : Acknowledgment) × (due ≡ Some instruction) × (new ≡ old)
+    × (after ≡ before))
 
 -- ---- an own half
 

@@ -1,5 +1,5 @@
 -- A connection with its streams, by their IDs (RFC 9000, section 2.1).
-use Rattle.std.specs.Prelude.{◌≡◌, ◌≢◌, ℕ, ◌&&◌, not, Bool, true, false, List, [], Option, Some, None, option_map, sum_by, count_by, nat_lt}
+use Rattle.std.specs.Prelude.{◌≡◌, ◌≢◌, ℕ, ◌==◌, ◌&&◌, not, if◌then◌else◌, Bool, true, false, List, [], Option, Some, None, option_map, sum_by, count_by, nat_lt, nat_le}
 use Rattle.std.specs.Ordering.{nat_cmp}
 use Rattle.std.specs.List.{find}
 use Rattle.std.specs.Map.{lookup, set_value, values_of}
@@ -19,18 +19,23 @@ use Rattle.wtp_webtransport.specs.declared.event.Waits.TheVariants as wait
 use Rattle.wtp_webtransport.specs.Events.{Told, Joined, Settings, Headers, SessionRequested, StreamError, Waits}
 use Rattle.wtp_webtransport.specs.Sessions.{known_of}
 use Rattle.wtp_webtransport.specs.Streams.{connection_of, waits_for}
+use Rattle.wtp_webtransport.specs.Tables.{inserts_of}
+use Rattle.wtp_dynamic.specs.Table.{empty_table}
+use Rattle.wtp_dynamic_decoder.specs.Decoder.{Decoder, Runs}
 use Rattle.wtp_streams.specs.declared.entry.Entry.{Entry}
 use Rattle.wtp_streams.specs.declared.limits.Limits.{Limits}
 use Rattle.wtp_streams.specs.declared.streams.Streams.{Streams}
 
 -- what the streams have in common, the streams in the order of their IDs, the limit of a decoded field
--- section, whether SETTINGS of the peer came, and how many sessions there may be at once
+-- section, whether SETTINGS of the peer came, how many sessions there may be at once, and how many streams
+-- may wait for the dynamic table
 pub record Table : Type 0 where
   pub connection : Connection
   pub entries : List (ℕ × Entry)
   pub limit : ℕ
   pub configured : Bool
   pub max_sessions : ℕ
+  pub max_blocked : ℕ
 
 abbrev pub table_of : Streams → Table
 table_of t = record {
@@ -39,16 +44,33 @@ table_of t = record {
   limit = t.fields.limit;
   configured = t.configured;
   max_sessions = t.max_sessions;
+  max_blocked = t.max_blocked;
 }
+
+-- the dynamic table that limits allow, without entries, if it may have some
+abbrev pub decoder_for : Limits → Option Decoder
+decoder_for limits =
+    if limits.max_table == 0 then None else Some (record {
+      table = empty_table limits.max_table;
+      progress = Runs [];
+      known = 0;
+      waiting = [];
+      most = limits.max_blocked;
+    })
+
+abbrev pub with_decoder_of : Limits → Connection → Connection
+with_decoder_of limits c = record c { decoder = decoder_for limits }
 
 -- one without streams
 abbrev pub table_for : Endpoint → Bool → Limits → Table
 table_for e extended limits = record {
-  connection = connection_of (record e { max_section = limits.max_section }) extended;
+  connection = with_decoder_of limits
+      (connection_of (record e { max_section = limits.max_section }) extended);
   entries = [];
   limit = limits.max_fields;
   configured = false;
   max_sessions = limits.max_sessions;
+  max_blocked = limits.max_blocked;
 }
 
 -- the stream with this ID
@@ -177,6 +199,23 @@ is_past t None = true
 is_past t (Some wait.Settings) = t.configured
 is_past t (Some wait.Answer) = false
 is_past t (Some (wait.Session id)) = not (is_coming (known_in t id))
+is_past t (Some (wait.Table required)) = nat_le required (inserts_of t.connection.decoder)
+
+-- a stream waits for more insertions than there were (RFC 9204, section 2.1.2)
+abbrev pub blocked_by : ℕ → Option Wait → Bool
+blocked_by count (Some (wait.Table required)) = nat_lt count required
+blocked_by count w = false
+
+abbrev pub is_blocked : Table → Entry → Bool
+is_blocked t e = blocked_by (inserts_of t.connection.decoder) (waits_for e.stream)
+
+-- how many of these streams do
+abbrev pub blocked_of : Table → List (ℕ × Entry) → ℕ
+blocked_of t es = count_by (λ (e : ℕ × Entry). is_blocked t e.1) es
+
+-- there are more than may wait at once
+abbrev pub has_too_many_blocked : Table → Bool
+has_too_many_blocked t = nat_lt t.max_blocked (blocked_of t t.entries)
 
 -- a stream that waited is to be read again
 abbrev pub is_ready : Table → Entry → Bool

@@ -12,6 +12,7 @@ pub(crate) mod mark;
 mod messages;
 pub mod refused;
 mod sessions;
+mod table;
 
 use crate::h3::half::{Half, session_id};
 use crate::h3::mark::{Mark, mark_of};

@@ -2,7 +2,7 @@
 ghost use Rattle.std.specs.Prelude.{◌≡◌};
 
 /// What the user of a connection bounds: the largest field sections, in two measures (RFC 9114, section
-/// 4.2.2), the sessions at once, and the requests that a client gives up.
+/// 4.2.2), the sessions at once, the requests that a client gives up, and the dynamic table of QPACK.
 ///
 /// Other bounds are fixed: 16 streams wait for their sessions, and more are rejected; a datagram in a capsule
 /// has at most 65,535 bytes, and a larger one is dropped; SETTINGS have at most 4,096 bytes, and a message at
@@ -23,17 +23,28 @@ pub struct Limits {
     /// or asks to stop their responses. One more ends the connection with H3_EXCESSIVE_LOAD (RFC 9114,
     /// sections 4.1.1 and 10.5), as [`RequestBudget`](wtp_connection::budget::RequestBudget) says.
     pub max_resets: u64,
+    /// The largest capacity of the dynamic table that the peer's encoder may fill, in bytes. With 0 it may
+    /// not refer to one. The own SETTINGS announce the same as SETTINGS_QPACK_MAX_TABLE_CAPACITY (RFC 9204,
+    /// section 3.2.3).
+    pub max_table: u32,
+    /// How many streams may wait for insertions into that table; one more ends the connection with
+    /// QPACK_DECOMPRESSION_FAILED. The own SETTINGS announce the same as SETTINGS_QPACK_BLOCKED_STREAMS (RFC
+    /// 9204, section 2.1.2).
+    pub max_blocked: u32,
 }
 
 impl Limits {
     /// Creates the limits of 65,536 bytes in both measures, of 100 sessions, as many as the requests that a
-    /// server should permit at once (RFC 9114, section 6.1), and of as many requests that are given up.
+    /// server should permit at once (RFC 9114, section 6.1), and of as many requests that are given up,
+    /// without a dynamic table.
     pub fn new() -> Self
         ensures { result ≡ record {
           max_section = 65536;
           max_fields = 65536;
           max_sessions = 100;
           max_resets = 100;
+          max_table = 0;
+          max_blocked = 0;
         } }
     {
         Limits {
@@ -41,6 +52,8 @@ impl Limits {
             max_fields: 65_536,
             max_sessions: 100,
             max_resets: 100,
+            max_table: 0,
+            max_blocked: 0,
         }
     }
 }

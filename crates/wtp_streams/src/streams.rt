@@ -7,6 +7,7 @@ ghost use Rattle.wtp_streams.specs.Calls.{puts_in, accepts_in, opens_in, belongs
 mod endings;
 mod sending;
 pub mod sessions;
+mod table;
 
 use crate::entry::{Entry, is_settings, joined_len};
 use crate::limits::Limits;
@@ -14,6 +15,7 @@ use std::alloc::{AllocError, Global};
 use std::collections::BTreeMap;
 use wtp_connection::connection::Known;
 use wtp_connection::settings::PeerSettings;
+use wtp_dynamic_decoder::decoder::QpackDecoder;
 use wtp_frames::endpoint::Endpoint;
 use wtp_messages::response::Asked;
 use wtp_webtransport::connection::Connection;
@@ -33,6 +35,8 @@ pub struct Streams {
     configured: bool,
     /// How many sessions there may be at once.
     max_sessions: u64,
+    /// How many streams may wait for the dynamic table.
+    max_blocked: u64,
     /// The streams.
     table: BTreeMap<u64, Entry>,
 }
@@ -46,11 +50,17 @@ impl Streams {
     {
         let mut endpoint = endpoint;
         endpoint.max_section = limits.max_section;
+        let mut connection = Connection::new(endpoint, extended);
+        if limits.max_table > 0 {
+            let most = u64::from(limits.max_blocked);
+            connection.allow_table(QpackDecoder::new(alloc, u64::from(limits.max_table), most));
+        }
         Streams {
-            connection: Connection::new(endpoint, extended),
+            connection,
             fields: Fields::new(alloc, limits.max_fields),
             configured: false,
             max_sessions: limits.max_sessions,
+            max_blocked: u64::from(limits.max_blocked),
             table: BTreeMap::new(alloc),
         }
     }
@@ -133,6 +143,10 @@ impl Streams {
     /// [`Limits::max_sessions`](crate::limits::Limits): in place of [`Event::SessionRequested`] it returns
     /// what [`reject`](Self::reject) returns after GOAWAY, `StreamError` with H3_REQUEST_REJECTED. The stream
     /// is over then. To count the sessions it looks at all streams, at such a request alone.
+    ///
+    /// If more streams wait for the dynamic table than [`Limits::max_blocked`](crate::limits::Limits), it
+    /// returns `ConnectionError` with QPACK_DECOMPRESSION_FAILED in place of `Waits`, with all bytes. After
+    /// each event that has fields call [`acknowledge`](Self::acknowledge).
     pub fn receive<'a>(&mut self, id: u64, bytes: &'a [u8], fin: bool) -> Option<Received<'a>>
         ensures { ReceivesIn (table_of self.old) id bytes.now fin
             (option_map (λ r. (r.consumed, told_of r.event)) result, table_of self.new) }
@@ -162,6 +176,7 @@ impl Streams {
         match received.event {
             Event::Joins(session) => self.join(id, session, received.consumed, bytes.len()),
             Event::SessionRequested(_) => self.requested(id, received, bytes.len()),
+            Event::Waits(Waits::Table(_)) => self.blocked(received, bytes.len()),
             _ => Some(received),
         }
     }
@@ -230,7 +245,7 @@ impl Streams {
 impl Streams {
     /// Returns a stream whose wait is over: its bytes, which were not consumed, are to be passed again.
     /// Each such stream is returned once, the one with the lowest ID first. Call it until `None` after
-    /// SETTINGS and answers, and after each event but a piece of data: it looks at all streams.
+    /// SETTINGS, insertions and answers, and after each event but a piece of data: it looks at all streams.
     pub fn next_to_read(&mut self) -> Option<u64>
         ensures id { result ≡ first_ready_is (table_of self.old) }
         ensures named { table_of self.new ≡ named_by (table_of self.old) result }
@@ -272,6 +287,7 @@ impl Streams {
             Some(Waits::Settings) => self.configured,
             Some(Waits::Answer) => false,
             Some(Waits::Session(session)) => !is_coming(self.known(session)),
+            Some(Waits::Table(required)) => required <= self.connection.insert_count(),
         }
     }
 

@@ -23,12 +23,18 @@ use Rattle.wtp_connection.specs.Opening.{uni_at, bi_at}
 use Rattle.wtp_connection.specs.Streams.{Joined, tells_interim, rests, of_frames}
 use Rattle.wtp_connection.specs.First.{first_intact, first_opening}
 use Rattle.wtp_connection.proofs.FirstLemmas.{first_open, first_over}
+use Rattle.wtp_dynamic_decoder.specs.Decoder.{Decoder}
+use Rattle.wtp_dynamic_fields.specs.declared.section.Decoded.{Decoded}
+use Rattle.wtp_dynamic_fields.specs.declared.section.Decoded.TheVariants as decoded
+use Rattle.wtp_dynamic_fields.specs.declared.section.TableSectionError.{TableSectionError}
+use Rattle.wtp_dynamic_fields.specs.declared.section.TableSectionError.TheVariants as table_error
+use Rattle.wtp_webtransport.specs.declared.stream.Delay.{Delay}
+use Rattle.wtp_webtransport.specs.declared.stream.Delay.TheVariants as delay
 use Rattle.wtp_webtransport.specs.declared.connection.messages.Taken.{Taken}
 use Rattle.wtp_webtransport.specs.declared.connection.messages.Taken.TheVariants as taken
 use Rattle.wtp_webtransport.specs.declared.connection.messages.Asks.{Asks}
 use Rattle.wtp_webtransport.specs.declared.connection.messages.Asks.TheVariants as asks
 use Rattle.wtp_webtransport.specs.declared.connection.messages.Span.{Span}
-use Rattle.wtp_webtransport.specs.declared.event.Waits.TheVariants as wait
 use Rattle.wtp_webtransport.specs.declared.fault.Fault.TheVariants as fault
 use Rattle.wtp_webtransport.specs.Fault.{scope_of}
 use Rattle.wtp_webtransport.specs.Prefix.{names_table}
@@ -48,9 +54,9 @@ use Rattle.wtp_webtransport.specs.declared.stream.Unread.{Unread}
 use Rattle.wtp_webtransport.specs.declared.stream.Unread.TheVariants as unread
 use Rattle.wtp_webtransport.specs.declared.stream.Due.{Due}
 use Rattle.wtp_webtransport.specs.declared.stream.Due.TheVariants as due
-use Rattle.wtp_webtransport.specs.Events.{Frame, End, SessionLost, Waits, More}
+use Rattle.wtp_webtransport.specs.Events.{Frame, End, SessionLost, More}
 use Rattle.wtp_webtransport.specs.Streams.{with_streams, with_frames, spoiled_if, due_by}
-use Rattle.wtp_webtransport.specs.Receiving.{Outcome, closed_in, failed_by, fails, spoiled, last, too_large_by, too_large, interim_by, request_by, response_in, in_connection, takes, taken_of, ResultGives, PrefixGives, span_in, SectionBy, FoundGives, UnreadBy, GoesOn, DueGives, StreamGives, ReceivesIf, Receives}
+use Rattle.wtp_webtransport.specs.Receiving.{Outcome, closed_in, failed_by, fails, spoiled, last, too_large_by, too_large, interim_by, request_by, response_in, in_connection, takes, taken_of, ResultGives, PrefixGives, span_in, SectionBy, FoundGives, UnreadBy, GoesOn, DueGives, StreamGives, ReceivesIf, Receives, early, noted, OverGives, TableGives}
 use Rattle.wtp_webtransport.specs.Calls.{Stops, Finishes, Continues, course_of, plain, moved, IsSession, HasMemory}
 use Rattle.wtp_webtransport.proofs.FoundLemmas.{found_from, found_is, found_at, shifted, Has, found_moved, section_moved}
 
@@ -160,7 +166,7 @@ due_again due.Lost limit c s bytes fin o q e ns v w h g = fixed_again (length by
 due_again due.Nothing limit c s bytes fin o q e ns v w h g = goes_again limit c s bytes fin o q ns v w h g
 
 stream_again : (x : Unread) (limit : ℕ) (c : Connection) (s : Stream) (bytes : List ℕ) (fin : Bool) (o q : Outcome) → (IsSession s.part → ⊥) → HasMemory o → HasMemory q → StreamGives x limit c s bytes fin o → StreamGives x limit c s bytes fin q → plain q ≡ moved 0 (length bytes) o
-stream_again (unread.Early size) limit c s bytes fin o q ns v w h g = unread_again (nat_lt (length bytes) size) limit c s size bytes o q v w h g
+stream_again (unread.Early size why) limit c s bytes fin o q ns v w h g = unread_again (nat_lt (length bytes) size) limit c s size bytes o q v w h g
 stream_again (unread.Section size) limit c s bytes fin o q ns v w h g = unread_again (nat_lt (length bytes) size) limit c s size bytes o q v w h g
 stream_again unread.Nothing limit c s bytes fin o q ns v w h g = due_again (due_by s.part (length bytes == 0)) limit c s bytes fin o q refl ns v w h g
 
@@ -173,10 +179,10 @@ over_again false limit c s bytes fin o q ns v w h g = stream_again s.unread limi
 pub receives_again : (limit : ℕ) (c : Connection) (s : Stream) (bytes : List ℕ) (fin : Bool) (o q : Outcome) → (IsSession s.part → ⊥) → HasMemory o → HasMemory q → Receives limit c s bytes fin o → Receives limit c s bytes fin q → plain q ≡ moved 0 (length bytes) o
 receives_again limit c s bytes fin o q ns v w h g = over_again c.over limit c s bytes fin o q ns v w h g
 
--- ---- a section that waits for the settings of the peer
+-- ---- a section that waits for the settings of the peer, or for the dynamic table
 
-abbrev pub early : Connection → Stream → Span → Outcome
-early c s at = (at.start, Waits wait.Settings, c, record s { unread = unread.Early (at.end - at.start) })
+abbrev pub IsEarly : Connection → Stream → Span → Outcome → Type 0
+IsEarly c s at o = (why : Delay) × (o ≡ early c s at why)
 
 -- an event with which the caller does not stop
 pub goes_not : (o u : Outcome) → o ≡ u → course_of u.1 ≡ Continues → course_of o.1 ≡ Stops → ⊥
@@ -192,23 +198,23 @@ closed_ends other len c s f = refl
 pub fails_ends : (len : ℕ) (c : Connection) (s : Stream) (f : Fault) → course_of (fails c s f len).1 ≡ Finishes
 fails_ends len c s f = closed_ends (scope_of f) len c s f
 
-request_stops : (a : Asks) (c : Connection) (s : Stream) (m : Message) (fields : List Field) (at : Span) → course_of (request_by a c s m fields at).1 ≡ Stops → request_by a c s m fields at ≡ early c s at
+request_stops : (a : Asks) (c : Connection) (s : Stream) (m : Message) (fields : List Field) (at : Span) → course_of (request_by a c s m fields at).1 ≡ Stops → request_by a c s m fields at ≡ early c s at delay.Settings
 request_stops asks.Plain c s m fields at e = absurd (cc e)
 request_stops asks.Tunnel c s m fields at e = absurd (cc e)
 request_stops asks.TooEarly c s m fields at e = refl
 request_stops asks.Session c s m fields at e = absurd (cc e)
 
-interim_stops : (j : Joined) (c : Connection) (s : Stream) (status : ℕ) (fields : List Field) (at : Span) → course_of (interim_by c s status fields at j).1 ≡ Stops → interim_by c s status fields at j ≡ early c s at
+interim_stops : (j : Joined) (c : Connection) (s : Stream) (status : ℕ) (fields : List Field) (at : Span) → course_of (interim_by c s status fields at j).1 ≡ Stops → interim_by c s status fields at j ≡ early c s at delay.Settings
 interim_stops (d, t, None) c s status fields at e = absurd (cc e)
 interim_stops (d, t, Some f) c s status fields at e = absurd (cc (sym (fails_ends at.len (with_streams c d) (with_frames s t) (fault.Streams f)) ∙ e))
 
-response_stops : (a : Option Asked) (success : Bool) (c : Connection) (s : Stream) (m : Message) (status : ℕ) (fields : List Field) (at : Span) → course_of (in_connection c (response_in a success s m status fields at)).1 ≡ Stops → in_connection c (response_in a success s m status fields at) ≡ early c s at
+response_stops : (a : Option Asked) (success : Bool) (c : Connection) (s : Stream) (m : Message) (status : ℕ) (fields : List Field) (at : Span) → course_of (in_connection c (response_in a success s m status fields at)).1 ≡ Stops → in_connection c (response_in a success s m status fields at) ≡ early c s at delay.Settings
 response_stops (Some asked.Session) true c s m status fields at e = absurd (cc e)
 response_stops (Some asked.Session) false c s m status fields at e = absurd (cc e)
 response_stops (Some asked.Connect) true c s m status fields at e = absurd (cc e)
 response_stops a success c s m status fields at e = absurd (cc e)
 
-takes_stops : (t : Taken) (c : Connection) (s : Stream) (m : Message) (fields : List Field) (at : Span) → course_of (takes c s m fields at t).1 ≡ Stops → takes c s m fields at t ≡ early c s at
+takes_stops : (t : Taken) (c : Connection) (s : Stream) (m : Message) (fields : List Field) (at : Span) → course_of (takes c s m fields at t).1 ≡ Stops → takes c s m fields at t ≡ early c s at delay.Settings
 takes_stops taken.Request c s m fields at e = request_stops (asks_of c fields) c s m fields at e
 takes_stops (taken.Interim status) c s m fields at e = interim_stops (tells_interim c.streams s.frames) c s status fields at e
 takes_stops (taken.Response status) c s m fields at e = response_stops s.asked (is_success (Some status)) c s m status fields at e
@@ -219,17 +225,31 @@ pub too_large_goes : (p : Part) (n : ℕ) (c : Connection) (s : Stream) (size : 
 too_large_goes (part.Head m) n c s size = refl
 too_large_goes other n c s size = refl
 
-result_stops : (r : Result (List Field) FieldSectionError) (c : Connection) (s : Stream) (m : Message) (at : Span) (o : Outcome) → ResultGives c s m at r o → course_of o.1 ≡ Stops → o ≡ early c s at
+result_stops : (r : Result (List Field) FieldSectionError) (c : Connection) (s : Stream) (m : Message) (at : Span) (o : Outcome) → ResultGives c s m at r o → course_of o.1 ≡ Stops → o ≡ early c s at delay.Settings
 result_stops (Ok fields) c s m at o (x, n, comes, is) e = is ∙ takes_stops (taken_of x) c s n fields at (ap (λ (z : Outcome). course_of z.1) (sym is) ∙ e)
 result_stops (Err section_error.TooLarge) c s m at o g e = absurd (goes_not o (too_large c s None at.end) g (too_large_goes s.part at.end c s None) e)
 result_stops (Err section_error.Memory) c s m at o g e = absurd (cc (ap (λ (z : Outcome). course_of z.1) (sym g) ∙ e))
 result_stops (Err (section_error.Decoding x)) c s m at o g e = absurd (ends_not o (fails c s (fault.Section x) at.len) g (fails_ends at.len c s (fault.Section x)) e)
 
-prefix_stops : (b : Bool) (limit : ℕ) (c : Connection) (s : Stream) (m : Message) (at : Span) (bytes : List ℕ) (o : Outcome) → PrefixGives b limit c s m at bytes o → course_of o.1 ≡ Stops → o ≡ early c s at
-prefix_stops true limit c s m at bytes o g e = absurd (ends_not o (fails c s fault.SectionPrefix at.len) g (fails_ends at.len c s fault.SectionPrefix) e)
-prefix_stops false limit c s m at bytes o (r, decodes, gives) e = result_stops r c s m at o gives e
+-- that a section was read is not noted of one that waits
+over_stops : (r : Result Decoded TableSectionError) (c : Connection) (s : Stream) (m : Message) (at : Span) (o : Outcome) → OverGives c s m at r o → course_of o.1 ≡ Stops → IsEarly c s at o
+over_stops (Ok (decoded.Fields fields required)) c s m at o (p, gives, is) e =
+    let early_is : p ≡ early c s at delay.Settings = result_stops (Ok fields) c s m at p gives (sym (ap (λ (z : Outcome). course_of z.1) is) ∙ e) in
+    (delay.Settings, is ∙ ap (λ (z : Outcome). noted required z) early_is)
+over_stops (Ok (decoded.Blocked required)) c s m at o g e = (delay.Table required, g)
+over_stops (Err table_error.TooLarge) c s m at o g e = absurd (goes_not o (too_large c s None at.end) g (too_large_goes s.part at.end c s None) e)
+over_stops (Err table_error.Memory) c s m at o g e = absurd (cc (ap (λ (z : Outcome). course_of z.1) (sym g) ∙ e))
+over_stops (Err (table_error.Section x)) c s m at o g e = absurd (ends_not o (fails c s (fault.TableSection x) at.len) g (fails_ends at.len c s (fault.TableSection x)) e)
 
-pub section_stops : (p : Part) (limit : ℕ) (c : Connection) (s : Stream) (start end : ℕ) (bytes : List ℕ) (o : Outcome) → SectionBy p limit c s start end bytes o → course_of o.1 ≡ Stops → o ≡ early c s (span_in start end bytes)
+table_stops : (d : Option Decoder) (limit : ℕ) (c : Connection) (s : Stream) (m : Message) (at : Span) (bytes : List ℕ) (o : Outcome) → TableGives d limit c s m at bytes o → course_of o.1 ≡ Stops → IsEarly c s at o
+table_stops None limit c s m at bytes o g e = absurd (ends_not o (fails c s fault.SectionPrefix at.len) g (fails_ends at.len c s fault.SectionPrefix) e)
+table_stops (Some d) limit c s m at bytes o (r, decodes, gives) e = over_stops r c s m at o gives e
+
+prefix_stops : (b : Bool) (limit : ℕ) (c : Connection) (s : Stream) (m : Message) (at : Span) (bytes : List ℕ) (o : Outcome) → PrefixGives b limit c s m at bytes o → course_of o.1 ≡ Stops → IsEarly c s at o
+prefix_stops true limit c s m at bytes o g e = table_stops c.decoder limit c s m at bytes o g e
+prefix_stops false limit c s m at bytes o (r, decodes, gives) e = (delay.Settings, result_stops r c s m at o gives e)
+
+pub section_stops : (p : Part) (limit : ℕ) (c : Connection) (s : Stream) (start end : ℕ) (bytes : List ℕ) (o : Outcome) → SectionBy p limit c s start end bytes o → course_of o.1 ≡ Stops → IsEarly c s (span_in start end bytes) o
 section_stops (part.Head m) limit c s start end bytes o g e = prefix_stops (names_table (slice start end bytes)) limit c s m (span_in start end bytes) bytes o g e
 section_stops (part.Body m) limit c s start end bytes o g e = prefix_stops (names_table (slice start end bytes)) limit c s m (span_in start end bytes) bytes o g e
 section_stops other limit c s start end bytes o g e = absurd (goes_not o (end, Frame kind.Headers (slice start end bytes), c, s) g refl e)
@@ -242,11 +262,11 @@ goes_of limit c s bytes fin o h e f g =
     let two : DueGives (due_by s.part (length bytes == 0)) limit c s bytes fin o = subst (λ (u : Unread). StreamGives u limit c s bytes fin o) f one in
     subst (λ (w : Due). DueGives w limit c s bytes fin o) g two
 
-pub unread_of : (u : Unread) (size limit : ℕ) (c : Connection) (s : Stream) (bytes : List ℕ) (fin : Bool) (o : Outcome) → StreamGives u limit c s bytes fin o → u ≡ unread.Early size → size ≤ length bytes → SectionBy s.part limit c (record s { unread = unread.Nothing }) 0 size bytes o
-unread_of u size limit c s bytes fin o h e l = subst (λ (b : Bool). UnreadBy b limit c s size bytes o) (le-ltb (length bytes) size l) (subst (λ (x : Unread). StreamGives x limit c s bytes fin o) e h)
+pub unread_of : (u : Unread) (why : Delay) (size limit : ℕ) (c : Connection) (s : Stream) (bytes : List ℕ) (fin : Bool) (o : Outcome) → StreamGives u limit c s bytes fin o → u ≡ unread.Early size why → size ≤ length bytes → SectionBy s.part limit c (record s { unread = unread.Nothing }) 0 size bytes o
+unread_of u why size limit c s bytes fin o h e l = subst (λ (b : Bool). UnreadBy b limit c s size bytes o) (le-ltb (length bytes) size l) (subst (λ (x : Unread). StreamGives x limit c s bytes fin o) e h)
 
-pub early_of : (size limit : ℕ) (c : Connection) (s : Stream) (bytes : List ℕ) (fin : Bool) (o : Outcome) → Receives limit c (record s { unread = unread.Early size }) bytes fin o → c.over ≡ false → size ≤ length bytes → SectionBy s.part limit c (record s { unread = unread.Nothing }) 0 size bytes o
-early_of size limit c s bytes fin o h e l = subst (λ (b : Bool). UnreadBy b limit c (record s { unread = unread.Early size }) size bytes o) (le-ltb (length bytes) size l) (subst (λ (b : Bool). ReceivesIf b limit c (record s { unread = unread.Early size }) bytes fin o) e h)
+pub early_of : (why : Delay) (size limit : ℕ) (c : Connection) (s : Stream) (bytes : List ℕ) (fin : Bool) (o : Outcome) → Receives limit c (record s { unread = unread.Early size why }) bytes fin o → c.over ≡ false → size ≤ length bytes → SectionBy s.part limit c (record s { unread = unread.Nothing }) 0 size bytes o
+early_of why size limit c s bytes fin o h e l = subst (λ (b : Bool). UnreadBy b limit c (record s { unread = unread.Early size why }) size bytes o) (le-ltb (length bytes) size l) (subst (λ (b : Bool). ReceivesIf b limit c (record s { unread = unread.Early size why }) bytes fin o) e h)
 
 -- with bytes nothing is due, whether more of them come or not
 pub due_still : (p : Part) (empty : Bool) → due_by p false ≡ due.Nothing → due_by p empty ≡ due.Nothing

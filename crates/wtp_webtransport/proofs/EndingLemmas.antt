@@ -19,6 +19,11 @@ use Rattle.wtp_messages.specs.declared.malformed.Malformed.{Malformed}
 use Rattle.wtp_messages.specs.declared.malformed.Malformed.TheVariants.{ContentTooLong}
 use Rattle.wtp_messages.specs.Content.{fits}
 use Rattle.wtp_connection.specs.Opening.{remaining_of}
+use Rattle.wtp_dynamic_decoder.specs.Decoder.{Decoder}
+use Rattle.wtp_dynamic_fields.specs.declared.section.Decoded.{Decoded}
+use Rattle.wtp_dynamic_fields.specs.declared.section.Decoded.TheVariants as decoded
+use Rattle.wtp_dynamic_fields.specs.declared.section.TableSectionError.{TableSectionError}
+use Rattle.wtp_dynamic_fields.specs.declared.section.TableSectionError.TheVariants as table_error
 use Rattle.wtp_webtransport.specs.Prefix.{names_table}
 use Rattle.wtp_messages.specs.declared.message.Message.{Message}
 use Rattle.wtp_messages.specs.declared.message.Role.{Role}
@@ -50,7 +55,7 @@ use Rattle.wtp_webtransport.specs.Events as told
 use Rattle.wtp_webtransport.specs.Fault.{scope_of}
 use Rattle.wtp_webtransport.specs.Sessions.{asks_of}
 use Rattle.wtp_webtransport.specs.Streams.{after_end, after_error, head_if, member_if, with_streams, with_frames, with_message, is_held, spoiled_if, due_by, GivesNext}
-use Rattle.wtp_webtransport.specs.Receiving.{Outcome, closed_in, fails, last, goaway_in, in_stream, leaves, malformed, spoiled, found_opened, content_by, closed_if, complete, capsule_found, CapsulesGive, ContentBy, DataBy, ends_by, SessionEndGives, Between, Within, EndBy, too_large_by, interim_by, request_by, response_in, takes, taken_of, ResultGives, PrefixGives, span_in, SectionBy, told_more, FoundGives, UnreadBy, GoesOn, DueGives, StreamGives, ReceivesIf, Receives}
+use Rattle.wtp_webtransport.specs.Receiving.{Outcome, closed_in, fails, last, goaway_in, in_stream, leaves, malformed, spoiled, found_opened, content_by, closed_if, complete, capsule_found, CapsulesGive, ContentBy, DataBy, ends_by, SessionEndGives, Between, Within, EndBy, too_large_by, interim_by, request_by, response_in, takes, taken_of, ResultGives, PrefixGives, span_in, SectionBy, told_more, FoundGives, UnreadBy, GoesOn, DueGives, StreamGives, ReceivesIf, Receives, noted, OverGives, TableGives}
 use Rattle.wtp_webtransport.specs.Endings.{begins_session, ends_session, Keeps, KeepsSession}
 
 -- ---- events that are neither
@@ -329,11 +334,33 @@ result_keeps (Err section_error.Memory) c s m span o h g =
 result_keeps (Err (section_error.Decoding x)) c s m span o h g =
     at s o _ g (fails_keeps c s (fault.Section x) span.len)
 
+over_keeps : (r : Result Decoded TableSectionError) (c : Connection) (s : Stream) (m : Message) (span : Span) (o : Outcome)
+    → is_held s.part ≡ false
+    → OverGives c s m span r o
+    → KeepsSession s o
+over_keeps (Ok (decoded.Fields fields required)) c s m span o h (p, gives, e) =
+    at s o (noted required p) e (result_keeps (Ok fields) c s m span p h gives)
+over_keeps (Ok (decoded.Blocked required)) c s m span o h g =
+    at s o _ g (quiet s.part _ s.part refl refl refl)
+over_keeps (Err table_error.TooLarge) c s m span o h g =
+    at s o _ g (too_large_keeps s.part c s None span.end refl)
+over_keeps (Err table_error.Memory) c s m span o h g =
+    at s o _ g (quiet s.part _ s.part refl refl refl)
+over_keeps (Err (table_error.Section x)) c s m span o h g =
+    at s o _ g (fails_keeps c s (fault.TableSection x) span.len)
+
+table_keeps : (d : Option Decoder) (limit : ℕ) (c : Connection) (s : Stream) (m : Message) (span : Span) (bytes : List ℕ) (o : Outcome)
+    → is_held s.part ≡ false
+    → TableGives d limit c s m span bytes o
+    → KeepsSession s o
+table_keeps None limit c s m span bytes o h g = at s o _ g (fails_keeps c s fault.SectionPrefix span.len)
+table_keeps (Some d) limit c s m span bytes o h g = over_keeps g.0 c s m span o h g.2
+
 prefix_keeps : (names : Bool) (limit : ℕ) (c : Connection) (s : Stream) (m : Message) (span : Span) (bytes : List ℕ) (o : Outcome)
     → is_held s.part ≡ false
     → PrefixGives names limit c s m span bytes o
     → KeepsSession s o
-prefix_keeps true limit c s m span bytes o h g = at s o _ g (fails_keeps c s fault.SectionPrefix span.len)
+prefix_keeps true limit c s m span bytes o h g = table_keeps c.decoder limit c s m span bytes o h g
 prefix_keeps false limit c s m span bytes o h g = result_keeps g.0 c s m span o h g.2
 
 section_keeps : (p : Part) (limit : ℕ) (c : Connection) (s : Stream) (start end : ℕ) (bytes : List ℕ) (o : Outcome)
@@ -436,7 +463,7 @@ unread_keeps false limit c s size bytes o g =
 stream_keeps : (u : Unread) (limit : ℕ) (c : Connection) (s : Stream) (bytes : List ℕ) (fin : Bool) (o : Outcome)
     → StreamGives u limit c s bytes fin o
     → KeepsSession s o
-stream_keeps (unread.Early size) limit c s bytes fin o g =
+stream_keeps (unread.Early size why) limit c s bytes fin o g =
     unread_keeps (nat_lt (length bytes) size) limit c s size bytes o g
 stream_keeps (unread.Section size) limit c s bytes fin o g =
     unread_keeps (nat_lt (length bytes) size) limit c s size bytes o g

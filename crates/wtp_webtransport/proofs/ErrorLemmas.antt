@@ -1,5 +1,5 @@
 -- An error of the connection is marked in it, and is the last event of its streams.
-use Rattle.std.proofs.Common.{◌≡◌, ℕ, refl, subst, sym, ap, ◌∙◌, cond, Bool, ◌&&◌, ◌||◌, not, true, false, List, Option, Some, None, Result, Ok, Err, length, nat_lt, ◌==◌, ◌-◌, ◌+◌}
+use Rattle.std.proofs.Common.{◌≡◌, ℕ, refl, subst, ◌∙◌, cond, Bool, ◌||◌, not, true, false, List, Option, Some, None, Result, Ok, Err, length, nat_lt, ◌==◌, ◌-◌, ◌+◌}
 use Rattle.wtp_core.specs.Varint.{number_at}
 use Rattle.wtp_core.specs.declared.error.scope.ErrorScope.{ErrorScope}
 use Rattle.wtp_core.specs.declared.error.scope.ErrorScope.TheVariants as scope
@@ -16,12 +16,15 @@ use Rattle.wtp_connection.specs.Streams.{Joined, tells_interim}
 use Rattle.wtp_fields.specs.declared.fields.FieldSectionError.{FieldSectionError}
 use Rattle.wtp_fields.specs.declared.fields.FieldSectionError.TheVariants as section_error
 use Rattle.wtp_messages.specs.declared.malformed.Malformed.{Malformed}
-use Rattle.wtp_messages.specs.declared.malformed.Malformed.TheVariants.{ContentTooLong}
 use Rattle.wtp_messages.specs.Content.{fits}
 use Rattle.wtp_connection.specs.Opening.{remaining_of}
+use Rattle.wtp_dynamic_decoder.specs.Decoder.{Decoder}
+use Rattle.wtp_dynamic_fields.specs.declared.section.Decoded.{Decoded}
+use Rattle.wtp_dynamic_fields.specs.declared.section.Decoded.TheVariants as decoded
+use Rattle.wtp_dynamic_fields.specs.declared.section.TableSectionError.{TableSectionError}
+use Rattle.wtp_dynamic_fields.specs.declared.section.TableSectionError.TheVariants as table_error
 use Rattle.wtp_webtransport.specs.Prefix.{names_table}
 use Rattle.wtp_messages.specs.declared.message.Message.{Message}
-use Rattle.wtp_messages.specs.declared.message.Role.{Role}
 use Rattle.wtp_messages.specs.declared.response.Asked.{Asked}
 use Rattle.wtp_messages.specs.declared.response.Asked.TheVariants as asked
 use Rattle.wtp_messages.specs.Message.{end_of}
@@ -30,7 +33,7 @@ use Rattle.wtp_wire.specs.declared.capsule.CapsuleError.TheVariants as capsule_e
 use Rattle.wtp_wire.specs.CloseSession.{close_in}
 use Rattle.wtp_webtransport.specs.declared.capsules.CapsuleType.{CapsuleType}
 use Rattle.wtp_webtransport.specs.declared.capsules.CapsuleType.TheVariants as capsule
-use Rattle.wtp_webtransport.specs.Capsules.{Place, Found as Capsules}
+use Rattle.wtp_webtransport.specs.Capsules.{Found as Capsules}
 use Rattle.wtp_webtransport.specs.declared.fault.Fault.{Fault}
 use Rattle.wtp_webtransport.specs.declared.fault.Fault.TheVariants as fault
 use Rattle.wtp_webtransport.specs.declared.connection.Connection.{Connection}
@@ -49,8 +52,8 @@ use Rattle.wtp_webtransport.specs.Events.{Told}
 use Rattle.wtp_webtransport.specs.Events as told
 use Rattle.wtp_webtransport.specs.Fault.{scope_of}
 use Rattle.wtp_webtransport.specs.Sessions.{asks_of}
-use Rattle.wtp_webtransport.specs.Streams.{with_streams, with_frames, spoiled_if, due_by, GivesNext}
-use Rattle.wtp_webtransport.specs.Receiving.{Outcome, closed_in, fails, last, goaway_in, in_stream, leaves, malformed, spoiled, found_opened, content_by, closed_if, complete, capsule_found, CapsulesGive, ContentBy, DataBy, ends_by, SessionEndGives, Between, Within, EndBy, too_large_by, interim_by, request_by, response_in, takes, taken_of, ResultGives, PrefixGives, span_in, SectionBy, told_more, FoundGives, UnreadBy, GoesOn, DueGives, StreamGives, ReceivesIf, Receives}
+use Rattle.wtp_webtransport.specs.Streams.{with_streams, with_frames, spoiled_if, due_by}
+use Rattle.wtp_webtransport.specs.Receiving.{Outcome, closed_in, fails, goaway_in, in_stream, leaves, spoiled, found_opened, content_by, closed_if, complete, capsule_found, CapsulesGive, ContentBy, DataBy, ends_by, SessionEndGives, Between, Within, EndBy, too_large_by, interim_by, request_by, response_in, takes, taken_of, ResultGives, PrefixGives, span_in, SectionBy, told_more, FoundGives, UnreadBy, GoesOn, DueGives, StreamGives, ReceivesIf, Receives, read_after, noted, OverGives, TableGives}
 use Rattle.wtp_webtransport.specs.Endings.{is_error, Marks}
 
 -- ---- events that are no errors
@@ -211,10 +214,36 @@ result_marks (Err section_error.Memory) c s m span o g = at c o _ g (no c.over)
 result_marks (Err (section_error.Decoding x)) c s m span o g =
     at c o _ g (fails_mark c s (fault.Section x) span.len)
 
+-- an error of the connection is the same with a section that was read
+noted_over : (t : Told) (required : ℕ) (c : Connection) → (read_after t required c).over ≡ c.over
+noted_over (told.Waits why) required c = refl
+noted_over t required c = refl
+
+noted_marks : (required : ℕ) (c : Connection) (p : Outcome) → Marks c p → Marks c (noted required p)
+noted_marks required c p h = noted_over p.1 required p.2 ∙ h
+
+over_marks : (r : Result Decoded TableSectionError) (c : Connection) (s : Stream) (m : Message) (span : Span) (o : Outcome)
+    → OverGives c s m span r o
+    → Marks c o
+over_marks (Ok (decoded.Fields fields required)) c s m span o g =
+    at c o _ g.2 (noted_marks required c g.0 (result_marks (Ok fields) c s m span g.0 g.1))
+over_marks (Ok (decoded.Blocked required)) c s m span o g = at c o _ g (no c.over)
+over_marks (Err table_error.TooLarge) c s m span o g =
+    at c o _ g (too_large_marks s.part c s None span.end)
+over_marks (Err table_error.Memory) c s m span o g = at c o _ g (no c.over)
+over_marks (Err (table_error.Section x)) c s m span o g =
+    at c o _ g (fails_mark c s (fault.TableSection x) span.len)
+
+table_marks : (d : Option Decoder) (limit : ℕ) (c : Connection) (s : Stream) (m : Message) (span : Span) (bytes : List ℕ) (o : Outcome)
+    → TableGives d limit c s m span bytes o
+    → Marks c o
+table_marks None limit c s m span bytes o g = at c o _ g (fails_mark c s fault.SectionPrefix span.len)
+table_marks (Some d) limit c s m span bytes o g = over_marks g.0 c s m span o g.2
+
 prefix_marks : (names : Bool) (limit : ℕ) (c : Connection) (s : Stream) (m : Message) (span : Span) (bytes : List ℕ) (o : Outcome)
     → PrefixGives names limit c s m span bytes o
     → Marks c o
-prefix_marks true limit c s m span bytes o g = at c o _ g (fails_mark c s fault.SectionPrefix span.len)
+prefix_marks true limit c s m span bytes o g = table_marks c.decoder limit c s m span bytes o g
 prefix_marks false limit c s m span bytes o g = result_marks g.0 c s m span o g.2
 
 section_marks : (p : Part) (limit : ℕ) (c : Connection) (s : Stream) (start end : ℕ) (bytes : List ℕ) (o : Outcome)
@@ -295,7 +324,7 @@ unread_marks false limit c s size bytes o g =
 stream_marks : (u : Unread) (limit : ℕ) (c : Connection) (s : Stream) (bytes : List ℕ) (fin : Bool) (o : Outcome)
     → StreamGives u limit c s bytes fin o
     → Marks c o
-stream_marks (unread.Early size) limit c s bytes fin o g =
+stream_marks (unread.Early size why) limit c s bytes fin o g =
     unread_marks (nat_lt (length bytes) size) limit c s size bytes o g
 stream_marks (unread.Section size) limit c s bytes fin o g =
     unread_marks (nat_lt (length bytes) size) limit c s size bytes o g

@@ -29,6 +29,15 @@ use Rattle.wtp_messages.specs.declared.response.Asked.TheVariants as asked
 use Rattle.wtp_messages.specs.Content.{fits}
 use Rattle.wtp_messages.specs.Message.{end_of}
 use Rattle.wtp_messages.specs.Response.{is_success}
+use Rattle.wtp_dynamic_decoder.specs.Decoder.{Decoder}
+use Rattle.wtp_dynamic_fields.specs.declared.section.Decoded.{Decoded}
+use Rattle.wtp_dynamic_fields.specs.declared.section.Decoded.TheVariants as decoded
+use Rattle.wtp_dynamic_fields.specs.declared.section.TableSectionError.{TableSectionError}
+use Rattle.wtp_dynamic_fields.specs.declared.section.TableSectionError.TheVariants as table_error
+use Rattle.wtp_dynamic_fields.specs.Reading.{TableGives as SectionReads}
+use Rattle.wtp_dynamic_fields.proofs.AgainLemmas.{LacksMemory, read_same}
+use Rattle.wtp_webtransport.specs.declared.stream.Delay.{Delay}
+use Rattle.wtp_webtransport.specs.declared.stream.Delay.TheVariants as delay
 use Rattle.wtp_webtransport.specs.declared.fault.Fault.{Fault}
 use Rattle.wtp_webtransport.specs.declared.fault.Fault.TheVariants as fault
 use Rattle.wtp_webtransport.specs.declared.connection.Connection.{Connection}
@@ -43,12 +52,11 @@ use Rattle.wtp_webtransport.specs.declared.stream.Part.TheVariants as part
 use Rattle.wtp_webtransport.specs.declared.stream.Unread.TheVariants as unread
 use Rattle.wtp_webtransport.specs.Fault.{scope_of}
 use Rattle.wtp_webtransport.specs.Prefix.{names_table}
-use Rattle.wtp_webtransport.specs.Events.{Told, Settings, Frame, Headers, SessionRequested, SessionReady, Rejected, Data, StreamData, End, Waits}
+use Rattle.wtp_webtransport.specs.Events.{Told, Malformed as MalformedBy, Settings, Frame, Headers, SessionRequested, SessionReady, Rejected, Data, StreamData, End, Waits}
 use Rattle.wtp_webtransport.specs.declared.event.HeadersKind.TheVariants as headers
-use Rattle.wtp_webtransport.specs.declared.event.Waits.TheVariants as wait
 use Rattle.wtp_webtransport.specs.Sessions.{asks_of}
-use Rattle.wtp_webtransport.specs.Streams.{with_streams, with_frames, with_part, with_message, with_session, connects}
-use Rattle.wtp_webtransport.specs.Receiving.{Outcome, closed_in, fails, failed_by, malformed, last, found_opened, goaway_in, goaway_found, in_stream, counted, content_by, content_found, DataBy, ends_by, EndBy, too_large_by, too_large, interim_by, request_by, response_in, in_connection, takes, taken_of, ReadGives, ResultGives, PrefixGives, DecodedGives, span_in, SectionBy, told_more, FoundGives}
+use Rattle.wtp_webtransport.specs.Streams.{with_streams, with_frames, with_part, with_message, with_session, connects, wait_for}
+use Rattle.wtp_webtransport.specs.Receiving.{Outcome, closed_in, fails, failed_by, malformed, last, found_opened, goaway_in, goaway_found, in_stream, counted, content_by, content_found, DataBy, ends_by, EndBy, too_large_by, too_large, interim_by, request_by, response_in, in_connection, takes, taken_of, ReadGives, ResultGives, PrefixGives, DecodedGives, span_in, SectionBy, told_more, FoundGives, early, read_after, noted, OverGives, TableGives}
 use Rattle.wtp_webtransport.specs.Calls.{ruleless, ruleless_taken, Course, Continues, course_of, at_length, plain, moved, IsSession, HasMemory}
 use Rattle.wtp_webtransport.proofs.SectionLemmas.{Lacks, decoded_same, Alike, section_same}
 
@@ -205,12 +213,15 @@ interim_moved (d, t, Some f) n len status c s fields at by e l =
     ap (λ (k : ℕ). plain (fails (with_streams c d) (with_frames s t) (fault.Streams f) k)) l
     ∙ fails_moved n len at.len (with_streams c d) (with_frames s t) (fault.Streams f)
 
+early_moved : (n len : ℕ) (c : Connection) (s : Stream) (at by : Span) (why : Delay) → by.start ≡ n + at.start → by.end ≡ n + at.end → Moves n len (early c s at why) (early c s by why)
+early_moved n len c s at by why f e =
+    ap (λ (k : ℕ). plain (k, Waits (wait_for why), c, record s { unread = unread.Early (by.end - by.start) why })) f
+    ∙ ap (λ (k : ℕ). plain (n + at.start, Waits (wait_for why), c, record s { unread = unread.Early k why })) (omega (arith, e, f))
+
 request_moved : (a : Asks) (n len : ℕ) (c : Connection) (s : Stream) (m : Message) (fields : List Field) (at by : Span) → by.start ≡ n + at.start → by.end ≡ n + at.end → Moves n len (request_by a c s m fields at) (request_by a c s m fields by)
 request_moved asks.Plain n len c s m fields at by f e = ap (λ (k : ℕ). plain (k, Headers headers.Request fields, c, with_part s (part.Body m))) e
 request_moved asks.Tunnel n len c s m fields at by f e = ap (λ (k : ℕ). plain (k, Headers headers.Request fields, c, with_part s (part.Unanswered false m))) e
-request_moved asks.TooEarly n len c s m fields at by f e =
-    ap (λ (k : ℕ). plain (k, Waits wait.Settings, c, record s { unread = unread.Early (by.end - by.start) })) f
-    ∙ ap (λ (k : ℕ). plain (n + at.start, Waits wait.Settings, c, record s { unread = unread.Early k })) (omega (arith, e, f))
+request_moved asks.TooEarly n len c s m fields at by f e = early_moved n len c s at by delay.Settings f e
 request_moved asks.Session n len c s m fields at by f e = ap (λ (k : ℕ). plain (k, SessionRequested fields, c, with_session (with_part s (part.Unanswered true m)))) e
 
 response_moved : (a : Option Asked) (success : Bool) (n len status : ℕ) (c : Connection) (s : Stream) (m : Message) (fields : List Field) (at by : Span) → by.end ≡ n + at.end → Moves n len (in_connection c (response_in a success s m status fields at)) (in_connection c (response_in a success s m status fields by))
@@ -259,10 +270,44 @@ no_memory : (r : Result (List Field) FieldSectionError) (c : Connection) (s : St
 no_memory (Err section_error.Memory) c s m at o h g l = h (ap (λ (w : Outcome). course_of w.1) g)
 no_memory other c s m at o h g l = l
 
-prefix_moved : (b : Bool) (limit n len : ℕ) (c : Connection) (s : Stream) (m : Message) (at by : Span) (x y : List ℕ) (o q : Outcome) → by.start ≡ n + at.start → by.end ≡ n + at.end → by.len ≡ len → slice by.start by.end y ≡ slice at.start at.end x → HasMemory o → HasMemory q → PrefixGives b limit c s m at x o → PrefixGives b limit c s m by y q → Moves n len o q
-prefix_moved true limit n len c s m at by x y o q f e l same u v g h =
+-- a section that was read is noted, and the rule that it breaks makes no difference
+noted_ruleless : (t : Told) (required : ℕ) (c : Connection) → read_after (ruleless t) required c ≡ read_after t required c
+noted_ruleless (MalformedBy rule) required c = refl
+noted_ruleless t required c = refl
+
+noted_moved : (required n len : ℕ) (o q p w : Outcome) → o ≡ noted required p → q ≡ noted required w → Moves n len p w → Moves n len o q
+noted_moved required n len o q p w e f h =
+    by_moved n len o q (noted required p) (noted required w) e f (
+    ap (λ (d : Connection). (w.0, ruleless w.1, d, w.3)) (sym (noted_ruleless w.1 required w.2))
+    ∙ ap (λ (z : Outcome). noted required z) h
+    ∙ ap (λ (d : Connection). (at_length (course_of p.1) n len p.0, ruleless p.1, d, p.3)) (noted_ruleless p.1 required p.2))
+
+over_moved : (r : Result Decoded TableSectionError) (n len : ℕ) (c : Connection) (s : Stream) (m : Message) (at by : Span) (o q : Outcome) → by.start ≡ n + at.start → by.end ≡ n + at.end → by.len ≡ len → (LacksMemory r → ⊥) → OverGives c s m at r o → OverGives c s m by r q → Moves n len o q
+over_moved (Ok (decoded.Fields fields required)) n len c s m at by o q f e l w (p, gives, is) (z, does, are) = noted_moved required n len o q p z is are (read_moved n len c s m fields at by p z f e l gives does)
+over_moved (Ok (decoded.Blocked required)) n len c s m at by o q f e l w g h = by_moved n len o q (early c s at (delay.Table required)) (early c s by (delay.Table required)) g h (early_moved n len c s at by (delay.Table required) f e)
+over_moved (Err table_error.TooLarge) n len c s m at by o q f e l w g h =
+    by_moved n len o q (too_large c s None at.end) (too_large c s None by.end) g h (
+    ap (λ (k : ℕ). plain (too_large_by s.part c s None k)) e ∙ too_large_moved s.part n len at.end c s None)
+over_moved (Err table_error.Memory) n len c s m at by o q f e l w g h = absurd (w tt)
+over_moved (Err (table_error.Section x)) n len c s m at by o q f e l w g h =
+    by_moved n len o q (fails c s (fault.TableSection x) at.len) (fails c s (fault.TableSection x) by.len) g h (
+    ap (λ (k : ℕ). plain (fails c s (fault.TableSection x) k)) l ∙ fails_moved n len at.len c s (fault.TableSection x))
+
+has_memory : (r : Result Decoded TableSectionError) (c : Connection) (s : Stream) (m : Message) (at : Span) (o : Outcome) → HasMemory o → OverGives c s m at r o → LacksMemory r → ⊥
+has_memory (Err table_error.Memory) c s m at o h g l = h (ap (λ (w : Outcome). course_of w.1) g)
+has_memory other c s m at o h g l = l
+
+table_moved : (d : Option Decoder) (limit n len : ℕ) (c : Connection) (s : Stream) (m : Message) (at by : Span) (x y : List ℕ) (o q : Outcome) → by.start ≡ n + at.start → by.end ≡ n + at.end → by.len ≡ len → slice by.start by.end y ≡ slice at.start at.end x → HasMemory o → HasMemory q → TableGives d limit c s m at x o → TableGives d limit c s m by y q → Moves n len o q
+table_moved None limit n len c s m at by x y o q f e l same u v g h =
     by_moved n len o q (fails c s fault.SectionPrefix at.len) (fails c s fault.SectionPrefix by.len) g h (
     ap (λ (k : ℕ). plain (fails c s fault.SectionPrefix k)) l ∙ fails_moved n len at.len c s fault.SectionPrefix)
+table_moved (Some d) limit n len c s m at by x y o q f e l same u v (r, decodes, gives) (t, again, does) =
+    let w : LacksMemory r → ⊥ = has_memory r c s m at o u gives in
+    let equal : t ≡ r = read_same limit d.table (slice at.start at.end x) t r (has_memory t c s m by q v does) w (subst (λ (k : List ℕ). SectionReads limit d.table k t) same again) decodes in
+    over_moved r n len c s m at by o q f e l w gives (subst (λ (k : Result Decoded TableSectionError). OverGives c s m by k q) equal does)
+
+prefix_moved : (b : Bool) (limit n len : ℕ) (c : Connection) (s : Stream) (m : Message) (at by : Span) (x y : List ℕ) (o q : Outcome) → by.start ≡ n + at.start → by.end ≡ n + at.end → by.len ≡ len → slice by.start by.end y ≡ slice at.start at.end x → HasMemory o → HasMemory q → PrefixGives b limit c s m at x o → PrefixGives b limit c s m by y q → Moves n len o q
+prefix_moved true limit n len c s m at by x y o q f e l same u v g h = table_moved c.decoder limit n len c s m at by x y o q f e l same u v g h
 prefix_moved false limit n len c s m at by x y o q f e l same u v (r, decodes, gives) (t, again, does) =
     let w : Lacks r → ⊥ = no_memory r c s m at o u gives in
     let equal : t ≡ r = decoded_same limit (slice at.start at.end x) t r (no_memory t c s m by q v does) w (subst (λ (k : List ℕ). DecodesTo limit k t) same again) decodes in

@@ -194,7 +194,7 @@ unread_given false size limit c s a b o q is g h v m goes =
     ]
 
 stream_given : (u : Unread) (limit : ℕ) (c : Connection) (s : Stream) (a b : List ℕ) (fin : Bool) (o q : Outcome) → (IsSession s.part → ⊥) → HasMemory o → c.over ≡ false → s.unread ≡ u → StreamGives u limit c s a false o → (course_of o.1 ≡ Stops → ⊥) → (IsPiece o.1 → ⊥) → Given limit c s a b fin o q
-stream_given (unread.Early size) limit c s a b fin o q ns v intact is g goes whole h m = unread_given (nat_lt (length a) size) size limit c s a b o q refl g (subst (λ (x : Unread). StreamGives x limit c s (a ++ b) fin q) is (subst (λ (k : Bool). ReceivesIf k limit c s (a ++ b) fin q) intact h)) v m goes
+stream_given (unread.Early size why) limit c s a b fin o q ns v intact is g goes whole h m = unread_given (nat_lt (length a) size) size limit c s a b o q refl g (subst (λ (x : Unread). StreamGives x limit c s (a ++ b) fin q) is (subst (λ (k : Bool). ReceivesIf k limit c s (a ++ b) fin q) intact h)) v m goes
 stream_given (unread.Section size) limit c s a b fin o q ns v intact is g goes whole h m = unread_given (nat_lt (length a) size) size limit c s a b o q refl g (subst (λ (x : Unread). StreamGives x limit c s (a ++ b) fin q) is (subst (λ (k : Bool). ReceivesIf k limit c s (a ++ b) fin q) intact h)) v m goes
 stream_given unread.Nothing limit c s a b fin o q ns v intact is g goes whole h m = due_given (due_by s.part (length a == 0)) limit c s a b fin o q ns v intact is refl g goes whole h m
 

@@ -19,3 +19,4 @@ pub mod ProgressLemmas
 pub mod ErrorLemmas
 pub mod LossLemmas
 pub mod PastLemmas
+pub mod TableLemmas

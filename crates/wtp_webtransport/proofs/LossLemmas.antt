@@ -12,9 +12,9 @@ use Rattle.wtp_connection.specs.declared.stream.Stream.{Stream as Frames}
 use Rattle.wtp_connection.specs.declared.stream.Stream.TheVariants as frames
 use Rattle.wtp_connection.specs.declared.connection.Found.{Found}
 use Rattle.wtp_connection.specs.declared.connection.Found.TheVariants as found
-use Rattle.wtp_connection.specs.Receiving.{Fits, FoundIs, IsNearer, seen_of}
+use Rattle.wtp_connection.specs.Receiving.{Fits}
 use Rattle.wtp_connection.specs.First.{found_by, first_found}
-use Rattle.wtp_connection.specs.Streams.{Seen, StreamRun, all_given, bytes_seen}
+use Rattle.wtp_connection.specs.Streams.{StreamRun, all_given, bytes_seen}
 use Rattle.wtp_connection.specs.Fault.{scope_of as streams_scope}
 use Rattle.wtp_connection.specs.Streams.{Joined as After, joins as joins_streams, resets as resets_frames, abandons as abandons_frames, overflows as overflows_frames}
 use Rattle.wtp_webtransport.specs.declared.fault.Fault.{Fault}
@@ -27,8 +27,8 @@ use Rattle.wtp_webtransport.specs.Events.{Told}
 use Rattle.wtp_webtransport.specs.Events as told
 use Rattle.wtp_webtransport.specs.Fault.{scope_of}
 use Rattle.wtp_webtransport.specs.Streams.{with_streams, with_frames, stream_of, due_by, is_held, is_done}
-use Rattle.wtp_webtransport.specs.Receiving.{Outcome, Receives, closed_by, closed_in, StreamGives, ReceivesIf, DueGives, GoesOn, FoundGives, told_more, last}
-use Rattle.wtp_webtransport.specs.Joining.{Outcome as Joining, reset_told, reset_in, reset_by, resets, lost_if, abandons, stops_half, joined_told, joined_by, joining_of, joins, overflowed_by, overflows, is_request, is_beyond, rejected_by, rejects}
+use Rattle.wtp_webtransport.specs.Receiving.{Outcome, Receives, closed_in, StreamGives, ReceivesIf, DueGives, GoesOn, FoundGives, told_more, last}
+use Rattle.wtp_webtransport.specs.Joining.{Outcome as Joining, reset_told, reset_in, reset_by, resets, lost_if, abandons, stops_half, joined_told, joined_by, joining_of, joins, overflowed_by, overflows, is_request, is_beyond, rejects}
 use Rattle.wtp_connection.specs.declared.connection.Known.TheVariants as known
 use Rattle.wtp_messages.specs.declared.message.Message.{Message}
 use Rattle.wtp_messages.specs.declared.response.Asked.{Asked}
@@ -39,7 +39,7 @@ use Rattle.wtp_webtransport.specs.declared.stream.Due.{Due}
 use Rattle.wtp_webtransport.specs.declared.stream.Due.TheVariants as due
 use Rattle.wtp_webtransport.specs.declared.stream.Unread.TheVariants as unread
 use Rattle.wtp_webtransport.specs.declared.event.Waits.TheVariants as wait
-use Rattle.wtp_webtransport.specs.Sessions.{message_at_server, message_at_client, known_at_message, none_at_client, none_at, before_bytes, known_by_frames, head_at_client, known_of_head, known_of_request, known_by_part, known_of}
+use Rattle.wtp_webtransport.specs.Sessions.{message_at_server, message_at_client, known_at_message, none_at, before_bytes, known_by_frames, known_of_head, known_of_request, known_by_part, known_of}
 use Rattle.wtp_webtransport.specs.Endings.{is_error, MarksAfter, IsQuiet, IsLoss, had_session, AreOver, IsDone}
 use Rattle.wtp_frames.specs.Reading.{slice}
 use Rattle.wtp_webtransport.proofs.FoundLemmas.{slice_length}

@@ -1,56 +1,31 @@
 -- A stream that has or had a session stays so.
-use Rattle.std.proofs.Common.{◌≡◌, ℕ, refl, subst, sym, ap, ◌∙◌, cond, Bool, ◌&&◌, ◌||◌, not, true, false, List, Option, Some, None, Result, Ok, Err, length, nat_lt, ◌==◌, ◌-◌, ◌+◌}
+use Rattle.std.proofs.Common.{◌≡◌, ℕ, refl, sym, ap, ◌∙◌, cond, Bool, ◌&&◌, ◌||◌, not, true, false, List, Option, Some, None, Ok, Err, length, nat_lt, ◌==◌}
 use Rattle.wtp_core.specs.Varint.{number_at}
 use Rattle.wtp_core.specs.declared.error.scope.ErrorScope.{ErrorScope}
 use Rattle.wtp_core.specs.declared.error.scope.ErrorScope.TheVariants as scope
-use Rattle.wtp_qpack.specs.Field.{Field}
 use Rattle.wtp_frames.specs.declared.frame_type.FrameType.TheVariants as kind
 use Rattle.wtp_frames.specs.Reading.{slice}
 use Rattle.wtp_connection.specs.declared.connection.Found.{Found}
 use Rattle.wtp_connection.specs.declared.connection.Found.TheVariants as found
-use Rattle.wtp_connection.specs.declared.stream.Stream.{Stream as Frames}
-use Rattle.wtp_connection.specs.declared.stream.Stream.TheVariants as frames
 use Rattle.wtp_connection.specs.declared.stream.Purpose.{Purpose}
 use Rattle.wtp_connection.specs.declared.stream.Purpose.TheVariants as «for»
-use Rattle.wtp_connection.specs.Streams.{Joined, tells_interim}
-use Rattle.wtp_fields.specs.declared.fields.FieldSectionError.{FieldSectionError}
-use Rattle.wtp_fields.specs.declared.fields.FieldSectionError.TheVariants as section_error
-use Rattle.wtp_messages.specs.declared.malformed.Malformed.{Malformed}
-use Rattle.wtp_messages.specs.declared.malformed.Malformed.TheVariants.{ContentTooLong}
-use Rattle.wtp_messages.specs.Content.{fits}
-use Rattle.wtp_connection.specs.Opening.{remaining_of}
-use Rattle.wtp_webtransport.specs.Prefix.{names_table}
+use Rattle.wtp_connection.specs.Streams.{Joined}
 use Rattle.wtp_messages.specs.declared.message.Message.{Message}
 use Rattle.wtp_messages.specs.declared.message.Role.{Role}
-use Rattle.wtp_messages.specs.declared.response.Asked.{Asked}
-use Rattle.wtp_messages.specs.declared.response.Asked.TheVariants as asked
-use Rattle.wtp_messages.specs.Message.{end_of}
-use Rattle.wtp_messages.specs.Response.{is_success}
 use Rattle.wtp_wire.specs.declared.capsule.CapsuleError.TheVariants as capsule_error
 use Rattle.wtp_wire.specs.CloseSession.{close_in}
 use Rattle.wtp_webtransport.specs.declared.capsules.CapsuleType.{CapsuleType}
 use Rattle.wtp_webtransport.specs.declared.capsules.CapsuleType.TheVariants as capsule
 use Rattle.wtp_webtransport.specs.Capsules.{Place, Found as Capsules}
-use Rattle.wtp_webtransport.specs.declared.fault.Fault.{Fault}
-use Rattle.wtp_webtransport.specs.declared.fault.Fault.TheVariants as fault
 use Rattle.wtp_webtransport.specs.declared.connection.Connection.{Connection}
-use Rattle.wtp_webtransport.specs.declared.connection.messages.Asks.{Asks}
-use Rattle.wtp_webtransport.specs.declared.connection.messages.Asks.TheVariants as asks
-use Rattle.wtp_webtransport.specs.declared.connection.messages.Span.{Span}
-use Rattle.wtp_webtransport.specs.declared.connection.messages.Taken.{Taken}
-use Rattle.wtp_webtransport.specs.declared.connection.messages.Taken.TheVariants as taken
 use Rattle.wtp_webtransport.specs.declared.stream.Stream.{Stream}
 use Rattle.wtp_webtransport.specs.declared.stream.Part.{Part}
 use Rattle.wtp_webtransport.specs.declared.stream.Part.TheVariants as part
 use Rattle.wtp_webtransport.specs.declared.stream.Unread.{Unread}
 use Rattle.wtp_webtransport.specs.declared.stream.Unread.TheVariants as unread
 use Rattle.wtp_webtransport.specs.declared.stream.Due.TheVariants as due
-use Rattle.wtp_webtransport.specs.Events.{Told}
-use Rattle.wtp_webtransport.specs.Events as told
-use Rattle.wtp_webtransport.specs.Fault.{scope_of}
-use Rattle.wtp_webtransport.specs.Sessions.{asks_of}
-use Rattle.wtp_webtransport.specs.Streams.{after_end, after_error, head_if, member_if, with_streams, with_frames, is_held, is_done, with_part, with_message, connects, answered, answered_by, spoiled_if, due_by, GivesNext}
-use Rattle.wtp_webtransport.specs.Receiving.{Outcome, closed_in, fails, last, goaway_in, in_stream, leaves, malformed, spoiled, found_opened, content_by, closed_if, complete, capsule_found, CapsulesGive, ContentBy, DataBy, ends_by, SessionEndGives, Between, Within, EndBy, too_large_by, interim_by, request_by, response_in, takes, taken_of, ResultGives, PrefixGives, span_in, SectionBy, told_more, FoundGives, UnreadBy, GoesOn, DueGives, StreamGives, ReceivesIf, Receives}
+use Rattle.wtp_webtransport.specs.Streams.{after_end, after_error, head_if, member_if, with_streams, with_frames, is_held, is_done, answered, answered_by, spoiled_if, due_by, GivesNext}
+use Rattle.wtp_webtransport.specs.Receiving.{Outcome, goaway_in, in_stream, found_opened, content_by, closed_if, complete, capsule_found, CapsulesGive, ContentBy, DataBy, SessionEndGives, Between, Within, EndBy, too_large_by, SectionBy, FoundGives, UnreadBy, GoesOn, DueGives, StreamGives, ReceivesIf, Receives}
 use Rattle.wtp_connection.specs.declared.connection.Known.{Known}
 use Rattle.wtp_connection.specs.declared.fault.Fault.{Fault as StreamsFault}
 use Rattle.wtp_connection.specs.Fault.{scope_of as streams_scope}
@@ -250,7 +225,7 @@ unread_past false limit c s size bytes o g =
 stream_past : (u : Unread) (limit : ℕ) (c : Connection) (s : Stream) (bytes : List ℕ) (fin : Bool) (o : Outcome)
     → StreamGives u limit c s bytes fin o
     → KeepsPast s.part o.3.part
-stream_past (unread.Early size) limit c s bytes fin o g = unread_past (nat_lt (length bytes) size) limit c s size bytes o g
+stream_past (unread.Early size why) limit c s bytes fin o g = unread_past (nat_lt (length bytes) size) limit c s size bytes o g
 stream_past (unread.Section size) limit c s bytes fin o g = unread_past (nat_lt (length bytes) size) limit c s size bytes o g
 stream_past unread.Nothing limit c s bytes fin o g = due_past s.part (length bytes == 0) limit c s bytes fin o g
 

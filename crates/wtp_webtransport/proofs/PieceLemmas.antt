@@ -407,7 +407,7 @@ due_pieces due.End limit c s a b fin o q ns hf v intact none is g i free h m = a
 due_pieces due.Lost limit c s a b fin o q ns hf v intact none is g i free h m = absurd (subst (λ (z : Outcome). IsPiece z.1) g i)
 
 stream_pieces : (u : Unread) (limit : ℕ) (c : Connection) (s : Stream) (a b : List ℕ) (fin : Bool) (o q : Outcome) → (IsSession s.part → ⊥) → HasFrames s.part s.frames → HasMemory o → c.over ≡ false → s.unread ≡ u → StreamGives u limit c s a false o → Pieces limit c s a b fin o q
-stream_pieces (unread.Early size) limit c s a b fin o q ns hf v intact is g i free h m = Whole (unread_given (nat_lt (length a) size) size limit c s a b o q refl g (subst (λ (x : Unread). StreamGives x limit c s (a ++ b) fin q) is (subst (λ (k : Bool). ReceivesIf k limit c s (a ++ b) fin q) intact h)) v m (piece_goes o.1 i))
+stream_pieces (unread.Early size why) limit c s a b fin o q ns hf v intact is g i free h m = Whole (unread_given (nat_lt (length a) size) size limit c s a b o q refl g (subst (λ (x : Unread). StreamGives x limit c s (a ++ b) fin q) is (subst (λ (k : Bool). ReceivesIf k limit c s (a ++ b) fin q) intact h)) v m (piece_goes o.1 i))
 stream_pieces (unread.Section size) limit c s a b fin o q ns hf v intact is g i free h m = Whole (unread_given (nat_lt (length a) size) size limit c s a b o q refl g (subst (λ (x : Unread). StreamGives x limit c s (a ++ b) fin q) is (subst (λ (k : Bool). ReceivesIf k limit c s (a ++ b) fin q) intact h)) v m (piece_goes o.1 i))
 stream_pieces unread.Nothing limit c s a b fin o q ns hf v intact is g i free h m = due_pieces (due_by s.part (length a == 0)) limit c s a b fin o q ns hf v intact is refl g i free h m
 

@@ -29,6 +29,11 @@ use Rattle.wtp_messages.specs.Message.{end_of}
 use Rattle.wtp_messages.specs.Response.{is_success}
 use Rattle.wtp_wire.specs.declared.capsule.CapsuleError.TheVariants as capsule_error
 use Rattle.wtp_wire.specs.CloseSession.{close_in}
+use Rattle.wtp_dynamic_decoder.specs.Decoder.{Decoder}
+use Rattle.wtp_dynamic_fields.specs.declared.section.Decoded.{Decoded}
+use Rattle.wtp_dynamic_fields.specs.declared.section.Decoded.TheVariants as decoded
+use Rattle.wtp_dynamic_fields.specs.declared.section.TableSectionError.{TableSectionError}
+use Rattle.wtp_dynamic_fields.specs.declared.section.TableSectionError.TheVariants as table_error
 use Rattle.wtp_webtransport.specs.declared.capsules.CapsuleType.{CapsuleType}
 use Rattle.wtp_webtransport.specs.declared.capsules.CapsuleType.TheVariants as capsule
 use Rattle.wtp_webtransport.specs.Capsules.{Found as Capsules}
@@ -51,7 +56,7 @@ use Rattle.wtp_webtransport.specs.Fault.{scope_of}
 use Rattle.wtp_webtransport.specs.Prefix.{names_table}
 use Rattle.wtp_webtransport.specs.Sessions.{asks_of}
 use Rattle.wtp_webtransport.specs.Streams.{due_by, with_streams, with_frames}
-use Rattle.wtp_webtransport.specs.Receiving.{Outcome, closed_in, fails, leaves, found_opened, goaway_in, content_by, closed_if, complete, capsule_found, CapsulesGive, ContentBy, DataBy, ends_by, SessionEndGives, EndBy, too_large_by, interim_by, request_by, response_in, takes, taken_of, span_in, ReadGives, ResultGives, PrefixGives, SectionBy, told_more, FoundGives, UnreadBy, DueGives, StreamGives, ReceivesIf, Receives}
+use Rattle.wtp_webtransport.specs.Receiving.{Outcome, closed_in, fails, leaves, found_opened, goaway_in, content_by, closed_if, complete, capsule_found, CapsulesGive, ContentBy, DataBy, ends_by, SessionEndGives, EndBy, too_large_by, interim_by, request_by, response_in, takes, taken_of, span_in, ReadGives, ResultGives, PrefixGives, SectionBy, told_more, FoundGives, UnreadBy, DueGives, StreamGives, ReceivesIf, Receives, OverGives, TableGives}
 use Rattle.wtp_webtransport.specs.Places.{EndsAt, IsPlaced}
 
 abbrev pub Placed : List ℕ → Outcome → Type 0
@@ -181,8 +186,19 @@ result_placed c s m at (Err section_error.TooLarge) o bytes i e = subst (Placed 
 result_placed c s m at (Err section_error.Memory) o bytes i e = subst (Placed bytes) (sym e) (i.start, tt)
 result_placed c s m at (Err (section_error.Decoding f)) o bytes i e = subst (Placed bytes) (sym e) (fails_placed c s (fault.Section f) at.len bytes i.all)
 
+over_placed : (c : Connection) (s : Stream) (m : Message) (at : Span) (r : Result Decoded TableSectionError) (o : Outcome) (bytes : List ℕ) → IsIn at bytes → OverGives c s m at r o → Placed bytes o
+over_placed c s m at (Ok (decoded.Fields fields required)) o bytes i (p, gives, e) = subst (Placed bytes) (sym e) (read_placed c s m fields at p bytes i gives)
+over_placed c s m at (Ok (decoded.Blocked required)) o bytes i e = subst (Placed bytes) (sym e) (i.start, tt)
+over_placed c s m at (Err table_error.TooLarge) o bytes i e = subst (Placed bytes) (sym e) (large_placed s.part c s None at.end bytes i.last)
+over_placed c s m at (Err table_error.Memory) o bytes i e = subst (Placed bytes) (sym e) (i.start, tt)
+over_placed c s m at (Err (table_error.Section f)) o bytes i e = subst (Placed bytes) (sym e) (fails_placed c s (fault.TableSection f) at.len bytes i.all)
+
+table_placed : (d : Option Decoder) (limit : ℕ) (c : Connection) (s : Stream) (m : Message) (at : Span) (bytes : List ℕ) (o : Outcome) → IsIn at bytes → TableGives d limit c s m at bytes o → Placed bytes o
+table_placed None limit c s m at bytes o i e = subst (Placed bytes) (sym e) (fails_placed c s fault.SectionPrefix at.len bytes i.all)
+table_placed (Some d) limit c s m at bytes o i (r, decodes, gives) = over_placed c s m at r o bytes i gives
+
 prefix_placed : (b : Bool) (limit : ℕ) (c : Connection) (s : Stream) (m : Message) (at : Span) (bytes : List ℕ) (o : Outcome) → IsIn at bytes → PrefixGives b limit c s m at bytes o → Placed bytes o
-prefix_placed true limit c s m at bytes o i e = subst (Placed bytes) (sym e) (fails_placed c s fault.SectionPrefix at.len bytes i.all)
+prefix_placed true limit c s m at bytes o i g = table_placed c.decoder limit c s m at bytes o i g
 prefix_placed false limit c s m at bytes o i (r, decodes, gives) = result_placed c s m at r o bytes i gives
 
 span_inside : (start end : ℕ) (bytes : List ℕ) → start ≤ end → end ≤ length bytes → IsIn (span_in start end bytes) bytes
@@ -231,7 +247,7 @@ due_placed due.Lost limit c s bytes fin o e = subst (Placed bytes) (sym e) (all_
 due_placed due.Nothing limit c s bytes fin o g = found_placed g.x limit g.d g.t (with_streams c g.d) (with_frames s g.t) bytes o g.found.fits g.gives
 
 stream_placed : (u : Unread) (limit : ℕ) (c : Connection) (s : Stream) (bytes : List ℕ) (fin : Bool) (o : Outcome) → StreamGives u limit c s bytes fin o → Placed bytes o
-stream_placed (unread.Early size) limit c s bytes fin o gives = unread_placed (nat_lt (length bytes) size) limit c s size bytes o refl gives
+stream_placed (unread.Early size why) limit c s bytes fin o gives = unread_placed (nat_lt (length bytes) size) limit c s size bytes o refl gives
 stream_placed (unread.Section size) limit c s bytes fin o gives = unread_placed (nat_lt (length bytes) size) limit c s size bytes o refl gives
 stream_placed unread.Nothing limit c s bytes fin o gives = due_placed (due_by s.part (length bytes == 0)) limit c s bytes fin o gives
 

@@ -40,6 +40,11 @@ use Rattle.wtp_messages.specs.declared.response.Asked.TheVariants as asked
 use Rattle.wtp_messages.specs.Content.{fits}
 use Rattle.wtp_messages.specs.Message.{end_of as message_end}
 use Rattle.wtp_messages.specs.Response.{is_success}
+use Rattle.wtp_dynamic_decoder.specs.Decoder.{Decoder}
+use Rattle.wtp_dynamic_fields.specs.declared.section.Decoded.{Decoded}
+use Rattle.wtp_dynamic_fields.specs.declared.section.Decoded.TheVariants as decoded
+use Rattle.wtp_dynamic_fields.specs.declared.section.TableSectionError.{TableSectionError}
+use Rattle.wtp_dynamic_fields.specs.declared.section.TableSectionError.TheVariants as table_error
 use Rattle.wtp_webtransport.specs.declared.capsules.CapsuleType.{CapsuleType}
 use Rattle.wtp_webtransport.specs.declared.capsules.CapsuleType.TheVariants as capsule
 use Rattle.wtp_webtransport.specs.declared.capsules.Sort.{Sort}
@@ -63,7 +68,7 @@ use Rattle.wtp_webtransport.specs.Capsules.{Found, Place, Head, Value, Skipping,
 use Rattle.wtp_webtransport.specs.Prefix.{names_table}
 use Rattle.wtp_webtransport.specs.Sessions.{asks_of}
 use Rattle.wtp_webtransport.specs.Streams.{with_streams, with_frames, due_by, spoiled_if, GivesNext}
-use Rattle.wtp_webtransport.specs.Receiving.{Outcome, fails, leaves, found_opened, goaway_in, in_stream, closed_if, complete, capsule_found, CapsulesGive, ContentBy, content_by, DataBy, SessionEndGives, EndBy, ends_by, too_large_by, taken_of as section_of, interim_by, request_by, response_in, in_connection, takes, ResultGives, PrefixGives, span_in, SectionBy, told_more, FoundGives, UnreadBy, DueGives, StreamGives, ReceivesIf, Receives}
+use Rattle.wtp_webtransport.specs.Receiving.{Outcome, fails, leaves, found_opened, goaway_in, in_stream, closed_if, complete, capsule_found, CapsulesGive, ContentBy, content_by, DataBy, SessionEndGives, EndBy, ends_by, too_large_by, taken_of as section_of, interim_by, request_by, response_in, in_connection, takes, ResultGives, PrefixGives, span_in, SectionBy, told_more, FoundGives, UnreadBy, DueGives, StreamGives, ReceivesIf, Receives, noted, OverGives, TableGives}
 use Rattle.wtp_webtransport.specs.Calls.{Continues, course_of}
 use Rattle.wtp_webtransport.specs.Progress.{unread_calls, calls_left, IsSound, GoOn}
 use Rattle.wtp_webtransport.proofs.CallLemmas.{fails_ends}
@@ -356,8 +361,26 @@ result_step (Err section_error.TooLarge) c s m at o e = large_step s.part c s No
 result_step (Err section_error.Memory) c s m at o e = none_at s at.end o _ e (λ g. cc g)
 result_step (Err (section_error.Decoding f)) c s m at o e = fails_section s at.end c s (fault.Section f) at.len o e
 
+noted_step : (s : Stream) (last required : ℕ) (o p : Outcome) → o ≡ noted required p → SectionStep s last p → SectionStep s last o
+noted_step s last required o p e h = record {
+  consumed = λ g. ap (λ (z : Outcome). z.0) e ∙ h.consumed (sym (ap (λ (z : Outcome). course_of z.1) e) ∙ g);
+  unread = λ g. ap (λ (z : Outcome). z.3.unread) e ∙ h.unread (sym (ap (λ (z : Outcome). course_of z.1) e) ∙ g);
+  free = λ g. omega (arith, ap (λ (z : Outcome). free_calls z.3.frames) e, h.free (sym (ap (λ (z : Outcome). course_of z.1) e) ∙ g));
+}
+
+over_step : (r : Result Decoded TableSectionError) (c : Connection) (s : Stream) (m : Message) (at : Span) (o : Outcome) → OverGives c s m at r o → SectionStep s at.end o
+over_step (Ok (decoded.Fields fields required)) c s m at o (p, gives, e) = noted_step s at.end required o p e (result_step (Ok fields) c s m at p gives)
+over_step (Ok (decoded.Blocked required)) c s m at o e = none_at s at.end o _ e (λ g. cc g)
+over_step (Err table_error.TooLarge) c s m at o e = large_step s.part c s None at.end o e
+over_step (Err table_error.Memory) c s m at o e = none_at s at.end o _ e (λ g. cc g)
+over_step (Err (table_error.Section f)) c s m at o e = fails_section s at.end c s (fault.TableSection f) at.len o e
+
+table_step : (d : Option Decoder) (limit : ℕ) (c : Connection) (s : Stream) (m : Message) (at : Span) (bytes : List ℕ) (o : Outcome) → TableGives d limit c s m at bytes o → SectionStep s at.end o
+table_step None limit c s m at bytes o e = fails_section s at.end c s fault.SectionPrefix at.len o e
+table_step (Some d) limit c s m at bytes o (r, decodes, gives) = over_step r c s m at o gives
+
 prefix_step : (b : Bool) (limit : ℕ) (c : Connection) (s : Stream) (m : Message) (at : Span) (bytes : List ℕ) (o : Outcome) → PrefixGives b limit c s m at bytes o → SectionStep s at.end o
-prefix_step true limit c s m at bytes o e = fails_section s at.end c s fault.SectionPrefix at.len o e
+prefix_step true limit c s m at bytes o g = table_step c.decoder limit c s m at bytes o g
 prefix_step false limit c s m at bytes o (r, decodes, gives) = result_step r c s m at o gives
 
 section_step : (p : Part) (limit : ℕ) (c : Connection) (s : Stream) (start last : ℕ) (bytes : List ℕ) (o : Outcome) → SectionBy p limit c s start last bytes o → SectionStep s last o
@@ -475,7 +498,7 @@ due_near due.Nothing limit c s bytes fin o sound is g =
     (free_found g.x fin c.streams g.d s.frames g.t bytes g.first) g.found.fits g.nearer g.gives
 
 stream_near : (x : Unread) (limit : ℕ) (c : Connection) (s : Stream) (bytes : List ℕ) (fin : Bool) (o : Outcome) → IsSound s → s.unread ≡ x → StreamGives x limit c s bytes fin o → Nears s bytes o
-stream_near (unread.Early size) limit c s bytes fin o sound is g = unread_near (nat_lt (length bytes) size) limit c s size bytes o (ap unread_calls is) refl g
+stream_near (unread.Early size why) limit c s bytes fin o sound is g = unread_near (nat_lt (length bytes) size) limit c s size bytes o (ap unread_calls is) refl g
 stream_near (unread.Section size) limit c s bytes fin o sound is g = unread_near (nat_lt (length bytes) size) limit c s size bytes o (ap unread_calls is) refl g
 stream_near unread.Nothing limit c s bytes fin o sound is g = due_near (due_by s.part (length bytes == 0)) limit c s bytes fin o sound refl g
 

@@ -25,6 +25,11 @@ use Rattle.wtp_messages.specs.declared.response.Asked.TheVariants as asked
 use Rattle.wtp_messages.specs.Content.{fits}
 use Rattle.wtp_messages.specs.Message.{end_of as message_end}
 use Rattle.wtp_messages.specs.Response.{is_success}
+use Rattle.wtp_dynamic_decoder.specs.Decoder.{Decoder}
+use Rattle.wtp_dynamic_fields.specs.declared.section.Decoded.{Decoded}
+use Rattle.wtp_dynamic_fields.specs.declared.section.Decoded.TheVariants as decoded
+use Rattle.wtp_dynamic_fields.specs.declared.section.TableSectionError.{TableSectionError}
+use Rattle.wtp_dynamic_fields.specs.declared.section.TableSectionError.TheVariants as table_error
 use Rattle.wtp_webtransport.specs.declared.capsules.CapsuleType.{CapsuleType}
 use Rattle.wtp_webtransport.specs.declared.capsules.CapsuleType.TheVariants as capsule
 use Rattle.wtp_webtransport.specs.declared.connection.Connection.{Connection}
@@ -44,7 +49,7 @@ use Rattle.wtp_webtransport.specs.Capsules.{Found, Place, Taken, between, Capsul
 use Rattle.wtp_webtransport.specs.Prefix.{names_table}
 use Rattle.wtp_webtransport.specs.Sessions.{asks_of}
 use Rattle.wtp_webtransport.specs.Streams.{with_streams, with_frames, with_part, connects, ended, due_by, GivesNext, answered_by, answered, is_held, is_done}
-use Rattle.wtp_webtransport.specs.Receiving.{Outcome, found_opened, closed_if, complete, capsule_found, CapsulesGive, ContentBy, content_by, DataBy, SessionEndGives, EndBy, ends_by, too_large_by, taken_of as section_of, interim_by, request_by, response_in, in_connection, takes, ResultGives, PrefixGives, span_in, SectionBy, FoundGives, UnreadBy, DueGives, StreamGives, ReceivesIf, Receives}
+use Rattle.wtp_webtransport.specs.Receiving.{Outcome, found_opened, closed_if, complete, capsule_found, CapsulesGive, ContentBy, content_by, DataBy, SessionEndGives, EndBy, ends_by, too_large_by, taken_of as section_of, interim_by, request_by, response_in, in_connection, takes, ResultGives, PrefixGives, span_in, SectionBy, FoundGives, UnreadBy, DueGives, StreamGives, ReceivesIf, Receives, OverGives, TableGives}
 use Rattle.wtp_webtransport.specs.Joining.{Outcome as Change, joined_by, joining_of, joins, reset_in, reset_by, resets, abandoned_by, abandons, overflowed_by, overflows, is_request, is_beyond, rejected_by, rejects, stops_half}
 use Rattle.wtp_webtransport.specs.Progress.{IsSound}
 use Rattle.wtp_webtransport.proofs.SaidLemmas.{taken_within}
@@ -230,12 +235,32 @@ result_sound (Err section_error.TooLarge) c s m at o h g = large_sound s.part c 
 result_sound (Err section_error.Memory) c s m at o h g = kept s o _ g refl h
 result_sound (Err (section_error.Decoding f)) c s m at o h g = kept s o _ g refl h
 
+over_sound : (r : Result Decoded TableSectionError) (c : Connection) (s : Stream) (m : Message) (at : Span)
+    (o : Outcome)
+    → IsSound s
+    → OverGives c s m at r o
+    → IsSound o.3
+over_sound (Ok (decoded.Fields fields required)) c s m at o h (p, gives, e) =
+    subst IsSound (sym (ap (λ (z : Outcome). z.3) e)) (result_sound (Ok fields) c s m at p h gives)
+over_sound (Ok (decoded.Blocked required)) c s m at o h g = kept s o _ g refl h
+over_sound (Err table_error.TooLarge) c s m at o h g = large_sound s.part c s None at.end o h g
+over_sound (Err table_error.Memory) c s m at o h g = kept s o _ g refl h
+over_sound (Err (table_error.Section f)) c s m at o h g = kept s o _ g refl h
+
+table_sound : (d : Option Decoder) (limit : ℕ) (c : Connection) (s : Stream) (m : Message) (at : Span)
+    (bytes : List ℕ) (o : Outcome)
+    → IsSound s
+    → TableGives d limit c s m at bytes o
+    → IsSound o.3
+table_sound None limit c s m at bytes o h g = kept s o _ g refl h
+table_sound (Some d) limit c s m at bytes o h (r, decodes, gives) = over_sound r c s m at o h gives
+
 prefix_sound : (b : Bool) (limit : ℕ) (c : Connection) (s : Stream) (m : Message) (at : Span) (bytes : List ℕ)
     (o : Outcome)
     → IsSound s
     → PrefixGives b limit c s m at bytes o
     → IsSound o.3
-prefix_sound true limit c s m at bytes o h g = kept s o _ g refl h
+prefix_sound true limit c s m at bytes o h g = table_sound c.decoder limit c s m at bytes o h g
 prefix_sound false limit c s m at bytes o h (r, decodes, gives) = result_sound r c s m at o h gives
 
 section_sound : (p : Part) (limit : ℕ) (c : Connection) (s : Stream) (start last : ℕ) (bytes : List ℕ)
@@ -301,7 +326,7 @@ stream_sound : (x : Unread) (limit : ℕ) (c : Connection) (s : Stream) (bytes :
     → IsSound s
     → StreamGives x limit c s bytes fin o
     → IsSound o.3
-stream_sound (unread.Early size) limit c s bytes fin o h g =
+stream_sound (unread.Early size why) limit c s bytes fin o h g =
     unread_sound (nat_lt (length bytes) size) limit c s size bytes o h g
 stream_sound (unread.Section size) limit c s bytes fin o h g =
     unread_sound (nat_lt (length bytes) size) limit c s size bytes o h g

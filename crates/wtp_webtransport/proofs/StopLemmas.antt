@@ -13,6 +13,7 @@ use Rattle.wtp_messages.specs.Content.{fits}
 use Rattle.wtp_messages.specs.Message.{end_of}
 use Rattle.wtp_messages.specs.declared.malformed.Malformed.{Malformed}
 use Rattle.wtp_connection.specs.Streams.{rests}
+use Rattle.wtp_webtransport.specs.declared.stream.Delay.{Delay}
 use Rattle.wtp_webtransport.specs.declared.event.Waits.TheVariants as wait
 use Rattle.wtp_webtransport.specs.declared.fault.Fault.TheVariants as fault
 use Rattle.wtp_connection.specs.declared.connection.Connection.{Connection as Streams}
@@ -33,10 +34,10 @@ use Rattle.wtp_webtransport.specs.declared.stream.Due.{Due}
 use Rattle.wtp_webtransport.specs.declared.stream.Due.TheVariants as due
 use Rattle.wtp_webtransport.specs.Events.{Frame, Data, StreamData, End, SessionLost, Waits, More}
 use Rattle.wtp_webtransport.specs.Streams.{with_streams, with_frames, due_by}
-use Rattle.wtp_webtransport.specs.Receiving.{Outcome, found_opened, goaway_in, goaway_found, in_stream, content_by, DataBy, ends_by, EndBy, fails, spoiled, last, too_large, span_in, SectionBy, told_more, FoundGives, UnreadBy, GoesOn, DueGives, StreamGives, ReceivesIf, Receives}
+use Rattle.wtp_webtransport.specs.Receiving.{Outcome, found_opened, goaway_in, goaway_found, in_stream, content_by, DataBy, ends_by, EndBy, fails, spoiled, last, too_large, span_in, SectionBy, told_more, FoundGives, UnreadBy, GoesOn, DueGives, StreamGives, ReceivesIf, Receives, early}
 use Rattle.wtp_webtransport.specs.Calls.{Stops, Finishes, Continues, course_of, plain, moved, IsSession, HasMemory}
 use Rattle.wtp_webtransport.proofs.FoundLemmas.{section_moved}
-use Rattle.wtp_webtransport.proofs.CallLemmas.{gave_moved, gave_of, found_there, has_rest, rest_slice, fails_ends, goes_not, ends_not, section_stops, too_large_goes, goes_of, early_of, due_still, some_bytes, seen_empty, content_due, early, receives_again}
+use Rattle.wtp_webtransport.proofs.CallLemmas.{gave_moved, gave_of, found_there, has_rest, rest_slice, fails_ends, goes_not, ends_not, section_stops, IsEarly, too_large_goes, goes_of, early_of, due_still, some_bytes, seen_empty, content_due, receives_again}
 
 -- what a later call found in these bytes and more, where nothing grows
 pub keeps_end : (fin : Bool) (x : StreamRun) → has_none x.seen ≡ false → at_end fin x ≡ x
@@ -99,14 +100,14 @@ left_slice start end a b l m =
 same_unread : (s : Stream) (t : Frames) → s.unread ≡ unread.Nothing → record (with_frames s t) { unread = unread.Nothing } ≡ with_frames s t
 same_unread s t e = ap (λ (u : Unread). record (with_frames s t) { unread = u }) (sym e)
 
-waits_stops : (limit : ℕ) (c : Connection) (s : Stream) (a b : List ℕ) (fin : Bool) (o p q : Outcome) (start end : ℕ) (d : Streams) (t : Frames) → (IsSession s.part → ⊥) → c.over ≡ false → s.unread ≡ unread.Nothing → due_by s.part false ≡ due.Nothing → Fits (found.Frame kind.Headers start end) a d t → found_by (found.Frame kind.Headers start end) a d t ≡ first_seen c.streams s.frames a → o ≡ early (with_streams c d) (with_frames s t) (span_in start end a) → StopsRight limit c s a b fin o p q
-waits_stops limit c s a b fin o p q start end d t ns intact none idle fits first is h v g m =
+waits_stops : (why : Delay) (limit : ℕ) (c : Connection) (s : Stream) (a b : List ℕ) (fin : Bool) (o p q : Outcome) (start end : ℕ) (d : Streams) (t : Frames) → (IsSession s.part → ⊥) → c.over ≡ false → s.unread ≡ unread.Nothing → due_by s.part false ≡ due.Nothing → Fits (found.Frame kind.Headers start end) a d t → found_by (found.Frame kind.Headers start end) a d t ≡ first_seen c.streams s.frames a → o ≡ early (with_streams c d) (with_frames s t) (span_in start end a) why → StopsRight limit c s a b fin o p q
+waits_stops why limit c s a b fin o p q start end d t ns intact none idle fits first is h v g m =
     let c2 : Connection = with_streams c d in
     let s2 : Stream = with_frames s t in
     let rest : List ℕ = drop start a ++ b in
     let size : end - start ≤ length rest = omega (arith, fits.1, fits.2, length-append (drop start a) b, length-drop start a) in
-    let again : Receives limit c2 (record s2 { unread = unread.Early (end - start) }) rest fin p = subst (λ (z : Outcome). Receives limit z.2 z.3 (drop z.0 a ++ b) fin p) is h in
-    let one : SectionBy s.part limit c2 s2 0 (end - start) rest p = subst (λ (z : Stream). SectionBy s.part limit c2 z 0 (end - start) rest p) (same_unread s t none) (early_of (end - start) limit c2 s2 rest fin p again intact size) in
+    let again : Receives limit c2 (record s2 { unread = unread.Early (end - start) why }) rest fin p = subst (λ (z : Outcome). Receives limit z.2 z.3 (drop z.0 a ++ b) fin p) is h in
+    let one : SectionBy s.part limit c2 s2 0 (end - start) rest p = subst (λ (z : Stream). SectionBy s.part limit c2 z 0 (end - start) rest p) (same_unread s t none) (early_of why (end - start) limit c2 s2 rest fin p again intact size) in
     let y : GoesOn limit c s (a ++ b) fin q = goes_of limit c s (a ++ b) fin q g intact none (due_still s.part (length (a ++ b) == 0) idle) in
     let same : found_by y.x (a ++ b) y.d y.t ≡ left_over (found_by (found.Frame kind.Headers start end) a d t) b =
     y.first
@@ -122,9 +123,9 @@ waits_stops limit c s a b fin o p q start end d t ns intact none idle fits first
     ∙ ap (λ (k : ℕ). moved k (length (a ++ b)) p) (sym (ap (λ (z : Outcome). z.0) is))
 
 -- by whether bytes came: a section has some
-section_waits : (limit : ℕ) (c : Connection) (s : Stream) (a b : List ℕ) (fin : Bool) (o p q : Outcome) (start end : ℕ) (d : Streams) (t : Frames) → (IsSession s.part → ⊥) → c.over ≡ false → s.unread ≡ unread.Nothing → due_by s.part (length a == 0) ≡ due.Nothing → Fits (found.Frame kind.Headers start end) a d t → found_by (found.Frame kind.Headers start end) a d t ≡ first_seen c.streams s.frames a → o ≡ early (with_streams c d) (with_frames s t) (span_in start end a) → StopsRight limit c s a b fin o p q
+section_waits : (limit : ℕ) (c : Connection) (s : Stream) (a b : List ℕ) (fin : Bool) (o p q : Outcome) (start end : ℕ) (d : Streams) (t : Frames) → (IsSession s.part → ⊥) → c.over ≡ false → s.unread ≡ unread.Nothing → due_by s.part (length a == 0) ≡ due.Nothing → Fits (found.Frame kind.Headers start end) a d t → found_by (found.Frame kind.Headers start end) a d t ≡ first_seen c.streams s.frames a → IsEarly (with_streams c d) (with_frames s t) (span_in start end a) o → StopsRight limit c s a b fin o p q
 section_waits limit c s a b fin o p q start end d t ns intact none idle fits first is =
-    waits_stops limit c s a b fin o p q start end d t ns intact none (subst (λ (e : Bool). due_by s.part e ≡ due.Nothing) (some_bytes a (omega (arith, fits.0, fits.1, fits.2))) idle) fits first is
+    waits_stops is.0 limit c s a b fin o p q start end d t ns intact none (subst (λ (e : Bool). due_by s.part e ≡ due.Nothing) (some_bytes a (omega (arith, fits.0, fits.1, fits.2))) idle) fits first is.1
 
 pub opened_goes : (p : Purpose) (n : ℕ) (c : Connection) (s : Stream) → course_of (found_opened c s p n).1 ≡ Continues
 opened_goes («for».Session id) n c s = refl
@@ -177,12 +178,12 @@ due_stops due.Lost limit c s a b fin o p q ns intact none is g e = absurd (ends_
 due_stops due.Nothing limit c s a b fin o p q ns intact none is g e = found_stops g.x limit c s a b fin o p q g.d g.t ns intact none is g.found.fits g.first g.gives e
 
 -- a section that could not be read before
-section_left : (u : Unread) (size limit : ℕ) (c : Connection) (s : Stream) (a b : List ℕ) (fin : Bool) (o p q : Outcome) → c.over ≡ false → size ≤ length a → ((bytes : List ℕ) (z : Outcome) → size ≤ length bytes → Receives limit c s bytes fin z → SectionBy s.part limit c (record s { unread = unread.Nothing }) 0 size bytes z) → o ≡ early c (record s { unread = unread.Nothing }) (span_in 0 size a) → StopsRight limit c s a b fin o p q
-section_left u size limit c s a b fin o p q intact l reads is h v g m =
+section_left : (u : Unread) (size limit : ℕ) (c : Connection) (s : Stream) (a b : List ℕ) (fin : Bool) (o p q : Outcome) → c.over ≡ false → size ≤ length a → ((bytes : List ℕ) (z : Outcome) → size ≤ length bytes → Receives limit c s bytes fin z → SectionBy s.part limit c (record s { unread = unread.Nothing }) 0 size bytes z) → IsEarly c (record s { unread = unread.Nothing }) (span_in 0 size a) o → StopsRight limit c s a b fin o p q
+section_left u size limit c s a b fin o p q intact l reads (why, is) h v g m =
     let k : size - 0 ≡ size = omega arith in
     let more : size ≤ length (a ++ b) = omega (arith, l, length-append a b) in
-    let again : Receives limit c (record s { unread = unread.Early (size - 0) }) (a ++ b) fin p = subst (λ (z : Outcome). Receives limit z.2 z.3 (drop z.0 a ++ b) fin p) is h in
-    let one : SectionBy s.part limit c (record s { unread = unread.Nothing }) 0 size (a ++ b) p = early_of size limit c (record s { unread = unread.Nothing }) (a ++ b) fin p (subst (λ (n : ℕ). Receives limit c (record s { unread = unread.Early n }) (a ++ b) fin p) k again) intact more in
+    let again : Receives limit c (record s { unread = unread.Early (size - 0) why }) (a ++ b) fin p = subst (λ (z : Outcome). Receives limit z.2 z.3 (drop z.0 a ++ b) fin p) is h in
+    let one : SectionBy s.part limit c (record s { unread = unread.Nothing }) 0 size (a ++ b) p = early_of why size limit c (record s { unread = unread.Nothing }) (a ++ b) fin p (subst (λ (n : ℕ). Receives limit c (record s { unread = unread.Early n why }) (a ++ b) fin p) k again) intact more in
     section_moved s.part limit 0 c (record s { unread = unread.Nothing }) 0 size 0 size (a ++ b) (a ++ b) p q refl (omega arith) refl v m one (reads (a ++ b) q more g)
     ∙ ap (λ (n : ℕ). moved n (length (a ++ b)) p) (sym (ap (λ (z : Outcome). z.0) is))
 
@@ -205,7 +206,7 @@ reads_early u size limit c s fin intact is by bytes z l h =
     subst (λ (b : Bool). ReceivesIf b limit c s bytes fin z) intact h)))
 
 stream_stops : (u : Unread) (limit : ℕ) (c : Connection) (s : Stream) (a b : List ℕ) (fin : Bool) (o p q : Outcome) → (IsSession s.part → ⊥) → c.over ≡ false → s.unread ≡ u → StreamGives u limit c s a false o → course_of o.1 ≡ Stops → StopsRight limit c s a b fin o p q
-stream_stops (unread.Early size) limit c s a b fin o p q ns intact is g e = unread_stops (nat_lt (length a) size) size limit c s a b fin o p q ns intact refl (reads_early (unread.Early size) size limit c s fin intact is (λ bytes z h. h)) g e
+stream_stops (unread.Early size why) limit c s a b fin o p q ns intact is g e = unread_stops (nat_lt (length a) size) size limit c s a b fin o p q ns intact refl (reads_early (unread.Early size why) size limit c s fin intact is (λ bytes z h. h)) g e
 stream_stops (unread.Section size) limit c s a b fin o p q ns intact is g e = unread_stops (nat_lt (length a) size) size limit c s a b fin o p q ns intact refl (reads_early (unread.Section size) size limit c s fin intact is (λ bytes z h. h)) g e
 stream_stops unread.Nothing limit c s a b fin o p q ns intact is g e = due_stops (due_by s.part (length a == 0)) limit c s a b fin o p q ns intact is refl g e
 

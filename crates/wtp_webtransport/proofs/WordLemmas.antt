@@ -13,12 +13,13 @@ use Rattle.wtp_webtransport.specs.declared.connection.words.ConnectionWords.{Con
 use Rattle.wtp_webtransport.specs.declared.stream.Stream.{Stream}
 use Rattle.wtp_webtransport.specs.declared.stream.Part.{Part}
 use Rattle.wtp_webtransport.specs.declared.stream.Part.TheVariants as part
+use Rattle.wtp_webtransport.specs.declared.stream.Delay.TheVariants as delay
 use Rattle.wtp_webtransport.specs.declared.stream.Unread.{Unread}
 use Rattle.wtp_webtransport.specs.declared.stream.Unread.TheVariants as unread
 use Rattle.wtp_webtransport.specs.declared.stream.words.StreamWords.{StreamWords}
-use Rattle.wtp_webtransport.specs.Words.{connection_words, connection_at, part_words, part_at, unread_words, unread_at, asked_words, asked_option_at, capsule_words, head_by, skipped_at, capsules_at, held_in, IsSound, stream_words, stream_at, AreWordsOf}
+use Rattle.wtp_webtransport.specs.Words.{connection_words, connection_at, without_table, part_words, part_at, unread_words, unread_at, asked_words, asked_option_at, capsule_words, head_by, skipped_at, capsules_at, held_in, IsSound, stream_words, stream_at, AreWordsOf}
 
-pub connection_is_read : (c : Connection) → connection_at (connection_words c) ≡ c
+pub connection_is_read : (c : Connection) → connection_at (connection_words c) ≡ without_table c
 connection_is_read c = rw (streams_are_read c.streams, endpoint_is c.endpoint, flag_is c.extended, flag_is c.configured, optional_is c.goaway, flag_is c.over) refl
 
 part_is : (p : Part) → part_at (part_words p) ≡ p
@@ -36,7 +37,8 @@ part_is part.Past = refl
 
 unread_is : (u : Unread) → unread_at (unread_words u) ≡ u
 unread_is unread.Nothing = refl
-unread_is (unread.Early size) = refl
+unread_is (unread.Early size delay.Settings) = refl
+unread_is (unread.Early size (delay.Table required)) = refl
 unread_is (unread.Section size) = refl
 
 asked_is : (a : Option Asked) → asked_option_at (asked_words a) ≡ a

@@ -18,6 +18,7 @@ pub data Told : Type 0 where
   Joins : ℕ → Told
   Joined : ℕ → Told
   Settings : PeerSettings → List ℕ → Told
+  Inserted : ℕ → Told
   GoAway : ℕ → Told
   Frame : FrameType → List ℕ → Told
   Headers : HeadersKind → List Field → Told
@@ -46,6 +47,7 @@ told_of (event.Opened p) = Opened p
 told_of (event.Joins id) = Joins id
 told_of (event.Joined id) = Joined id
 told_of (event.Settings v payload) = Settings v payload.now
+told_of (event.Inserted count) = Inserted count
 told_of (event.GoAway id) = GoAway id
 told_of (event.Frame k payload) = Frame k payload.now
 told_of (event.Headers k fields) = Headers k fields

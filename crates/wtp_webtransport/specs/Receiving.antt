@@ -21,6 +21,12 @@ use Rattle.wtp_connection.specs.Streams.{Joined, tells_interim, abandons}
 use Rattle.wtp_fields.specs.declared.fields.FieldSectionError.{FieldSectionError}
 use Rattle.wtp_fields.specs.declared.fields.FieldSectionError.TheVariants as section_error
 use Rattle.wtp_fields.specs.FieldList.{DecodesTo}
+use Rattle.wtp_dynamic_decoder.specs.Decoder.{Decoder}
+use Rattle.wtp_dynamic_fields.specs.declared.section.Decoded.{Decoded}
+use Rattle.wtp_dynamic_fields.specs.declared.section.Decoded.TheVariants as decoded
+use Rattle.wtp_dynamic_fields.specs.declared.section.TableSectionError.{TableSectionError}
+use Rattle.wtp_dynamic_fields.specs.declared.section.TableSectionError.TheVariants as table_error
+use Rattle.wtp_dynamic_fields.specs.Reading.{TableGives as SectionReads}
 use Rattle.wtp_messages.specs.declared.malformed.Malformed.{Malformed}
 use Rattle.wtp_messages.specs.declared.malformed.Malformed.TheVariants.{ContentTooLong}
 use Rattle.wtp_messages.specs.declared.message.Message.{Message}
@@ -51,6 +57,8 @@ use Rattle.wtp_webtransport.specs.declared.connection.messages.Span.{Span}
 use Rattle.wtp_webtransport.specs.declared.stream.Stream.{Stream}
 use Rattle.wtp_webtransport.specs.declared.stream.Unread.{Unread}
 use Rattle.wtp_webtransport.specs.declared.stream.Unread.TheVariants as unread
+use Rattle.wtp_webtransport.specs.declared.stream.Delay.{Delay}
+use Rattle.wtp_webtransport.specs.declared.stream.Delay.TheVariants as delay
 use Rattle.wtp_webtransport.specs.declared.stream.Due.{Due}
 use Rattle.wtp_webtransport.specs.declared.stream.Due.TheVariants as due
 use Rattle.wtp_webtransport.specs.declared.stream.Part.{Part}
@@ -59,7 +67,7 @@ use Rattle.wtp_webtransport.specs.Fault.{scope_of}
 use Rattle.wtp_webtransport.specs.Prefix.{names_table}
 use Rattle.wtp_webtransport.specs.Events.{Told, Opened, Joins, Settings, GoAway, Frame, Headers, SessionRequested, SessionReady, Rejected, SessionClosed, SessionLost, Datagram, Draining, Skipped, Data, StreamData, TooLarge, Malformed as MalformedBy, StreamError, ConnectionError, End, NoMemory, Waits, More}
 use Rattle.wtp_webtransport.specs.Sessions.{asks_of}
-use Rattle.wtp_webtransport.specs.Streams.{with_streams, with_frames, with_part, with_head, with_session_id, with_message, with_session, connects, ended, after_error, due_by, GivesCapsule, EndsBetween}
+use Rattle.wtp_webtransport.specs.Streams.{with_streams, with_frames, with_part, with_head, with_session_id, with_message, with_session, connects, ended, after_error, wait_for, due_by, GivesCapsule, EndsBetween}
 
 abbrev pub Outcome : Type 0
 Outcome = ℕ × Told × Connection × Stream
@@ -246,6 +254,20 @@ taken_of (Ok (section.Response response)) = taken.Response response.status
 taken_of (Ok section.Trailers) = taken.Trailers
 taken_of (Err rule) = taken.Malformed rule
 
+-- there was no memory for a section, which is not consumed
+abbrev pub lacking_in : Stream → Span → ℕ × Told × Stream
+lacking_in s at =
+    (at.start, NoMemory, record s { unread = unread.Section (at.end - at.start) })
+
+-- a section that came too early is not consumed, and waits for this
+abbrev pub early_in : Stream → Span → Delay → ℕ × Told × Stream
+early_in s at why =
+    (at.start, Waits (wait_for why), record s { unread = unread.Early (at.end - at.start) why })
+
+abbrev pub early : Connection → Stream → Span → Delay → Outcome
+early c s at why =
+    (at.start, Waits (wait_for why), c, record s { unread = unread.Early (at.end - at.start) why })
+
 abbrev pub headers_given : HeadersKind → List Field → ℕ → ℕ × Told
 headers_given k fields end = (end, Headers k fields)
 
@@ -268,8 +290,7 @@ request_by asks.Plain c s m fields at =
     (at.end, Headers headers.Request fields, c, with_part s (part.Body m))
 request_by asks.Tunnel c s m fields at =
     (at.end, Headers headers.Request fields, c, with_part s (part.Unanswered false m))
-request_by asks.TooEarly c s m fields at =
-    (at.start, Waits wait.Settings, c, record s { unread = unread.Early (at.end - at.start) })
+request_by asks.TooEarly c s m fields at = early c s at delay.Settings
 request_by asks.Session c s m fields at =
     (at.end, SessionRequested fields, c, with_session (with_part s (part.Unanswered true m)))
 
@@ -321,9 +342,50 @@ ResultGives c s m at (Err section_error.Memory) o =
     o ≡ (at.start, NoMemory, c, record s { unread = unread.Section (at.end - at.start) })
 ResultGives c s m at (Err (section_error.Decoding e)) o = o ≡ fails c s (fault.Section e) at.len
 
--- one whose prefix refers to a table cannot be decoded
+-- The connection after an event of a section that needed so many insertions: it was read, unless the event
+-- says that it waits.
+abbrev pub read_after : Told → ℕ → Connection → Connection
+read_after (Waits why) required c = c
+read_after told required c = record c { read = Some required }
+
+abbrev pub noted : ℕ → Outcome → Outcome
+noted required o = (o.0, o.1, read_after o.1 required o.2, o.3)
+
+-- the fields of a section that needed so many insertions
+abbrev pub HasRead :
+    Connection → Stream → Message → Span → List Field → ℕ → Outcome → Type 0
+HasRead c s m at fields required o =
+    (p : Outcome) × ReadGives c s m fields at p × (o ≡ noted required p)
+
+-- the result of decoding it with the dynamic table
+abbrev pub OverGives :
+    Connection → Stream → Message → Span → Result Decoded TableSectionError → Outcome → Type 0
+OverGives c s m at (Ok (decoded.Fields fields required)) o = HasRead c s m at fields required o
+OverGives c s m at (Ok (decoded.Blocked required)) o = o ≡ early c s at (delay.Table required)
+OverGives c s m at (Err table_error.TooLarge) o = o ≡ too_large c s None at.end
+OverGives c s m at (Err table_error.Memory) o =
+    o ≡ (at.start, NoMemory, c, record s { unread = unread.Section (at.end - at.start) })
+OverGives c s m at (Err (table_error.Section e)) o = o ≡ fails c s (fault.TableSection e) at.len
+
+-- what the table makes of a section, if there is one
+abbrev pub DecodedBy :
+    Option Decoder → ℕ → List ℕ → Option (Result Decoded TableSectionError) → Type 0
+DecodedBy None limit section r = r ≡ None
+DecodedBy (Some d) limit section r =
+    (x : Result Decoded TableSectionError) × SectionReads limit d.table section x × (r ≡ Some x)
+
+-- One whose prefix refers to a table is decoded with it (RFC 9204, section 2.2), and cannot be decoded
+-- where none is allowed.
+abbrev pub TableGives :
+    Option Decoder → ℕ → Connection → Stream → Message → Span → List ℕ → Outcome → Type 0
+TableGives None limit c s m at bytes o = o ≡ fails c s fault.SectionPrefix at.len
+TableGives (Some d) limit c s m at bytes o =
+    (r : Result Decoded TableSectionError)
+    × SectionReads limit d.table (slice at.start at.end bytes) r
+    × OverGives c s m at r o
+
 abbrev pub PrefixGives : Bool → ℕ → Connection → Stream → Message → Span → List ℕ → Outcome → Type 0
-PrefixGives true limit c s m at bytes o = o ≡ fails c s fault.SectionPrefix at.len
+PrefixGives true limit c s m at bytes o = TableGives c.decoder limit c s m at bytes o
 PrefixGives false limit c s m at bytes o =
     (r : Result (List Field) FieldSectionError)
     × DecodesTo limit (slice at.start at.end bytes) r
@@ -404,7 +466,7 @@ DueGives due.Lost limit c s bytes fin o = o ≡ last c s SessionLost (length byt
 DueGives due.Nothing limit c s bytes fin o = GoesOn limit c s bytes fin o
 
 abbrev pub StreamGives : Unread → ℕ → Connection → Stream → List ℕ → Bool → Outcome → Type 0
-StreamGives (unread.Early size) limit c s bytes fin o = UnreadGives limit c s size bytes o
+StreamGives (unread.Early size why) limit c s bytes fin o = UnreadGives limit c s size bytes o
 StreamGives (unread.Section size) limit c s bytes fin o = UnreadGives limit c s size bytes o
 StreamGives unread.Nothing limit c s bytes fin o =
     DueGives (due_by s.part (length bytes == 0)) limit c s bytes fin o

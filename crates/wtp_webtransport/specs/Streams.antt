@@ -25,6 +25,8 @@ use Rattle.wtp_webtransport.specs.declared.stream.Part.{Part}
 use Rattle.wtp_webtransport.specs.declared.stream.Part.TheVariants as part
 use Rattle.wtp_webtransport.specs.declared.stream.Unread.{Unread}
 use Rattle.wtp_webtransport.specs.declared.stream.Unread.TheVariants as unread
+use Rattle.wtp_webtransport.specs.declared.stream.Delay.{Delay}
+use Rattle.wtp_webtransport.specs.declared.stream.Delay.TheVariants as delay
 use Rattle.wtp_webtransport.specs.declared.stream.Due.{Due}
 use Rattle.wtp_webtransport.specs.declared.stream.Due.TheVariants as due
 use Rattle.wtp_webtransport.specs.declared.event.Waits.{Waits}
@@ -41,6 +43,8 @@ connection_of e extended = record {
   configured = false;
   goaway = None;
   over = false;
+  decoder = None;
+  read = None;
 }
 
 -- One of a client that resumes a session and sends 0-RTT data: the server has the settings of that
@@ -204,8 +208,13 @@ abbrev pub waits_by : Part → Option Waits → Option Waits
 waits_by (part.Unanswered session m) w = Some wait.Answer
 waits_by _ w = w
 
+-- what a section that came too early waits for
+abbrev pub wait_for : Delay → Waits
+wait_for delay.Settings = wait.Settings
+wait_for (delay.Table required) = wait.Table required
+
 abbrev pub waits_early : Unread → Option Waits → Option Waits
-waits_early (unread.Early size) w = Some wait.Settings
+waits_early (unread.Early size why) w = Some (wait_for why)
 waits_early _ w = w
 
 abbrev pub waits_for : Stream → Option Waits

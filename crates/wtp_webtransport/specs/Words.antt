@@ -18,6 +18,7 @@ use Rattle.wtp_webtransport.specs.declared.connection.words.ConnectionWords.{Con
 use Rattle.wtp_webtransport.specs.declared.stream.Stream.{Stream}
 use Rattle.wtp_webtransport.specs.declared.stream.Part.{Part}
 use Rattle.wtp_webtransport.specs.declared.stream.Part.TheVariants as part
+use Rattle.wtp_webtransport.specs.declared.stream.Delay.TheVariants as delay
 use Rattle.wtp_webtransport.specs.declared.stream.Unread.{Unread}
 use Rattle.wtp_webtransport.specs.declared.stream.Unread.TheVariants as unread
 use Rattle.wtp_webtransport.specs.declared.stream.words.PartWords.{PartWords}
@@ -25,6 +26,8 @@ use Rattle.wtp_webtransport.specs.declared.stream.words.UnreadWords.{UnreadWords
 use Rattle.wtp_webtransport.specs.declared.stream.words.StreamWords.{StreamWords}
 
 -- ---- the words of a state
+
+-- those of a connection but for its dynamic table
 
 abbrev pub connection_words : Connection → ConnectionWords
 connection_words c = record {
@@ -63,9 +66,11 @@ part_words part.Losing = bare_part 9
 part_words part.Past = bare_part 10
 
 abbrev pub unread_words : Unread → UnreadWords
-unread_words unread.Nothing = record { size = 0; kind = 0 }
-unread_words (unread.Early size) = record { size = size; kind = 1 }
-unread_words (unread.Section size) = record { size = size; kind = 2 }
+unread_words unread.Nothing = record { size = 0; count = 0; kind = 0 }
+unread_words (unread.Early size delay.Settings) = record { size = size; count = 0; kind = 1 }
+unread_words (unread.Section size) = record { size = size; count = 0; kind = 2 }
+unread_words (unread.Early size (delay.Table required)) =
+    record { size = size; count = required; kind = 3 }
 
 abbrev pub asked_words : Option Asked → ℕ
 asked_words None = 0
@@ -123,7 +128,13 @@ connection_at w = record {
   configured = flag_at w.configured;
   goaway = optional_at w.goaway;
   over = flag_at w.over;
+  decoder = None;
+  read = None;
 }
+
+-- the connection without its dynamic table
+abbrev pub without_table : Connection → Connection
+without_table c = record c { decoder = None; read = None }
 
 abbrev pub part_at : PartWords → Part
 part_at w =
@@ -142,7 +153,9 @@ part_at w =
 abbrev pub unread_at : UnreadWords → Unread
 unread_at w =
     if w.kind == 0 then unread.Nothing
-    else (if w.kind == 1 then unread.Early w.size else unread.Section w.size)
+    else (if w.kind == 1 then unread.Early w.size delay.Settings
+    else (if w.kind == 2 then unread.Section w.size
+    else unread.Early w.size (delay.Table w.count)))
 
 abbrev pub asked_option_at : ℕ → Option Asked
 asked_option_at n =

@@ -3,11 +3,13 @@ ghost use Rattle.std.specs.Prelude.{◌≡◌, ◌≤◌, length};
 ghost use Rattle.wtp_connection.specs.Receiving.{Fits};
 ghost use Rattle.wtp_webtransport.specs.Events.{told_of};
 ghost use Rattle.wtp_webtransport.specs.Receiving.{Receives, FoundGives, closed_by, fails, found_opened, goaway_found, last_in, malformed as malformed_is, told_more};
+ghost use Rattle.wtp_webtransport.specs.Tables.{Call};
 ghost use Rattle.wtp_webtransport.specs.Streams.{connection_of, resuming_connection, without_early_data, accepted, request_stream, after_error, is_unprocessed_by};
 
 mod messages;
 mod sessions;
 mod streams;
+mod table;
 pub mod words;
 
 use crate::event::{Event, Received, Waits};
@@ -19,6 +21,7 @@ use wtp_connection::settings::PeerSettings;
 use wtp_connection::stream::{Purpose, Stream as Frames};
 use wtp_core::error::ErrorScope;
 use wtp_core::varint::first_varint;
+use wtp_dynamic_decoder::decoder::QpackDecoder;
 use wtp_frames::endpoint::{Endpoint, Side};
 use wtp_frames::frame_type::FrameType;
 use wtp_messages::malformed::Malformed;
@@ -40,6 +43,10 @@ pub struct Connection {
     goaway: Option<u64>,
     /// Whether an error ended the connection.
     over: bool,
+    /// The dynamic table of QPACK, if the own SETTINGS allow one.
+    decoder: Option<QpackDecoder>,
+    /// How many insertions the last section needed that was read with the table and not acknowledged.
+    read: Option<u64>,
 }
 
 impl Connection {
@@ -56,6 +63,8 @@ impl Connection {
             configured: false,
             goaway: None,
             over: false,
+            decoder: None,
+            read: None,
         }
     }
 
@@ -77,6 +86,8 @@ impl Connection {
             configured: false,
             goaway: None,
             over: false,
+            decoder: None,
+            read: None,
         }
     }
 
@@ -127,6 +138,9 @@ impl Connection {
     /// Returns what is next in the bytes of a stream that follow those consumed before. `fin`: the
     /// stream ends right after `bytes`. Call it until [`Event::More`] or [`Event::Waits`].
     ///
+    /// Bytes of the encoder stream go to the dynamic table, if the connection
+    /// [has one](Self::allow_table): the event is [`Event::Inserted`].
+    ///
     /// After `More` and `NoMemory` the bytes that were not consumed are to be passed again, after
     /// `More` with more bytes after them. After `Waits` they are to be passed again when the wait is
     /// over. With an error all bytes are consumed. After an error of the connection every call
@@ -134,7 +148,26 @@ impl Connection {
     ///
     /// How many bytes wait is not bounded: say of a stream of which more wait than you keep that it
     /// [overflows](Self::overflow).
+    #[tactic(auto, using(crate::proofs::TableLemmas::call_read))]
     pub fn receive<'a>(
+        &mut self,
+        stream: &mut Stream,
+        bytes: &'a [u8],
+        fin: bool,
+        fields: &mut Fields,
+    ) -> Received<'a>
+        ensures received { Call fields.old.limit self.old stream.old bytes.now fin
+            (result.consumed, told_of result.event, self.new, stream.new) }
+        ensures fields { fields.new ≡ fields.old }
+    {
+        if self.reads_instructions(stream, bytes) {
+            return self.instructions(stream, bytes);
+        }
+        self.read(stream, bytes, fin, fields)
+    }
+
+    // Returns what is next in bytes that are no instructions for the table.
+    fn read<'a>(
         &mut self,
         stream: &mut Stream,
         bytes: &'a [u8],
@@ -153,7 +186,7 @@ impl Connection {
         }
         match stream.unread {
             Unread::Nothing => {}
-            Unread::Early(size) | Unread::Section(size) => {
+            Unread::Early(size, _) | Unread::Section(size) => {
                 return self.read_again(stream, size, bytes, fields);
             }
         }

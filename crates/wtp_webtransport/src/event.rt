@@ -32,6 +32,9 @@ pub enum Waits {
     Settings,
     /// For the answer to its CONNECT request, until `Stream::answer`.
     Answer,
+    /// For so many insertions into the dynamic table, of which there were fewer: the stream has a field
+    /// section that needs them (RFC 9204, section 2.1.2), until [`Event::Inserted`] with as many.
+    Table(u64),
 }
 
 /// What is next on a stream.
@@ -43,6 +46,10 @@ pub enum Event<'a> {
     Joins(u64),
     /// The stream belongs to the session with this ID, which is open: its bytes follow.
     Joined(u64),
+    /// Instructions of the encoder stream were read, where the own SETTINGS allow a dynamic table: how
+    /// many entries were inserted since the connection began. Streams that wait for no more than these
+    /// are to be read again (RFC 9204, section 2.1.2).
+    Inserted(u64),
     /// SETTINGS of the peer: what they define, and their payload.
     Settings(PeerSettings, &'a [u8]),
     /// GOAWAY: at a client the ID of the first request that is not processed, at a server that of a

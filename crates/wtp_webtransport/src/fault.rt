@@ -5,6 +5,7 @@ ghost use Rattle.wtp_webtransport.specs.Fault.{code_of, scope_of};
 
 use wtp_connection::fault::Fault as StreamsFault;
 use wtp_core::error::{Code, ErrorScope};
+use wtp_dynamic::error::{EncoderStreamError, SectionError};
 use wtp_qpack::qpack::DecodingError;
 
 /// An error of a connection or of one of its streams, by the rule that the peer violated.
@@ -17,6 +18,12 @@ pub enum Fault {
     /// The prefix of a field section refers to a dynamic table, and none is allowed: its Required
     /// Insert Count is not 0, or its Sign bit is 1 (RFC 9204, sections 4.5.1.1 and 4.5.1.2).
     SectionPrefix,
+    /// A field section that refers to the dynamic table cannot be decoded (RFC 9204, section 6), or has to
+    /// wait where as many streams wait as may (section 2.1.2).
+    TableSection(SectionError),
+    /// An instruction of the encoder stream is wrong (RFC 9204, section 6), or there was no memory for it:
+    /// then the code is H3_INTERNAL_ERROR.
+    Instructions(EncoderStreamError),
     /// A capsule of a session is invalid, cut off by the end of the stream, or follows the one that
     /// closes the session (RFC 9297, section 3.3; draft-ietf-webtrans-http3-02, section 5).
     Capsule,
@@ -34,6 +41,9 @@ impl Fault {
             Fault::Streams(fault) => fault.code(),
             Fault::Section(_) => Code::QPACK_DECOMPRESSION_FAILED,
             Fault::SectionPrefix => Code::QPACK_DECOMPRESSION_FAILED,
+            Fault::TableSection(_) => Code::QPACK_DECOMPRESSION_FAILED,
+            Fault::Instructions(EncoderStreamError::Memory) => Code::H3_INTERNAL_ERROR,
+            Fault::Instructions(_) => Code::QPACK_ENCODER_STREAM_ERROR,
             Fault::Capsule => Code::H3_MESSAGE_ERROR,
             Fault::Rejected => Code::H3_REQUEST_REJECTED,
         }

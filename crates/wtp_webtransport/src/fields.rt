@@ -14,7 +14,7 @@ pub struct Fields {
 }
 
 impl Fields {
-    /// Creates the memory of a connection that allows no dynamic table (RFC 9204, section 3.2.3).
+    /// Creates the memory for the field sections of a connection.
     ///
     /// `limit` bounds the size of a decoded field section: for each field the lengths of its name and
     /// its value in bytes, plus 32 (RFC 9114, section 4.2.2).

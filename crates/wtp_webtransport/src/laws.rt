@@ -13,6 +13,7 @@ ghost use Rattle.wtp_webtransport.specs.Endings.{KeepsSession, KeepsAfter, accep
 ghost use Rattle.wtp_webtransport.specs.Joining.{resets, stops_half, abandons, joins, overflows, rejects};
 ghost use Rattle.wtp_webtransport.specs.Streams.{is_held, answered, stream_of, asking_stream, session_stream};
 ghost use Rattle.wtp_webtransport.specs.Sessions.{known_of};
+ghost use Rattle.wtp_webtransport.specs.declared.stream.Delay.{Delay};
 ghost use Rattle.wtp_webtransport.specs.declared.stream.Part.TheVariants as part;
 ghost use Rattle.wtp_webtransport.specs.declared.stream.Unread.TheVariants as unread;
 ghost use Rattle.wtp_webtransport.specs.declared.event.Waits.TheVariants as wait;
@@ -117,16 +118,17 @@ pub fn early_streams_wait()
 {}
 
 /// A request that waits loses nothing. While it has no answer, a call consumes nothing and changes
-/// nothing, so its bytes are read after the answer as if they came then. One that waited for the peer's
-/// SETTINGS is read, by whatever connection they made, as the section that comes next, once all of its
-/// bytes are passed.
+/// nothing, so its bytes are read after the answer as if they came then. A section that came before the
+/// peer's SETTINGS, or before the insertions into the dynamic table that it needs, is read, by whatever
+/// connection these made, as the section that comes next, once all of its bytes are passed.
 pub fn waits_change_nothing()
     ensures answer { (limit : ℕ) (c : Connection) (s : Stream) (m : Message) (session : Bool) (bytes : List ℕ)
         (fin : Bool) (o : Outcome) → c.over ≡ false → s.unread ≡ unread.Nothing
         → s.part ≡ part.Unanswered session m → Receives limit c s bytes fin o
         → o ≡ (0, Waits wait.Answer, c, s) }
-    ensures settings { (size limit : ℕ) (c : Connection) (s : Stream) (bytes : List ℕ) (fin : Bool) (o : Outcome)
-        → Receives limit c (record s { unread = unread.Early size }) bytes fin o → c.over ≡ false
+    ensures early { (why : Delay) (size limit : ℕ) (c : Connection) (s : Stream) (bytes : List ℕ) (fin : Bool)
+        (o : Outcome)
+        → Receives limit c (record s { unread = unread.Early size why }) bytes fin o → c.over ≡ false
         → size ≤ length bytes
         → SectionGives limit c (record s { unread = unread.Nothing }) 0 size bytes o }
 {}

@@ -1,6 +1,6 @@
 //! The state of one stream: of its frames, and of its message or its session.
 ghost use Rattle.std.specs.Prelude.{◌≡◌, ◌↔◌, IsTrue};
-ghost use Rattle.wtp_webtransport.specs.Streams.{stream_of, asking_stream, session_stream, with_session_id, with_head, with_session, connects, after_end, ended, answered, waits_for as waits_for_is, is_held, is_done as is_done_is, due_by, GivesCapsule, EndsBetween};
+ghost use Rattle.wtp_webtransport.specs.Streams.{stream_of, asking_stream, session_stream, with_session_id, with_head, with_session, connects, after_end, ended, answered, wait_for, waits_for as waits_for_is, is_held, is_done as is_done_is, due_by, GivesCapsule, EndsBetween};
 
 pub mod codes;
 pub mod words;
@@ -41,13 +41,34 @@ pub(crate) enum Part {
     Past,
 }
 
+/// What a field section waits for.
+#[derive(Clone, Copy)]
+pub(crate) enum Delay {
+    /// The SETTINGS of the peer.
+    Settings,
+    /// So many insertions into the dynamic table.
+    Table(u64),
+}
+
+impl Delay {
+    // Returns what the stream waits for.
+    pub(crate) fn waits(self) -> Waits
+        ensures { result ≡ wait_for self }
+    {
+        match self {
+            Delay::Settings => Waits::Settings,
+            Delay::Table(required) => Waits::Table(required),
+        }
+    }
+}
+
 /// What is next in the bytes of a stream, and was found there before.
 #[derive(Clone, Copy)]
 pub(crate) enum Unread {
     /// Nothing.
     Nothing,
-    /// A field section of this size, which waits for the SETTINGS of the peer.
-    Early(usize),
+    /// A field section of this size, which came too early, and what it waits for.
+    Early(usize, Delay),
     /// A field section of this size, for which there was no memory.
     Section(usize),
 }
@@ -261,13 +282,13 @@ impl Stream {
         }
     }
 
-    /// Returns what the stream waits for. It is still `Settings` once SETTINGS came, until the next
-    /// call of [`receive`](crate::connection::Connection::receive).
+    /// Returns what the stream waits for. It is still `Settings` or `Table` once these came, until the
+    /// next call of [`receive`](crate::connection::Connection::receive).
     pub fn waits(&self) -> Option<Waits>
         ensures { result ≡ waits_for_is self.now }
     {
-        if let Unread::Early(_) = self.unread {
-            return Some(Waits::Settings);
+        if let Unread::Early(_, delay) = self.unread {
+            return Some(delay.waits());
         }
         if let Part::Unanswered(_, _) = self.part {
             return Some(Waits::Answer);

@@ -166,7 +166,7 @@ pub(crate) fn rule_of(rule: Malformed) -> u32
     }
 }
 
-// Returns the number of what a stream waits for, and the session.
+// Returns the number of what a stream waits for, and the session, or how many insertions.
 pub(crate) fn waits_of(waits: Option<Waits>) -> (u32, u64)
     ensures { result ≡ (wait_number waits, wait_session waits) }
 {
@@ -175,6 +175,7 @@ pub(crate) fn waits_of(waits: Option<Waits>) -> (u32, u64)
         Some(Waits::Session(session)) => (1, session),
         Some(Waits::Settings) => (2, 0),
         Some(Waits::Answer) => (3, 0),
+        Some(Waits::Table(required)) => (4, required),
     }
 }
 
@@ -231,6 +232,7 @@ pub(crate) fn event_of(event: &Event<'_>, consumed: usize) -> WtEvent
         Event::Reset(None) => WtEvent::plain(23, 0, 0),
         Event::End => WtEvent::plain(24, 0, 0),
         Event::NoMemory => WtEvent::plain(25, 0, 0),
+        Event::Inserted(count) => WtEvent::plain(26, 0, *count),
     }
 }
 

@@ -1,7 +1,8 @@
 //! What is next on a stream.
 ghost use Rattle.std.specs.Prelude.{◌≡◌, ◌≢◌, ◌⊎◌, ◌≤◌, ◌<◌, ◌==◌, ◌++◌, not, [], length, drop};
-ghost use Rattle.wtp_webtransport.specs.Events.{NoMemory};
-ghost use Rattle.wtp_webtransport.specs.Receiving.{Outcome};
+ghost use Rattle.wtp_webtransport.specs.Events.{NoMemory, told_of};
+ghost use Rattle.wtp_webtransport.specs.Receiving.{Outcome, Receives};
+ghost use Rattle.wtp_webtransport.specs.Words.{without_table};
 ghost use Rattle.wt_c.specs.Connections.{IsNoConnection, held_by, IsNoStream};
 ghost use Rattle.wt_c.specs.ConnectionCalls.{Gives, Leaves, event_from};
 
@@ -12,8 +13,10 @@ use crate::connections::streams::WtStream;
 use crate::fields::WtField;
 use crate::status::{BUFFER_TOO_SMALL, INVALID, MEMORY, OK, UNSUPPORTED};
 use std::alloc::Global;
-use wtp_webtransport::event::Event;
+use wtp_webtransport::connection::Connection;
+use wtp_webtransport::event::{Event, Received};
 use wtp_webtransport::fields::Fields;
+use wtp_webtransport::stream::Stream;
 
 /// Returns what is next in the bytes of a stream that follow those consumed before. `fin` is not 0
 /// if the stream ends right after them. `table` is the memory of QPACK's dynamic table, which this
@@ -70,7 +73,7 @@ pub extern "C" fn wt_receive(
     if !table.is_empty() {
         return UNSUPPORTED;
     }
-    let Some(mut common) = connection.connection() else {
+    let Some(mut common) = connection.static_connection() else {
         return INVALID;
     };
     let mut state = match stream.stream(alloc, held) {
@@ -78,7 +81,7 @@ pub extern "C" fn wt_receive(
         Err(rejection) => return rejection.answer(),
     };
     let mut memory = Fields::new(alloc, connection.max_fields);
-    let received = common.receive(&mut state, bytes, fin != 0, &mut memory);
+    let received = receive(&mut common, &mut state, bytes, fin != 0, &mut memory);
     if let Event::NoMemory = &received.event {
         return MEMORY;
     }
@@ -94,4 +97,21 @@ pub extern "C" fn wt_receive(
     connection.set(&common);
     *stream = after;
     OK
+}
+
+// Returns what is next on a stream of a connection without a dynamic table.
+#[tactic(auto, using(wtp_webtransport::proofs::TableLemmas::call_alone))]
+fn receive<'a>(
+    connection: &mut Connection,
+    stream: &mut Stream,
+    bytes: &'a [u8],
+    fin: bool,
+    fields: &mut Fields,
+) -> Received<'a>
+    requires { without_table connection.old ≡ connection.old }
+    ensures received { Receives fields.old.limit connection.old stream.old bytes.now fin
+        (result.consumed, told_of result.event, connection.new, stream.new) }
+    ensures fields { fields.new ≡ fields.old }
+{
+    connection.receive(stream, bytes, fin, fields)
 }

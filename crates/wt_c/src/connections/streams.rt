@@ -26,7 +26,7 @@ pub struct WtStream {
     /// Its frames, its message and its capsules.
     pub words: StreamWords,
     /// 0.
-    pub reserved: [u64; 4],
+    pub reserved: [u64; 3],
 }
 
 // Returns whether so many bytes are more than a limit.
@@ -58,7 +58,7 @@ impl WtStream {
     {
         WtStream {
             words: stream.to_words(),
-            reserved: [0; 4],
+            reserved: [0; 3],
         }
     }
 
@@ -78,7 +78,7 @@ impl WtStream {
         };
         let after = WtStream {
             words,
-            reserved: [0; 4],
+            reserved: [0; 3],
         };
         (after, left)
     }
@@ -91,7 +91,7 @@ impl WtStream {
             × (e ≡ Rejection.Memory → held_by self.now held.now ≢ [])) }
     {
         let size = self.words.capsules.held;
-        if size > held.len() || self.reserved != [0; 4] {
+        if size > held.len() || self.reserved != [0; 3] {
             return Err(Rejection::Invalid);
         }
         match Stream::from_words(alloc, self.words, &held[..size]) {
@@ -108,7 +108,7 @@ impl WtStream {
         ensures { MatchOption result (IsWithoutStream self.now)
             (λ t. EachStream self.now (λ s. t ≡ blank s)) }
     {
-        if self.reserved != [0; 4] {
+        if self.reserved != [0; 3] {
             return None;
         }
         match Stream::from_words(alloc, blank_words(self.words), &[]) {
@@ -127,7 +127,7 @@ impl WtStream {
         }
         WtStream {
             words,
-            reserved: [0; 4],
+            reserved: [0; 3],
         }
     }
 }

@@ -3,16 +3,17 @@ ghost use Rattle.std.specs.Prelude.{◌≡◌, ◌≤◌, ◌<◌, ◌+◌, leng
 ghost use Rattle.wtp_messages.specs.Content.{fits as fits_is};
 ghost use Rattle.wtp_messages.specs.Names.{has_value as has_value_of};
 ghost use Rattle.wtp_webtransport.specs.Events.{told_of};
-ghost use Rattle.wtp_webtransport.specs.Receiving.{UnreadGives, SectionGives, DecodedGives, ReadGives, DataGives, taken_of, headers_given, interim_found, request_found, response_found, too_large as too_large_is, content_found, EndGives};
+ghost use Rattle.wtp_webtransport.specs.Receiving.{UnreadGives, SectionGives, DecodedGives, TableGives, OverGives, DecodedBy, HasRead, ReadGives, early_in, lacking_in, read_after, DataGives, taken_of, headers_given, interim_found, request_found, response_found, too_large as too_large_is, content_found, EndGives};
 ghost use Rattle.wtp_webtransport.specs.Sessions.{asks_of};
 ghost use Rattle.wtp_webtransport.specs.Streams.{with_message as with_message_is};
 
 use crate::connection::{Connection, last};
-use crate::event::{Event, HeadersKind, Received, Waits};
+use crate::event::{Event, HeadersKind, Received};
 use crate::fault::Fault;
 use crate::fields::{Fields, names_table};
-use crate::stream::{Part, Stream, Unread};
+use crate::stream::{Delay, Part, Stream, Unread};
 use std::alloc::Global;
+use wtp_dynamic_fields::section::{Decoded, TableSectionError, decode_with_table};
 use wtp_fields::fields::{FieldList, FieldSectionError};
 use wtp_frames::frame_type::FrameType;
 use wtp_messages::malformed::Malformed;
@@ -85,21 +86,104 @@ impl Connection {
     {
         let section = &bytes[span.start..span.end];
         if names_table(section) {
-            return self.fail(stream, Fault::SectionPrefix, span.len);
+            return self.decode_with(stream, message, span, bytes, fields);
         }
         match FieldList::decode(fields.alloc, section, fields.limit) {
             Ok(list) => self.take(stream, message, list, span, fields.alloc),
             Err(FieldSectionError::TooLarge) => self.too_large(stream, None, span.end),
-            Err(FieldSectionError::Memory) => {
-                stream.unread = Unread::Section(span.end - span.start);
-                Received {
-                    consumed: span.start,
-                    event: Event::NoMemory,
-                }
-            }
+            Err(FieldSectionError::Memory) => no_memory(stream, span),
             Err(FieldSectionError::Decoding(fault)) => {
                 self.fail(stream, Fault::Section(fault), span.len)
             }
+        }
+    }
+
+    // Decodes the next field section of a message with the dynamic table, if there is one.
+    #[tactic(auto, using(crate::proofs::TableLemmas::table_given, crate::proofs::TableLemmas::table_refused))]
+    fn decode_with<'a>(
+        &mut self,
+        stream: &mut Stream,
+        message: Message,
+        span: Span,
+        bytes: &'a [u8],
+        fields: &Fields,
+    ) -> Received<'a>
+        requires { (span.start ≤ span.end) × (span.end ≤ length bytes.now) }
+        ensures { TableGives self.old.decoder fields.now.limit self.old stream.old message span bytes.now
+            (result.consumed, told_of result.event, self.new, stream.new) }
+    {
+        match self.decoded(&bytes[span.start..span.end], fields) {
+            None => self.fail(stream, Fault::SectionPrefix, span.len),
+            Some(decoded) => self.take_decoded(stream, message, decoded, span, fields.alloc),
+        }
+    }
+
+    // Decodes a section with the dynamic table, if there is one.
+    fn decoded(&self, section: &[u8], fields: &Fields) -> Option<Result<Decoded, TableSectionError>>
+        ensures { DecodedBy self.now.decoder fields.now.limit section.now result }
+    {
+        match &self.decoder {
+            None => None,
+            Some(decoder) => Some(decode_with_table(
+                fields.alloc,
+                decoder.table(),
+                section,
+                fields.limit,
+            )),
+        }
+    }
+
+    // Takes what was decoded with the dynamic table.
+    fn take_decoded<'a>(
+        &mut self,
+        stream: &mut Stream,
+        message: Message,
+        decoded: Result<Decoded, TableSectionError>,
+        span: Span,
+        alloc: Global,
+    ) -> Received<'a>
+        requires { span.start ≤ span.end }
+        ensures { OverGives self.old stream.old message span decoded
+            (result.consumed, told_of result.event, self.new, stream.new) }
+    {
+        match decoded {
+            Ok(Decoded::Fields(list, required)) => {
+                self.take_read(stream, message, list, required, span, alloc)
+            }
+            Ok(Decoded::Blocked(required)) => wait(stream, span, Delay::Table(required)),
+            Err(TableSectionError::TooLarge) => self.too_large(stream, None, span.end),
+            Err(TableSectionError::Memory) => no_memory(stream, span),
+            Err(TableSectionError::Section(fault)) => {
+                self.fail(stream, Fault::TableSection(fault), span.len)
+            }
+        }
+    }
+
+    // Takes the next fields of a message, which needed so many insertions.
+    fn take_read<'a>(
+        &mut self,
+        stream: &mut Stream,
+        message: Message,
+        list: FieldList,
+        required: u64,
+        span: Span,
+        alloc: Global,
+    ) -> Received<'a>
+        ensures { HasRead self.old stream.old message span list required
+            (result.consumed, told_of result.event, self.new, stream.new) }
+    {
+        let received = self.take(stream, message, list, span, alloc);
+        self.note_read(&received.event, required);
+        received
+    }
+
+    // Notes that a section was read that needed so many insertions, unless it waits.
+    fn note_read(&mut self, event: &Event<'_>, required: u64)
+        ensures { self.new ≡ read_after (told_of event.now) required self.old }
+    {
+        match event {
+            Event::Waits(_) => {}
+            _ => self.read = Some(required),
         }
     }
 
@@ -149,13 +233,7 @@ impl Connection {
                 stream.part = Part::Unanswered(false, message);
                 given(HeadersKind::Request, list, span.end)
             }
-            Asks::TooEarly => {
-                stream.unread = Unread::Early(span.end.saturating_sub(span.start));
-                Received {
-                    consumed: span.start,
-                    event: Event::Waits(Waits::Settings),
-                }
-            }
+            Asks::TooEarly => wait(stream, span, Delay::Settings),
             Asks::Session => {
                 stream.part = Part::Unanswered(true, message);
                 stream.begin_capsules(alloc);
@@ -346,6 +424,29 @@ fn section_of(section: Result<Section<'_>, Malformed>) -> Taken
         Ok(Section::Response(response)) => Taken::Response(response.status),
         Ok(Section::Trailers) => Taken::Trailers,
         Err(rule) => Taken::Malformed(rule),
+    }
+}
+
+// Returns that a field section came too early.
+fn wait<'a>(stream: &mut Stream, span: Span, delay: Delay) -> Received<'a>
+    ensures { (result.consumed, told_of result.event, stream.new) ≡ early_in stream.old span delay }
+{
+    stream.unread = Unread::Early(span.end.saturating_sub(span.start), delay);
+    Received {
+        consumed: span.start,
+        event: Event::Waits(delay.waits()),
+    }
+}
+
+// Returns that there was no memory for a field section.
+fn no_memory<'a>(stream: &mut Stream, span: Span) -> Received<'a>
+    requires { span.start ≤ span.end }
+    ensures { (result.consumed, told_of result.event, stream.new) ≡ lacking_in stream.old span }
+{
+    stream.unread = Unread::Section(span.end - span.start);
+    Received {
+        consumed: span.start,
+        event: Event::NoMemory,
     }
 }
 

@@ -1,13 +1,13 @@
 //! The state of a connection in numbers of a fixed size, as a caller in C keeps it.
-ghost use Rattle.std.specs.Prelude.{◌≡◌, MatchBool, MatchOption};
+ghost use Rattle.std.specs.Prelude.{◌≡◌, IfSome, MatchBool, MatchOption};
 ghost use Rattle.wtp_webtransport.specs.declared.connection.Connection.{Connection};
-ghost use Rattle.wtp_webtransport.specs.Words.{connection_words, connection_at};
+ghost use Rattle.wtp_webtransport.specs.Words.{connection_words, connection_at, without_table};
 
 use crate::connection::{Connection, Streams};
 use wtp_connection::connection::words::ConnectionWords as StreamsWords;
 use wtp_frames::reader::words::{EndpointWords, OptionWords, flag_at, flag_of};
 
-/// The state of a [`Connection`].
+/// The state of a [`Connection`] but for its dynamic table, which has memory of its own.
 #[repr(C)]
 #[derive(Clone, Copy, PartialEq, Eq)]
 pub struct ConnectionWords {
@@ -30,7 +30,7 @@ pub struct ConnectionWords {
 }
 
 impl Connection {
-    /// Returns the words of the connection.
+    /// Returns the words of the connection. They have nothing of its dynamic table.
     pub fn to_words(&self) -> ConnectionWords
         ensures { result ≡ connection_words self.now }
     {
@@ -58,14 +58,18 @@ impl Connection {
             configured: flag_at(words.configured),
             goaway: words.goaway.to_option(),
             over: flag_at(words.over),
+            decoder: None,
+            read: None,
         }
     }
 
-    /// Creates the connection of these words, or returns `None` if they are those of no connection.
+    /// Creates the connection of these words, without a dynamic table, or returns `None` if they are
+    /// those of no connection.
     #[tactic(auto, using(crate::proofs::WordLemmas::no_connection))]
     pub fn from_words(words: ConnectionWords) -> Option<Self>
-        ensures { MatchOption result ((c : Connection) → ¬ (connection_words c ≡ words))
+        ensures words { MatchOption result ((c : Connection) → ¬ (connection_words c ≡ words))
             (λ c. connection_words c ≡ words) }
+        ensures alone { IfSome result (λ c. without_table c ≡ c) }
     {
         let connection = Connection::from_words_unchecked(words);
         if connection.has_words(words) {
@@ -102,8 +106,8 @@ fn are_same(one: StreamsWords, other: StreamsWords) -> bool
     one == other
 }
 
-/// The words of a connection give that connection.
+/// The words of a connection give that connection, without its dynamic table.
 #[tactic(auto, using(crate::proofs::WordLemmas::connection_is_read))]
 pub fn words_are_read()
-    ensures { (c : Connection) → connection_at (connection_words c) ≡ c }
+    ensures { (c : Connection) → connection_at (connection_words c) ≡ without_table c }
 {}

@@ -6,7 +6,7 @@ ghost use Rattle.wtp_webtransport.specs.Words.{bare_part, message_part, part_wor
 
 use crate::capsules::Capsules;
 use crate::capsules::words::CapsuleWords;
-use crate::stream::{Part, Stream, Unread};
+use crate::stream::{Delay, Part, Stream, Unread};
 use std::alloc::{AllocError, Global};
 use wtp_connection::stream::Stream as Frames;
 use wtp_connection::stream::words::StreamWords as FramesWords;
@@ -35,7 +35,9 @@ pub struct PartWords {
 pub struct UnreadWords {
     /// The size of a field section.
     pub size: usize,
-    /// The variant, from 0 on.
+    /// How many insertions it needs.
+    pub count: u64,
+    /// The variant, from 0 on; the section that is too early has two, for SETTINGS and for the table.
     pub kind: u64,
 }
 
@@ -130,14 +132,22 @@ impl PartWords {
 }
 
 impl UnreadWords {
+    // Creates the words of a variant.
+    fn with(kind: u64, size: usize, count: u64) -> Self
+        ensures { result ≡ record { size = size; count = count; kind = kind } }
+    {
+        UnreadWords { size, count, kind }
+    }
+
     // Creates the words of what is next.
     fn of(unread: Unread) -> Self
         ensures { result ≡ unread_words unread }
     {
         match unread {
-            Unread::Nothing => UnreadWords { size: 0, kind: 0 },
-            Unread::Early(size) => UnreadWords { size, kind: 1 },
-            Unread::Section(size) => UnreadWords { size, kind: 2 },
+            Unread::Nothing => UnreadWords::with(0, 0, 0),
+            Unread::Early(size, Delay::Settings) => UnreadWords::with(1, size, 0),
+            Unread::Section(size) => UnreadWords::with(2, size, 0),
+            Unread::Early(size, Delay::Table(required)) => UnreadWords::with(3, size, required),
         }
     }
 
@@ -147,8 +157,9 @@ impl UnreadWords {
     {
         match self.kind {
             0 => Unread::Nothing,
-            1 => Unread::Early(self.size),
-            _ => Unread::Section(self.size),
+            1 => Unread::Early(self.size, Delay::Settings),
+            2 => Unread::Section(self.size),
+            _ => Unread::Early(self.size, Delay::Table(self.count)),
         }
     }
 }

@@ -5,5 +5,5 @@ use Rattle.wtp_webtransport.proofs.laws.waits_change_nothing.Goals as goal
 pub returns-clause-answer : goal.returns-clause-answer
 returns-clause-answer c = answer_waits
 
-pub returns-clause-settings : goal.returns-clause-settings
-returns-clause-settings c = early_of
+pub returns-clause-early : goal.returns-clause-early
+returns-clause-early c = early_of

@@ -8,10 +8,10 @@ use Rattle.wt_c.proofs.connections.receiving.wt_receive.Goals as goal
 
 pub returns : goal.returns
 returns g =
-    let o : Outcome = (g.receive-received.result.consumed, told_of g.receive-received.result.event, g.receive-received.new.self, g.receive-received.new.stream) in
+    let o : Outcome = (g.receive-received.result.consumed, told_of g.receive-received.result.event, g.receive-received.new.connection, g.receive-received.new.stream) in
     let fin = not (g.args.fin == 0) in
     let receives : Receives g.args.connection.now.max_fields g.in-Some.common g.in-Ok.state g.args.bytes.now fin o = rw g.new-memory.ensures at g.receive-received.ensures.received in
-    let gives : Gives g.args.connection.now g.args.stream.now g.args.held.now g.args.bytes.now fin o = record { c = g.in-Some.common; s = g.in-Ok.state; connection_is = g.in-Some.ensures; stream_is = g.in-Ok.ensures; receives = receives } in
+    let gives : Gives g.args.connection.now g.args.stream.now g.args.held.now g.args.bytes.now fin o = record { c = g.in-Some.common; s = g.in-Ok.state; connection_is = g.in-Some.ensures.is; alone = g.in-Some.ensures.alone; stream_is = g.in-Ok.ensures; receives = receives } in
     let given = told_of g.within-given.result in
     let left = g.within.result.1.now in
     record {

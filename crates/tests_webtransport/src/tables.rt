@@ -1,0 +1,247 @@
+//! The dynamic table of a connection, by the example of RFC 9204, Appendix B: sections that wait for their
+//! insertions, what the encoder is told, and errors.
+use crate::playing::server;
+use std::alloc::{AllocError, Global};
+use std::process::Abort;
+use wtp_connection::stream::Purpose;
+use wtp_dynamic_decoder::decoder::QpackDecoder;
+use wtp_webtransport::connection::Connection;
+use wtp_webtransport::event::{Event, HeadersKind, Waits};
+use wtp_webtransport::fields::Fields;
+use wtp_webtransport::stream::Stream;
+
+/// The type of an encoder stream, and the instructions of Appendix B.2: the capacity 220, `:authority`
+/// `www.example.com` and `:path` `/sample/path`.
+static INSERTIONS: [u8; 35] = [
+    0x02, 0x3f, 0xbd, 0x01, 0xc0, 0x0f, 0x77, 0x77, 0x77, 0x2e, 0x65, 0x78, 0x61, 0x6d, 0x70, 0x6c,
+    0x65, 0x2e, 0x63, 0x6f, 0x6d, 0xc1, 0x0c, 0x2f, 0x73, 0x61, 0x6d, 0x70, 0x6c, 0x65, 0x2f, 0x70,
+    0x61, 0x74, 0x68,
+];
+
+/// HEADERS with the section of Appendix B.2, and `:method` `GET` and `:scheme` `https` before its lines.
+static REQUEST: [u8; 8] = [0x01, 0x06, 0x03, 0x81, 0xd1, 0xd7, 0x10, 0x11];
+
+/// Insert `custom-key` `custom-value` (Appendix B.3).
+static CUSTOM: [u8; 24] = [
+    0x4a, 0x63, 0x75, 0x73, 0x74, 0x6f, 0x6d, 0x2d, 0x6b, 0x65, 0x79, 0x0c, 0x63, 0x75, 0x73, 0x74,
+    0x6f, 0x6d, 0x2d, 0x76, 0x61, 0x6c, 0x75, 0x65,
+];
+
+/// Returns the connection of a server that allows a table of 220 bytes, and memory for its sections.
+fn with_table(alloc: Global) -> (Connection, Fields) {
+    let mut connection = server(false);
+    connection.allow_table(QpackDecoder::new(alloc, 220, 1));
+    (connection, Fields::new(alloc, 1000))
+}
+
+/// Opens the encoder stream and reads these bytes of it, after its type. Returns the last event.
+fn insert(connection: &mut Connection, fields: &mut Fields, bytes: &[u8]) -> (Stream, u64) {
+    let mut encoder = connection.accept(2);
+    let opened = connection.receive(&mut encoder, bytes, false, fields);
+    let rest = bytes.get(opened.consumed..).unwrap_or(&[]);
+    let count = match opened.event {
+        Event::Opened(Purpose::Encoder) => inserted(connection, &mut encoder, fields, rest),
+        _ => 0,
+    };
+    (encoder, count)
+}
+
+/// Reads these bytes of the encoder stream. Returns how many entries were inserted, if all are consumed.
+fn inserted(
+    connection: &mut Connection,
+    encoder: &mut Stream,
+    fields: &mut Fields,
+    bytes: &[u8],
+) -> u64 {
+    let received = connection.receive(encoder, bytes, false, fields);
+    match received.event {
+        Event::Inserted(count) if received.consumed == bytes.len() => count,
+        _ => u64::MAX,
+    }
+}
+
+/// Opens a request on a stream.
+fn open(connection: &mut Connection, fields: &mut Fields, id: u64, bytes: &[u8]) -> Stream {
+    let mut stream = connection.accept(id);
+    connection.receive(&mut stream, bytes, true, fields);
+    stream
+}
+
+/// Returns whether the rest of the stream is the request of Appendix B.2.
+fn is_request(
+    connection: &mut Connection,
+    fields: &mut Fields,
+    stream: &mut Stream,
+    bytes: &[u8],
+) -> bool {
+    let received = connection.receive(stream, bytes, true, fields);
+    let Event::Headers(HeadersKind::Request, list) = &received.event else {
+        return false;
+    };
+    received.consumed == bytes.len()
+        && list.len() == 4
+        && list.first(b":authority") == Some(b"www.example.com".as_slice())
+        && list.first(b":path") == Some(b"/sample/path".as_slice())
+}
+
+/// Returns the code of an error that ends the connection, or 0.
+fn code_of(event: &Event<'_>) -> u64 {
+    match event {
+        Event::ConnectionError(fault) => fault.code().number().into_inner(),
+        _ => 0,
+    }
+}
+
+#[test]
+fn a_section_waits_for_its_insertions(rt: HostRuntime) {
+    let (mut connection, mut fields) = with_table(rt.alloc());
+    let mut stream = open(&mut connection, &mut fields, 4, REQUEST.as_slice());
+    let early = connection.receive(&mut stream, REQUEST.as_slice(), true, &mut fields);
+    let waits = matches!(early.event, Event::Waits(Waits::Table(2))) && early.consumed == 2;
+    assert!(rt; waits, "the section needs two insertions");
+    assert!(rt;
+        stream.waits() == Some(Waits::Table(2)),
+        "the stream waits for them"
+    );
+    let rest = REQUEST.get(2..).unwrap_or(&[]);
+    let again = connection.receive(&mut stream, rest, true, &mut fields);
+    let waits = matches!(again.event, Event::Waits(Waits::Table(2))) && again.consumed == 0;
+    assert!(rt; waits, "it still waits");
+    let (mut encoder, count) = insert(&mut connection, &mut fields, &INSERTIONS[..20]);
+    assert!(rt; count == 0, "an instruction that is cut inserts nothing");
+    let count = inserted(
+        &mut connection,
+        &mut encoder,
+        &mut fields,
+        &INSERTIONS[20..],
+    );
+    assert!(rt;
+        count == 2 && connection.insert_count() == 2,
+        "both entries are inserted"
+    );
+    let mut out = Vec::new(rt.alloc());
+    let told = connection.acknowledge(4, &mut out).is_ok();
+    assert!(rt;
+        told && out.is_empty(),
+        "a section that waited is not acknowledged"
+    );
+    let read = is_request(&mut connection, &mut fields, &mut stream, rest);
+    assert!(rt; read, "the section is read once its entries are there");
+    let told = connection.acknowledge(4, &mut out).is_ok()
+        && connection.acknowledge(4, &mut out).is_ok();
+    assert!(rt;
+        told && out.as_slice() == [0x84].as_slice(),
+        "it is acknowledged once (Appendix B.2)"
+    );
+    let end = connection.receive(&mut stream, &[], true, &mut fields);
+    assert!(rt; matches!(end.event, Event::End), "the request ends");
+}
+
+/// Appends what the encoder is told in Appendix B.3 and B.4, after the acknowledgment of B.2.
+fn tell(
+    connection: &mut Connection,
+    fields: &mut Fields,
+    out: &mut Vec<u8>,
+) -> Result<u64, AllocError> {
+    let (mut encoder, _count) = insert(connection, fields, INSERTIONS.as_slice());
+    let mut stream = open(connection, fields, 4, REQUEST.as_slice());
+    is_request(connection, fields, &mut stream, REQUEST.as_slice());
+    connection.acknowledge(4, out)?;
+    connection.increment(out)?;
+    inserted(connection, &mut encoder, fields, CUSTOM.as_slice());
+    connection.increment(out)?;
+    connection.increment(out)?;
+    connection.cancel(8, out)?;
+    Ok(inserted(connection, &mut encoder, fields, &[0x02]))
+}
+
+#[test]
+fn the_encoder_is_told_what_was_read(rt: HostRuntime) {
+    let (mut connection, mut fields) = with_table(rt.alloc());
+    let mut out = Vec::new(rt.alloc());
+    let count = tell(&mut connection, &mut fields, &mut out);
+    assert!(rt;
+        matches!(count, Ok(4)),
+        "the duplicate of Appendix B.4 is the fourth entry"
+    );
+    assert!(rt;
+        out.as_slice() == [0x84, 0x01, 0x48].as_slice(),
+        "the acknowledgment, the increment and the cancellation of Appendix B"
+    );
+    let mut none = server(false);
+    let mut silent = Vec::new(rt.alloc());
+    let told = none.acknowledge(4, &mut silent).is_ok()
+        && none.increment(&mut silent).is_ok()
+        && none.cancel(8, &mut silent).is_ok();
+    assert!(rt;
+        told && silent.is_empty() && none.insert_count() == 0,
+        "without a table there is nothing to tell"
+    );
+}
+
+/// Returns the code of the error with which the section of a request ends the connection, after the
+/// insertions if there is a table.
+fn section_code(alloc: Global, has_table: bool, section: &[u8]) -> u64 {
+    let (mut connection, mut fields) = with_table(alloc);
+    if has_table {
+        insert(&mut connection, &mut fields, INSERTIONS.as_slice());
+    } else {
+        connection = server(false);
+    }
+    let mut stream = open(&mut connection, &mut fields, 0, section);
+    code_of(
+        &connection
+            .receive(&mut stream, section, true, &mut fields)
+            .event,
+    )
+}
+
+/// Returns the code of the error with which the encoder stream ends the connection.
+fn instruction_code(alloc: Global, bytes: &[u8], fin: bool) -> (u64, bool) {
+    let (mut connection, mut fields) = with_table(alloc);
+    let mut encoder = connection.accept(2);
+    connection.receive(&mut encoder, &[0x02], false, &mut fields);
+    let code = code_of(
+        &connection
+            .receive(&mut encoder, bytes, fin, &mut fields)
+            .event,
+    );
+    let after = connection.receive(&mut encoder, &[0x3f], false, &mut fields);
+    (
+        code,
+        matches!(after.event, Event::More) && after.consumed == 1,
+    )
+}
+
+#[test]
+fn errors_of_the_table_end_the_connection(rt: HostRuntime) {
+    let alloc = rt.alloc();
+    assert!(rt;
+        section_code(alloc, false, REQUEST.as_slice()) == 0x200,
+        "a table is named where none is allowed"
+    );
+    assert!(rt;
+        section_code(alloc, true, &[0x01, 0x05, 0x03, 0x81, 0xd1, 0xd7, 0x12]) == 0x200,
+        "a line refers to an entry at the Required Insert Count"
+    );
+    assert!(rt;
+        section_code(alloc, true, &[0x01, 0x03, 0x0e, 0x00, 0xd1]) == 0x200,
+        "no count has this encoding"
+    );
+    assert!(rt;
+        instruction_code(alloc, &[0x3f, 0xbe, 0x01], false) == (0x201, true),
+        "the capacity 221 is above the limit"
+    );
+    assert!(rt;
+        instruction_code(alloc, &[0x3f, 0xbd, 0x01, 0x00], false) == (0x201, true),
+        "the duplicate of no entry"
+    );
+    assert!(rt;
+        instruction_code(alloc, &[], true) == (0x104, true),
+        "the encoder stream is not to be closed"
+    );
+    let (mut connection, _fields) = with_table(alloc);
+    let code = code_of(&connection.too_many_blocked());
+    let after = matches!(connection.too_many_blocked(), Event::More);
+    assert!(rt; code == 0x200 && after, "too many streams wait");
+}

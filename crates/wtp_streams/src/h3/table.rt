@@ -1,0 +1,60 @@
+//! The own decoder stream, which tells the peer what was read of its dynamic table (RFC 9204, section 4.4).
+ghost use Rattle.std.specs.Prelude.{◌≡◌};
+ghost use Rattle.wtp_webtransport.specs.Tables.{due_read, after_read, due_inserts, after_inserts, due_cancel, after_cancel};
+ghost use Rattle.wtp_streams.specs.Ends.{ends_of};
+ghost use Rattle.wtp_streams.specs.Sends.{SaysAt};
+
+use crate::h3::H3Connection;
+use std::alloc::AllocError;
+
+impl H3Connection {
+    /// Appends to `out`, for the own decoder stream, the acknowledgment of the field section that the last
+    /// call of [`receive`](Self::receive) returned, if it was read with the dynamic table, as
+    /// [`Streams::acknowledge`](crate::streams::Streams::acknowledge) does. `id` is the ID of its stream. Call
+    /// it after each event that has fields.
+    ///
+    /// # Errors
+    ///
+    /// If allocation failed: nothing changed, and the call can be repeated.
+    pub fn acknowledge(&mut self, id: u64, out: &mut Vec<u8>) -> Result<(), AllocError>
+        ensures { SaysAt (due_read (ends_of self.old).table.connection.decoder
+            (ends_of self.old).table.connection.read id)
+            (after_read (ends_of self.old).table.connection.decoder
+            (ends_of self.old).table.connection.read (ends_of self.old).table.connection)
+            (ends_of self.old) (ends_of self.new) out.old.items out.new.items result }
+    {
+        self.streams.acknowledge(id, out)
+    }
+
+    /// Appends to `out`, for the own decoder stream, how many insertions the peer was not told of yet, if
+    /// there are any, as [`Streams::increment`](crate::streams::Streams::increment) does. Call it after
+    /// [`Event::Inserted`](wtp_webtransport::event::Event::Inserted).
+    ///
+    /// # Errors
+    ///
+    /// If allocation failed: nothing changed, and the call can be repeated.
+    pub fn increment(&mut self, out: &mut Vec<u8>) -> Result<(), AllocError>
+        ensures { SaysAt (due_inserts (ends_of self.old).table.connection.decoder)
+            (after_inserts (ends_of self.old).table.connection.decoder (ends_of self.old).table.connection)
+            (ends_of self.old) (ends_of self.new) out.old.items out.new.items result }
+    {
+        self.streams.increment(out)
+    }
+
+    /// Appends to `out`, for the own decoder stream, the cancellation of the stream with this ID, if there
+    /// may be a dynamic table, as [`Streams::cancel`](crate::streams::Streams::cancel) does. Call it for each
+    /// stream of a message that is not read to its end: after [`reset`](Self::reset),
+    /// [`abandon`](Self::abandon) and [`forget`](Self::forget) of one that goes on, and after an error of it.
+    ///
+    /// # Errors
+    ///
+    /// If allocation failed: nothing changed, and the call can be repeated.
+    pub fn cancel(&mut self, id: u64, out: &mut Vec<u8>) -> Result<(), AllocError>
+        ensures { SaysAt (due_cancel (ends_of self.old).table.connection.decoder id)
+            (after_cancel (ends_of self.old).table.connection.decoder id
+            (ends_of self.old).table.connection)
+            (ends_of self.old) (ends_of self.new) out.old.items out.new.items result }
+    {
+        self.streams.cancel(id, out)
+    }
+}
