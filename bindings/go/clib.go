@@ -10,6 +10,9 @@ package vesgrauf
 #cgo !wtransport_static pkg-config: wtransport
 #cgo wtransport_static LDFLAGS: -l:libwtransport.a
 #include <wtransport.h>
+#if WT_VERSION_NUMBER < 0x000800 || WT_VERSION_NUMBER >= 0x010000
+#error "this package is for libwtransport from 0.8 on, below 1"
+#endif
 */
 import "C"
 

@@ -38,14 +38,15 @@ fn link_folder(folder: &str, wanted: Option<bool>) {
     link(archive);
 }
 
-/// Links the library that pkg-config finds.
+/// Links the library that pkg-config finds: one with the soname of these declarations, whose number is the
+/// first part of its version.
 fn link_installed(wanted: Option<bool>) {
-    let flags = match pkg_config(&["--libs-only-L", "wtransport >= 0.8"]) {
+    let flags = match pkg_config(&["--libs-only-L", "wtransport >= 0.8", "wtransport < 1"]) {
         Some(flags) => flags,
         None => fail(
-            "pkg-config finds no libwtransport 0.8: install it (libwtransport-dev, or c/install in \
-             Vesgrauf's repository), or name its folder in WTRANSPORT_LIB_DIR; `cargo doc` and `cargo \
-             check` need none with WTRANSPORT_NO_LINK=1",
+            "pkg-config finds no libwtransport from 0.8 on, below 1: install it (libwtransport-dev, or \
+             c/install in Vesgrauf's repository), or name its folder in WTRANSPORT_LIB_DIR; `cargo doc` and \
+             `cargo check` need none with WTRANSPORT_NO_LINK=1",
         ),
     };
     // a library in a folder of the system has no flag, and one that is not installed no variable

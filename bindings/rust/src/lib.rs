@@ -42,7 +42,8 @@
 //! 6. To close a session it sends what [`Sending::close`] appends on the session's stream, ends its half of the
 //!    stream, and calls [`Connection::abandon`]. It reads the peer's half on to its end: if that is stopped, the
 //!    peer may see the stop before the close. In each case the streams of a session that is over are reset and
-//!    stopped, and its [`Sending`] is dropped.
+//!    stopped, and its [`Sending`] is dropped. The QUIC connection is closed only when both halves of the
+//!    session's stream have ended, or after a limit of time: the close may otherwise not be sent.
 //! 7. After the end of a stream its [`Stream`] may be dropped, that of a session too: a server's
 //!    [`Connection`] knows which requests have begun. A client keeps those of its sessions. One that is dropped
 //!    before its end is [abandoned](Connection::abandon) first.
@@ -50,6 +51,24 @@
 //!    [`RequestBudget`](budget::RequestBudget).
 //! 9. To end the connection it sends what [`ControlSending::goaway`] appends, answers the requests that it
 //!    processes, and closes the connection with [`H3_NO_ERROR`](error::Code::H3_NO_ERROR).
+//!
+//! # A client
+//!
+//! Its [`Connection`] is that of [`Endpoint::client`]. Steps 1, 2, 4 and 5 of a server are its own too, and it does
+//! what the comment of each [`Event`] says. Then:
+//!
+//! 1. After [`Event::Settings`], if [`Connection::allows_sessions`], it opens a bidirectional stream for each
+//!    session, whose ID is that of the stream: what it sends on it is a [`Sending::request`], with the fields of a
+//!    [`SessionRequest`](session::SessionRequest), and what it receives on it is read with a [`Stream`] of
+//!    [`Connection::open`].
+//! 2. [`Event::SessionReady`] on that stream opens the session: it calls [`Sending::connected`]. After
+//!    [`Event::Rejected`] no session follows, and it ends its half of the stream.
+//! 3. A stream of the session begins with what [`Sending::bidirectional`] or [`Sending::unidirectional`] appends,
+//!    and the application's bytes follow. What it receives on a bidirectional one is read with a [`Stream`] of
+//!    [`Stream::of_session`], and comes as [`Event::StreamData`].
+//! 4. It closes the session as a server does, in step 6.
+//!
+//! # Both
 //!
 //! Only the bytes that were consumed are to be credited to the peer, so that QUIC's flow control bounds what
 //! waits: with a library such as quinn, which credits what is read, a stream is read no further while bytes of
