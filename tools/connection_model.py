@@ -2,8 +2,8 @@
 
 It is written from RFC 9114, RFC 9204 and draft-ietf-webtrans-http3-02 and shares no code with the
 program. A section is one of RFC 9114. What field sections contain is not judged; which of them are
-those of interim responses is said by their number. The own settings allow no dynamic table, unless a
-model says otherwise.
+those of interim responses is said by their number. The own settings allow no dynamic table, unless
+a model says otherwise.
 """
 
 from dataclasses import dataclass
@@ -146,9 +146,10 @@ class Model:
         self.events.append(("opened", self.at, self.purpose))
         if self.purpose == "control":
             return self.control()
-        if self.purpose == "encoder" and not self.has_table and self.content[self.at :].strip(b"\x20"):
+        rest = self.content[self.at :]
+        if self.purpose == "encoder" and not self.has_table and rest.strip(b"\x20"):
             return self.fault(0x201)
-        if self.purpose == "decoder" and decoder_fault(self.content[self.at :]):
+        if self.purpose == "decoder" and decoder_fault(rest):
             return self.fault(0x202)
         if self.fin and self.purpose in CRITICAL:
             return self.fault(0x104)

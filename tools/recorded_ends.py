@@ -16,8 +16,8 @@ FRAMES = {"GoAway": "GOAWAY", "Http2": "HTTP2", "WebTransport": "WEBTRANSPORT"}
 
 
 class RecordedEnds(RecordedSessions):
-    """A recorded connection in one direction, which comes to an end of our own. That allows a dynamic
-    table of this capacity."""
+    """A recorded connection in one direction, which comes to an end of our own. That allows a
+    dynamic table of this capacity."""
 
     def __init__(self, connection, table=0):
         super().__init__(connection)

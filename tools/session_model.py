@@ -28,8 +28,8 @@ MESSAGE, UNDECODABLE, UNEXPECTED = 0x10E, 0x200, 0x105
 class Surroundings:
     """What the events of a stream depend on beside its bytes: whether the settings of the peer
     came, and allow sessions; the answers to requests by their streams; what became of the sessions
-    of streams; what a section's payload has: its fields, or None if it cannot be decoded; and whether
-    the own settings allow a dynamic table."""
+    of streams; what a section's payload has: its fields, or None if it cannot be decoded; and
+    whether the own settings allow a dynamic table."""
 
     settings: bool = False
     allows: bool = False

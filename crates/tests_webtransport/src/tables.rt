@@ -41,7 +41,7 @@ fn insert(connection: &mut Connection, fields: &mut Fields, bytes: &[u8]) -> (St
     let rest = bytes.get(opened.consumed..).unwrap_or(&[]);
     let count = match opened.event {
         Event::Opened(Purpose::Encoder) => inserted(connection, &mut encoder, fields, rest),
-        _ => 0,
+        _ => u64::MAX,
     };
     (encoder, count)
 }
@@ -75,11 +75,15 @@ fn is_request(
     bytes: &[u8],
 ) -> bool {
     let received = connection.receive(stream, bytes, true, fields);
-    let Event::Headers(HeadersKind::Request, list) = &received.event else {
+    received.consumed == bytes.len() && has_request(&received.event)
+}
+
+/// Returns whether an event has the fields of the request of Appendix B.2.
+fn has_request(event: &Event<'_>) -> bool {
+    let Event::Headers(HeadersKind::Request, list) = event else {
         return false;
     };
-    received.consumed == bytes.len()
-        && list.len() == 4
+    list.len() == 4
         && list.first(b":authority") == Some(b"www.example.com".as_slice())
         && list.first(b":path") == Some(b"/sample/path".as_slice())
 }
@@ -179,12 +183,43 @@ fn the_encoder_is_told_what_was_read(rt: HostRuntime) {
     );
 }
 
+/// HEADERS that are errors of QPACK after three insertions.
+static WRONG: [(&str, &[u8]); 6] = [
+    (
+        "a reference past the required insert count (RFC 9204, 2.2.1)",
+        &[0x01, 0x05, 0x03, 0x81, 0xd1, 0xd7, 0x12],
+    ),
+    (
+        "an encoded insert count above the range (4.5.1.1)",
+        &[0x01, 0x03, 0x0e, 0x00, 0xd1],
+    ),
+    ("a base below zero (4.5.1.2)", &[0x01, 0x03, 0x03, 0x82, 0xd1]),
+    (
+        "an encoded insert count that stands for none (4.5.1.1)",
+        &[0x01, 0x03, 0x01, 0x00, 0xd1],
+    ),
+    (
+        "a relative index past the required insert count (2.2.1)",
+        &[0x01, 0x03, 0x02, 0x01, 0x80],
+    ),
+    (
+        "a base below zero without entries (4.5.1.2)",
+        &[0x01, 0x03, 0x00, 0x80, 0xd1],
+    ),
+];
+
 /// Returns the code of the error with which the section of a request ends the connection, after the
 /// insertions if there is a table.
 fn section_code(alloc: Global, has_table: bool, section: &[u8]) -> u64 {
     let (mut connection, mut fields) = with_table(alloc);
     if has_table {
-        insert(&mut connection, &mut fields, INSERTIONS.as_slice());
+        let (mut encoder, _count) = insert(&mut connection, &mut fields, INSERTIONS.as_slice());
+        inserted(
+            &mut connection,
+            &mut encoder,
+            &mut fields,
+            CUSTOM.as_slice(),
+        );
     } else {
         connection = server(false);
     }
@@ -220,14 +255,9 @@ fn errors_of_the_table_end_the_connection(rt: HostRuntime) {
         section_code(alloc, false, REQUEST.as_slice()) == 0x200,
         "a table is named where none is allowed"
     );
-    assert!(rt;
-        section_code(alloc, true, &[0x01, 0x05, 0x03, 0x81, 0xd1, 0xd7, 0x12]) == 0x200,
-        "a line refers to an entry at the Required Insert Count"
-    );
-    assert!(rt;
-        section_code(alloc, true, &[0x01, 0x03, 0x0e, 0x00, 0xd1]) == 0x200,
-        "no count has this encoding"
-    );
+    for (case, section) in &WRONG {
+        assert!(rt; section_code(alloc, true, section) == 0x200, "{case}");
+    }
     assert!(rt;
         instruction_code(alloc, &[0x3f, 0xbe, 0x01], false) == (0x201, true),
         "the capacity 221 is above the limit"
@@ -244,4 +274,109 @@ fn errors_of_the_table_end_the_connection(rt: HostRuntime) {
     let code = code_of(&connection.too_many_blocked());
     let after = matches!(connection.too_many_blocked(), Event::More);
     assert!(rt; code == 0x200 && after, "too many streams wait");
+}
+
+/// `:method` `GET`, `:scheme` `https`, `:authority` `a` and `:path` `/`, without the table.
+static PLAIN: [u8; 10] = [0x01, 0x08, 0x00, 0x00, 0xd1, 0xd7, 0x50, 0x01, 0x61, 0xc1];
+
+/// Reads a request on a stream, after its first event. Returns how many fields it has, or 0 of another event.
+fn request(connection: &mut Connection, fields: &mut Fields, id: u64, bytes: &[u8]) -> usize {
+    let mut stream = open(connection, fields, id, bytes);
+    match connection.receive(&mut stream, bytes, true, fields).event {
+        Event::Headers(HeadersKind::Request, list) => list.len(),
+        _ => 0,
+    }
+}
+
+#[test]
+fn a_section_is_acknowledged_for_its_stream_alone(rt: HostRuntime) {
+    let (mut connection, mut fields) = with_table(rt.alloc());
+    let (mut encoder, _count) = insert(&mut connection, &mut fields, INSERTIONS.as_slice());
+    let malformed = [0x01, 0x04, 0x03, 0x81, 0x10, 0x11];
+    let mut out = Vec::new(rt.alloc());
+    let none = request(&mut connection, &mut fields, 0, malformed.as_slice()) == 0;
+    let told = connection.acknowledge(0, &mut out).is_ok()
+        && connection.cancel(0, &mut out).is_ok();
+    assert!(rt;
+        none && told && out.as_slice() == [0x80, 0x40].as_slice(),
+        "a malformed request without a method is acknowledged, and then cancelled"
+    );
+    out.clear();
+    request(&mut connection, &mut fields, 4, malformed.as_slice());
+    let plain = request(&mut connection, &mut fields, 8, PLAIN.as_slice()) == 4;
+    let told = connection.acknowledge(8, &mut out).is_ok();
+    assert!(rt;
+        plain && told && out.is_empty(),
+        "a request without the table"
+    );
+    request(&mut connection, &mut fields, 12, REQUEST.as_slice());
+    let told = connection.cancel(12, &mut out).is_ok()
+        && connection.acknowledge(12, &mut out).is_ok();
+    assert!(rt;
+        told && out.as_slice() == [0x4c].as_slice(),
+        "nothing is acknowledged after a cancellation"
+    );
+    out.clear();
+    inserted(
+        &mut connection,
+        &mut encoder,
+        &mut fields,
+        CUSTOM.as_slice(),
+    );
+    inserted(&mut connection, &mut encoder, &mut fields, &[0x02]);
+    let third = [0x01, 0x07, 0x05, 0x00, 0xd1, 0xd7, 0x80, 0xc1, 0x81];
+    let read = request(&mut connection, &mut fields, 200, third.as_slice()) == 5;
+    let told = connection.acknowledge(200, &mut out).is_ok();
+    assert!(rt;
+        read && told && out.as_slice() == [0xff, 0x49].as_slice(),
+        "the section of Appendix B.4, on a stream with an ID of two bytes"
+    );
+    let before = connection.insert_count();
+    let last = [
+        0x81, 0x0d, 0x63, 0x75, 0x73, 0x74, 0x6f, 0x6d, 0x2d, 0x76, 0x61, 0x6c, 0x75, 0x65, 0x32,
+    ];
+    let count = inserted(&mut connection, &mut encoder, &mut fields, last.as_slice());
+    assert!(rt; before == 4 && count == 5, "the insertion of Appendix B.5");
+    let evicted = [0x01, 0x06, 0x06, 0x00, 0xd1, 0xd7, 0x84, 0xc1];
+    let mut stream = open(&mut connection, &mut fields, 204, evicted.as_slice());
+    let code = code_of(
+        &connection
+            .receive(&mut stream, &evicted, true, &mut fields)
+            .event,
+    );
+    assert!(rt; code == 0x200, "it evicted the first entry");
+}
+
+#[test]
+fn a_table_past_refused_memory(rt: HostRuntime) {
+    let (mut connection, mut fields) = with_table(rt.alloc());
+    let mut encoder = connection.accept(2);
+    connection.receive(&mut encoder, INSERTIONS.as_slice(), false, &mut fields);
+    let read = connection.receive(&mut encoder, &INSERTIONS[1..], false, &mut fields);
+    if !matches!(read.event, Event::Inserted(2)) {
+        let ends = code_of(&read.event) == 0x0102 && read.consumed == 34;
+        assert!(rt; ends, "an instruction without memory ends the connection");
+        let after = connection.receive(&mut encoder, &[0x02], false, &mut fields);
+        let rests = matches!(after.event, Event::More) && after.consumed == 1;
+        assert!(rt; rests, "nothing is read after it");
+        return;
+    }
+    let mut stream = open(&mut connection, &mut fields, 4, REQUEST.as_slice());
+    let first = connection.receive(&mut stream, REQUEST.as_slice(), true, &mut fields);
+    let read = match first.event {
+        Event::NoMemory if first.consumed == 2 => {
+            is_request(&mut connection, &mut fields, &mut stream, &REQUEST[2..])
+        }
+        event => has_request(&event) && first.consumed == 8,
+    };
+    assert!(rt; read, "the section is read, or read again");
+    let mut out = Vec::new(rt.alloc());
+    let told = match connection.acknowledge(4, &mut out) {
+        Ok(()) => true,
+        Err(_) => out.is_empty() && connection.acknowledge(4, &mut out).is_ok(),
+    };
+    assert!(rt;
+        told && out.as_slice() == [0x84].as_slice(),
+        "it is acknowledged, or acknowledged again"
+    );
 }

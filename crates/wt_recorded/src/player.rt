@@ -83,6 +83,8 @@ pub struct Player {
     connection: H3Connection,
     /// What it sends, of which nothing is compared.
     out: Vec<u8>,
+    /// What it sends on its decoder stream.
+    told: Vec<u8>,
     streams: BTreeMap<u64, Stream>,
     answers: BTreeMap<u64, StatusCode>,
     /// The streams that are to be read.
@@ -111,6 +113,7 @@ impl Player {
             alloc,
             connection,
             out,
+            told: Vec::new(alloc),
             streams: BTreeMap::new(alloc),
             answers: BTreeMap::new(alloc),
             ready: VecDeque::new(alloc),
@@ -166,6 +169,7 @@ impl Player {
             self.connection.reset(id),
             self.streams.get_mut(&id),
         ) {
+            self.connection.cancel(id, &mut self.told)?;
             stream.waits = None;
             stream.is_over = true;
             self.lines.add(id, stream.at, &event)?;
@@ -211,11 +215,11 @@ impl Player {
             received.event,
             Event::More | Event::Waits(_) | Event::NoMemory
         );
-        let is_over = stream.is_over;
+        let ends_early = ends_early(&received.event);
         let consumed = received.consumed;
         drop(received);
         stream.consume(consumed);
-        self.tell(id, is_over)?;
+        self.tell(id, ends_early)?;
         if is_last {
             return Ok(false);
         }
@@ -224,12 +228,12 @@ impl Player {
         Ok(true)
     }
 
-    /// Tells the encoder of the peer what was read of its table, or that a stream is over.
-    fn tell(&mut self, id: u64, is_over: bool) -> Result<(), Error> {
-        self.connection.acknowledge(id, &mut self.out)?;
-        self.connection.increment(&mut self.out)?;
-        if is_over {
-            self.connection.cancel(id, &mut self.out)?;
+    /// Tells the encoder of the peer what the last call read of a stream, and whether its reading ends early.
+    fn tell(&mut self, id: u64, ends_early: bool) -> Result<(), Error> {
+        self.connection.acknowledge(id, &mut self.told)?;
+        self.connection.increment(&mut self.told)?;
+        if ends_early {
+            self.connection.cancel(id, &mut self.told)?;
         }
         Ok(())
     }
@@ -354,6 +358,14 @@ fn joins(waits: Option<Waits>, event: &Event<'_>) -> Option<u64> {
         (_, Event::Joined(session) | Event::Waits(Waits::Session(session))) => Some(*session),
         _ => None,
     }
+}
+
+/// Returns whether the reading of a message ends with an event, before its end.
+fn ends_early(event: &Event<'_>) -> bool {
+    matches!(
+        event,
+        Event::Malformed(_) | Event::TooLarge(_) | Event::StreamError(_)
+    )
 }
 
 /// Returns what a stream waits for after an event.

@@ -55,7 +55,7 @@ use Rattle.wtp_webtransport.specs.Prefix.{names_table}
 use Rattle.wtp_webtransport.specs.Sessions.{asks_by, asks_connect, asks_session, allows_sessions}
 use Rattle.wtp_webtransport.specs.Streams.{with_streams, with_frames, connects, due_by, content_due, spoiled_if, GivesNext}
 use Rattle.wtp_webtransport.specs.Receiving.{Outcome, closed_in, fails, goaway_in, in_stream, leaves, malformed, spoiled, found_opened, content_by, closed_if, complete, capsule_found, CapsulesGive, ContentBy, DataBy, ends_by, SessionEndGives, Between, Within, EndBy, too_large_by, interim_by, request_by, response_in, takes, taken_of, ResultGives, PrefixGives, span_in, SectionBy, FoundGives, UnreadBy, GoesOn, DueGives, StreamGives, ReceivesIf, read_after, noted, OverGives, TableGives}
-use Rattle.wtp_webtransport.specs.Tables.{with_decoder, instructed, CallBy, Call}
+use Rattle.wtp_webtransport.specs.Tables.{with_decoder, without_read, instructed, CallBy, Call}
 use Rattle.wtp_streams.specs.Table.{places}
 use Rattle.wtp_streams.proofs.RunLemmas.{WaitsAs, found_waits, interim_counts, abandon_counts, connected_places}
 
@@ -417,4 +417,5 @@ call_keeps (Some d) limit c s bytes fin o (e, r, read, g) = instructed_keeps r c
 pub receive_balances : (limit : ℕ) (c : Connection) (s : Stream) (bytes : List ℕ) (fin : Bool) (o : Outcome)
     → Call limit c s bytes fin o
     → Balances c s o.2 o.3
-receive_balances limit c s bytes fin o g = call_keeps (instructed c s bytes) limit c s bytes fin o g
+receive_balances limit c s bytes fin o g =
+    call_keeps (instructed c s bytes) limit (without_read c) s bytes fin o g

@@ -6,7 +6,7 @@ use Rattle.wtp_webtransport.specs.declared.event.Waits.{Waits as Wait}
 use Rattle.wtp_webtransport.specs.declared.event.Waits.TheVariants as wait
 use Rattle.wtp_webtransport.specs.Events.{Told, Joins, SessionRequested, Waits, More}
 use Rattle.wtp_webtransport.specs.Receiving.{Outcome, ReceivesIf, closed_by}
-use Rattle.wtp_webtransport.specs.Tables.{instructed, instructed_by, CallBy, told_last}
+use Rattle.wtp_webtransport.specs.Tables.{without_read, instructed, instructed_by, CallBy, told_last}
 use Rattle.wtp_webtransport.specs.declared.fault.Fault.TheVariants as fault
 use Rattle.wtp_dynamic.specs.declared.error.SectionError.TheVariants.{TooManyBlocked}
 use Rattle.wtp_dynamic_decoder.specs.Decoder.{Decoder}
@@ -33,9 +33,9 @@ instructed_intact false x d e = refl
 
 call_stays : (d : Option Decoder) (limit : ℕ) (c : Connection) (s : Stream) (bytes : List ℕ) (fin : Bool) (o : Outcome)
     → instructed c s bytes ≡ d
-    → CallBy d limit c s bytes fin o
+    → CallBy d limit (without_read c) s bytes fin o
     → StaysOver c o.2
-call_stays None limit c s bytes fin o e g = receive_stays c.over limit c s bytes fin o refl g
+call_stays None limit c s bytes fin o e g = receive_stays c.over limit (without_read c) s bytes fin o refl g
 call_stays (Some d) limit c s bytes fin o e g =
     λ intact. instructed_intact c.over (instructed_by c.decoder s.frames bytes) d e
 

@@ -97,7 +97,8 @@ impl H3Connection {
 
     /// Returns what is next in the bytes of the stream with this ID that follow those consumed before, as
     /// [`Streams::receive`] does, or `None` if there is no such stream. A response to a request that came
-    /// may be sent from then on. Once `SessionReady` came the session is open here too.
+    /// may be sent from then on. Once `SessionReady` came the session is open here too. With a dynamic table,
+    /// [`acknowledge`](Self::acknowledge) writes after each call what is due for it.
     pub fn receive<'a>(&mut self, id: u64, bytes: &'a [u8], fin: bool) -> Option<Received<'a>>
         ensures { ReceivesEnds (ends_of self.old) id bytes.now fin
             (option_map (λ r. (r.consumed, told_of r.event)) result) (ends_of self.new) }

@@ -43,8 +43,8 @@ pub struct Streams {
 
 impl Streams {
     /// Creates a connection without streams. `extended`: the own SETTINGS allow extended CONNECT, which
-    /// sessions of WebTransport need (RFC 9220, section 3). `limits` bounds sessions, and field sections in
-    /// place of `endpoint`.
+    /// sessions of WebTransport need (RFC 9220, section 3). `limits` bounds sessions, the dynamic table, and field
+    /// sections in place of `endpoint`.
     pub fn new(alloc: Global, endpoint: Endpoint, extended: bool, limits: Limits) -> Self
         ensures { table_of result ≡ table_for endpoint extended limits }
     {
@@ -146,7 +146,7 @@ impl Streams {
     ///
     /// If more streams wait for the dynamic table than [`Limits::max_blocked`](crate::limits::Limits), it
     /// returns `ConnectionError` with QPACK_DECOMPRESSION_FAILED in place of `Waits`, with all bytes. After
-    /// each event that has fields call [`acknowledge`](Self::acknowledge).
+    /// each call [`acknowledge`](Self::acknowledge) writes what is due for it.
     pub fn receive<'a>(&mut self, id: u64, bytes: &'a [u8], fin: bool) -> Option<Received<'a>>
         ensures { ReceivesIn (table_of self.old) id bytes.now fin
             (option_map (λ r. (r.consumed, told_of r.event)) result, table_of self.new) }
@@ -225,6 +225,8 @@ impl Streams {
     }
 
     /// Forgets the stream with this ID, which is read no further, as with [`Connection::abandon`]. The
+    /// control stream and those of QPACK are not to be forgotten: without the encoder stream every section
+    /// that needs an insertion waits. The
     /// stream of a request for a session that was sent here stays, and is over. Returns `SessionLost` if
     /// it is the own stream of an open session, `None` if there is no such stream, and otherwise `More`.
     pub fn forget(&mut self, id: u64) -> Option<Event<'static>>

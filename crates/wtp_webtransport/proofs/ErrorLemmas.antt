@@ -23,6 +23,9 @@ use Rattle.wtp_dynamic_fields.specs.declared.section.Decoded.{Decoded}
 use Rattle.wtp_dynamic_fields.specs.declared.section.Decoded.TheVariants as decoded
 use Rattle.wtp_dynamic_fields.specs.declared.section.TableSectionError.{TableSectionError}
 use Rattle.wtp_dynamic_fields.specs.declared.section.TableSectionError.TheVariants as table_error
+use Rattle.std.specs.Prelude.{MatchResult}
+use Rattle.wtp_dynamic.specs.declared.error.EncoderStreamError.{EncoderStreamError}
+use Rattle.wtp_dynamic.specs.Table.{insert_count}
 use Rattle.wtp_webtransport.specs.Prefix.{names_table}
 use Rattle.wtp_messages.specs.declared.message.Message.{Message}
 use Rattle.wtp_messages.specs.declared.response.Asked.{Asked}
@@ -54,6 +57,7 @@ use Rattle.wtp_webtransport.specs.Fault.{scope_of}
 use Rattle.wtp_webtransport.specs.Sessions.{asks_of}
 use Rattle.wtp_webtransport.specs.Streams.{with_streams, with_frames, spoiled_if, due_by}
 use Rattle.wtp_webtransport.specs.Receiving.{Outcome, closed_in, fails, goaway_in, in_stream, leaves, spoiled, found_opened, content_by, closed_if, complete, capsule_found, CapsulesGive, ContentBy, DataBy, ends_by, SessionEndGives, Between, Within, EndBy, too_large_by, interim_by, request_by, response_in, takes, taken_of, ResultGives, PrefixGives, span_in, SectionBy, told_more, FoundGives, UnreadBy, GoesOn, DueGives, StreamGives, ReceivesIf, Receives, read_after, noted, OverGives, TableGives}
+use Rattle.wtp_webtransport.specs.Tables.{with_decoder, InstructionsGive}
 use Rattle.wtp_webtransport.specs.Endings.{is_error, Marks}
 
 -- ---- events that are no errors
@@ -349,3 +353,19 @@ pub rests : (limit : ℕ) (c : Connection) (s : Stream) (bytes : List ℕ) (fin 
     → Receives limit c s bytes fin o
     → o ≡ (length bytes, told.More, c, s)
 rests limit c s bytes fin o e g = subst (λ (b : Bool). ReceivesIf b limit c s bytes fin o) e g
+
+-- ---- instructions
+
+read_marks : (r : Result (Unit {0}) EncoderStreamError) (c : Connection) (e : Decoder) (s : Stream) (bytes : List ℕ) (o : Outcome)
+    → MatchResult r
+    (λ _. o ≡ (length bytes, told.Inserted (insert_count e.table), with_decoder c e, s))
+    (λ f. o ≡ fails (with_decoder c e) s (fault.Instructions f) (length bytes))
+    → Marks c o
+read_marks (Ok u) c e s bytes o g = at c o _ g (no c.over)
+read_marks (Err f) c e s bytes o g =
+    at c o _ g (fails_mark (with_decoder c e) s (fault.Instructions f) (length bytes))
+
+pub instructions_marked : (d : Decoder) (c : Connection) (s : Stream) (bytes : List ℕ) (o : Outcome)
+    → InstructionsGive d c s bytes o
+    → Marks c o
+instructions_marked d c s bytes o (e, r, read, g) = read_marks r c e s bytes o g

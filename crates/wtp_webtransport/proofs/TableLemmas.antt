@@ -14,7 +14,7 @@ use Rattle.wtp_webtransport.specs.declared.connection.Connection.{Connection}
 use Rattle.wtp_webtransport.specs.declared.stream.Stream.{Stream}
 use Rattle.wtp_webtransport.specs.Events.{Told}
 use Rattle.wtp_webtransport.specs.Receiving.{Outcome, Receives, fails, read_after, ReadGives, HasRead, OverGives, DecodedBy, TableGives}
-use Rattle.wtp_webtransport.specs.Tables.{instructed, instructed_by, CallBy, Call}
+use Rattle.wtp_webtransport.specs.Tables.{without_read, instructed, instructed_by, CallBy, Call}
 use Rattle.wtp_webtransport.specs.Words.{without_table}
 
 none_instructed : (t : Frames) (bytes : List ℕ) → instructed_by None t bytes ≡ None
@@ -33,11 +33,13 @@ not_instructed c s bytes e =
 
 pub call_alone : (limit : ℕ) (c : Connection) (s : Stream) (bytes : List ℕ) (fin : Bool) (o : Outcome) → without_table c ≡ c → Call limit c s bytes fin o → Receives limit c s bytes fin o
 call_alone limit c s bytes fin o e g =
-    subst (λ (d : Option Decoder). CallBy d limit c s bytes fin o)
-    (not_instructed c s bytes (sym (ap (λ (x : Connection). x.decoder) e))) g
+    let same : without_read c ≡ c = sym (ap without_read e) ∙ e in
+    subst (λ (x : Connection). Receives limit x s bytes fin o) same
+    (subst (λ (d : Option Decoder). CallBy d limit (without_read c) s bytes fin o)
+    (not_instructed c s bytes (sym (ap (λ (x : Connection). x.decoder) e))) g)
 
-pub call_read : (limit : ℕ) (c : Connection) (s : Stream) (bytes : List ℕ) (fin : Bool) (o : Outcome) → instructed c s bytes ≡ None → Receives limit c s bytes fin o → Call limit c s bytes fin o
-call_read limit c s bytes fin o e g = subst (λ (d : Option Decoder). CallBy d limit c s bytes fin o) (sym e) g
+pub call_read : (limit : ℕ) (c : Connection) (s : Stream) (bytes : List ℕ) (fin : Bool) (o : Outcome) → instructed c s bytes ≡ None → Receives limit (without_read c) s bytes fin o → Call limit c s bytes fin o
+call_read limit c s bytes fin o e g = subst (λ (d : Option Decoder). CallBy d limit (without_read c) s bytes fin o) (sym e) g
 
 -- ---- sections
 

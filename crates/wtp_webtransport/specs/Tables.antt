@@ -44,9 +44,15 @@ abbrev pub CallBy : Option Decoder → ℕ → Connection → Stream → List �
 CallBy None limit c s bytes fin o = Receives limit c s bytes fin o
 CallBy (Some d) limit c s bytes fin o = InstructionsGive d c s bytes o
 
--- what one call of a connection gives: bytes of the encoder stream go to the table, if one is allowed
+-- what was read before is no longer to be acknowledged
+abbrev pub without_read : Connection → Connection
+without_read c = record c { read = None }
+
+-- What one call of a connection gives: bytes of the encoder stream go to the table, if one is allowed. After
+-- it a section is to be acknowledged exactly if this call read it with the table.
 abbrev pub Call : ℕ → Connection → Stream → List ℕ → Bool → Outcome → Type 0
-Call limit c s bytes fin o = CallBy (instructed c s bytes) limit c s bytes fin o
+Call limit c s bytes fin o =
+    CallBy (instructed c s bytes) limit (without_read c) s bytes fin o
 
 -- ---- the decoder stream (section 4.4)
 
@@ -63,7 +69,7 @@ Says due made old new before after result =
 abbrev pub bounded : ℕ → Decoder → ℕ
 bounded required d = min required (insert_count d.table)
 
--- the acknowledgment of the last section that was read with the table (section 4.4.1), once
+-- the acknowledgment of the section that the last call read with the table (section 4.4.1), once
 abbrev pub due_read : Option Decoder → Option ℕ → ℕ → Option Acknowledgment
 due_read (Some d) (Some required) id = due_section id (bounded required d)
 due_read d read id = None
@@ -82,14 +88,15 @@ abbrev pub after_inserts : Option Decoder → Connection → Connection
 after_inserts None c = c
 after_inserts (Some d) c = with_decoder c (incremented d)
 
--- the cancellation of a stream that is read no further (section 4.4.2)
+-- the cancellation of a stream that is read no further (section 4.4.2), after which no section of it is to be
+-- acknowledged
 abbrev pub due_cancel : Option Decoder → ℕ → Option Acknowledgment
 due_cancel None id = None
 due_cancel (Some d) id = due_cancellation id d
 
 abbrev pub after_cancel : Option Decoder → ℕ → Connection → Connection
 after_cancel None id c = c
-after_cancel (Some d) id c = with_decoder c (cancelled id d)
+after_cancel (Some d) id c = with_decoder (without_read c) (cancelled id d)
 
 -- how many entries were inserted
 abbrev pub inserts_of : Option Decoder → ℕ

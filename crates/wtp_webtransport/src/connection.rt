@@ -45,7 +45,8 @@ pub struct Connection {
     over: bool,
     /// The dynamic table of QPACK, if the own SETTINGS allow one.
     decoder: Option<QpackDecoder>,
-    /// How many insertions the last section needed that was read with the table and not acknowledged.
+    /// How many insertions the section needed that the last call read with the table, until it is
+    /// acknowledged.
     read: Option<u64>,
 }
 
@@ -139,7 +140,8 @@ impl Connection {
     /// stream ends right after `bytes`. Call it until [`Event::More`] or [`Event::Waits`].
     ///
     /// Bytes of the encoder stream go to the dynamic table, if the connection
-    /// [has one](Self::allow_table): the event is [`Event::Inserted`].
+    /// [has one](Self::allow_table): the event is [`Event::Inserted`]. After each call
+    /// [`acknowledge`](Self::acknowledge) writes what is due for it.
     ///
     /// After `More` and `NoMemory` the bytes that were not consumed are to be passed again, after
     /// `More` with more bytes after them. After `Waits` they are to be passed again when the wait is
@@ -160,14 +162,15 @@ impl Connection {
             (result.consumed, told_of result.event, self.new, stream.new) }
         ensures fields { fields.new ≡ fields.old }
     {
+        self.read = None;
         if self.reads_instructions(stream, bytes) {
             return self.instructions(stream, bytes);
         }
-        self.read(stream, bytes, fin, fields)
+        self.next(stream, bytes, fin, fields)
     }
 
     // Returns what is next in bytes that are no instructions for the table.
-    fn read<'a>(
+    fn next<'a>(
         &mut self,
         stream: &mut Stream,
         bytes: &'a [u8],

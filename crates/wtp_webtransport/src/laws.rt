@@ -1,5 +1,6 @@
 //! Laws of the definitions that the contracts cite. Each function does nothing: its contract is the
-//! law.
+//! law. `Receives` is a call of `receive`, but for bytes of the encoder stream where a dynamic table is
+//! allowed: of these `InstructionsGive` says what a call gives.
 ghost use Rattle.std.specs.Prelude.{◌≡◌, ◌||◌, ◌+◌, ◌<◌, ◌≤◌, ℕ, Bool, true, false, List, ◌∷◌, ◌++◌, length, drop, Option};
 ghost use Rattle.wtp_webtransport.specs.declared.connection.Connection.{Connection};
 ghost use Rattle.wtp_webtransport.specs.declared.stream.Stream.{Stream};
@@ -33,6 +34,8 @@ ghost use Rattle.wtp_webtransport.specs.Capsules.{Found, Place, between, place_b
 ghost use Rattle.wtp_webtransport.specs.Cuts.{breaks, followed, after_found, run, IsProper};
 ghost use Rattle.wtp_webtransport.specs.Places.{IsPlaced};
 ghost use Rattle.wtp_webtransport.specs.Prefix.{names_table};
+ghost use Rattle.wtp_webtransport.specs.Tables.{InstructionsGive};
+ghost use Rattle.wtp_dynamic_decoder.specs.Decoder.{Decoder};
 
 /// A session ends once: `SessionClosed` and `SessionLost` come only on the own stream of a session that
 /// is held, and it is held no longer after them. Without them it is held after a call exactly if it was
@@ -58,6 +61,8 @@ pub fn sessions_end_once()
 pub fn errors_are_last()
     ensures receive { (limit : ℕ) (c : Connection) (s : Stream) (bytes : List ℕ) (fin : Bool) (o : Outcome)
         → Receives limit c s bytes fin o → Marks c o }
+    ensures instructions { (d : Decoder) (c : Connection) (s : Stream) (bytes : List ℕ) (o : Outcome)
+        → InstructionsGive d c s bytes o → Marks c o }
     ensures reset { (c : Connection) (s : Stream) → MarksAfter c (resets c s) }
     ensures stop { (c : Connection) (s : Stream) → MarksAfter c (stops_half c s) }
     ensures abandon { (c : Connection) (s : Stream) → MarksAfter c (abandons c s) }
@@ -255,7 +260,7 @@ pub fn content_is_judged_by_frames()
 {}
 
 /// The prefix of a field section refers to a table exactly by its Required Insert Count and its Sign
-/// bit (RFC 9204, sections 4.5.1.1 and 4.5.1.2).
+/// bit (RFC 9204, sections 4.5.1.1 and 4.5.1.2). Such a section is an error where no table is allowed.
 pub fn prefixes_that_name_a_table_are_refused()
     ensures count { (count : ℕ) (s more : List ℕ)
         → IsInt 8 count s → 0 < count → names_table (s ++ more) ≡ true }

@@ -9,13 +9,14 @@ use std::alloc::AllocError;
 
 impl H3Connection {
     /// Appends to `out`, for the own decoder stream, the acknowledgment of the field section that the last
-    /// call of [`receive`](Self::receive) returned, if it was read with the dynamic table, as
-    /// [`Streams::acknowledge`](crate::streams::Streams::acknowledge) does. `id` is the ID of its stream. Call
-    /// it after each event that has fields.
+    /// call of [`receive`](Self::receive) read, if it was read with the dynamic table, as
+    /// [`Streams::acknowledge`](crate::streams::Streams::acknowledge) does. `id` is the ID of the stream of that
+    /// call. Call it after each call of `receive`, whatever the event is, and before the next one.
     ///
     /// # Errors
     ///
-    /// If allocation failed: nothing changed, and the call can be repeated.
+    /// If allocation failed: nothing changed, and the call can be repeated, before the next call of
+    /// `receive`.
     pub fn acknowledge(&mut self, id: u64, out: &mut Vec<u8>) -> Result<(), AllocError>
         ensures { SaysAt (due_read (ends_of self.old).table.connection.decoder
             (ends_of self.old).table.connection.read id)
@@ -42,9 +43,11 @@ impl H3Connection {
     }
 
     /// Appends to `out`, for the own decoder stream, the cancellation of the stream with this ID, if there
-    /// may be a dynamic table, as [`Streams::cancel`](crate::streams::Streams::cancel) does. Call it for each
-    /// stream of a message that is not read to its end: after [`reset`](Self::reset),
-    /// [`abandon`](Self::abandon) and [`forget`](Self::forget) of one that goes on, and after an error of it.
+    /// may be a dynamic table, as [`Streams::cancel`](crate::streams::Streams::cancel) does. It writes at each
+    /// call: call it once, after [`acknowledge`](Self::acknowledge), for each stream of a message whose reading
+    /// ends before `End`. That is after `Reset`, `Malformed`, `StreamError` and `TooLarge`, also of trailers,
+    /// and with [`reject`](Self::reject), [`abandon`](Self::abandon), [`close`](Self::close) and
+    /// [`forget`](Self::forget).
     ///
     /// # Errors
     ///

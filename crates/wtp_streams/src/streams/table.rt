@@ -12,12 +12,13 @@ use wtp_webtransport::event::{Received, Waits};
 
 impl Streams {
     /// Appends to `out`, for the own decoder stream, the acknowledgment of the field section that the last
-    /// call of [`receive`](Self::receive) returned, if it was read with the dynamic table, as
-    /// [`Connection::acknowledge`] does. `id` is the ID of its stream.
+    /// call of [`receive`](Self::receive) read, if it was read with the dynamic table, as
+    /// [`Connection::acknowledge`] does. `id` is the ID of the stream of that call.
     ///
     /// # Errors
     ///
-    /// If allocation failed: nothing changed, and the call can be repeated.
+    /// If allocation failed: nothing changed, and the call can be repeated, before the next call of
+    /// `receive`.
     ///
     /// [`Connection::acknowledge`]: wtp_webtransport::connection::Connection::acknowledge
     pub fn acknowledge(&mut self, id: u64, out: &mut Vec<u8>) -> Result<(), AllocError>
@@ -45,8 +46,8 @@ impl Streams {
     }
 
     /// Appends to `out`, for the own decoder stream, the cancellation of the stream with this ID, if there
-    /// may be a dynamic table, as [`Connection::cancel`] does: call it for each stream of a message that is
-    /// not read to its end.
+    /// may be a dynamic table, as [`Connection::cancel`] does: once for each stream of a message whose
+    /// reading ends before `End`, or that has an event `TooLarge`.
     ///
     /// # Errors
     ///

@@ -44,13 +44,15 @@ impl Connection {
     }
 
     /// Appends to `out`, for the own decoder stream, the acknowledgment of the field section that the last
-    /// call of [`receive`](Self::receive) returned, if it was read with the dynamic table (RFC 9204, section
-    /// 4.4.1). `id` is the ID of its stream. Call it after each event that has fields: a section that is
-    /// read after it takes its place.
+    /// call of [`receive`](Self::receive) read, if it was read with the dynamic table (RFC 9204, section
+    /// 4.4.1). `id` is the ID of the stream of that call. Call it after each call of `receive`, whatever
+    /// the event is, and before the next one: a message that is malformed has a section that was read, too.
+    /// It writes once.
     ///
     /// # Errors
     ///
-    /// If allocation failed: nothing changed, and the call can be repeated.
+    /// If allocation failed: nothing changed, and the call can be repeated, before the next call of
+    /// `receive`.
     pub fn acknowledge(&mut self, id: u64, out: &mut Vec<u8>) -> Result<(), AllocError>
         ensures { Says (due_read self.old.decoder self.old.read id)
             (after_read self.old.decoder self.old.read self.old) self.old self.new
@@ -92,9 +94,10 @@ impl Connection {
     }
 
     /// Appends to `out`, for the own decoder stream, the cancellation of the stream with this ID, if the own
-    /// SETTINGS allow a dynamic table (RFC 9204, section 4.4.2). Call it for each stream of a message that is
-    /// not read to its end: that the peer reset, that was [abandoned](Self::abandon) or rejected, or that
-    /// has an error.
+    /// SETTINGS allow a dynamic table (RFC 9204, section 4.4.2). It writes at each call: call it once, after
+    /// [`acknowledge`](Self::acknowledge), for each stream of a message whose reading ends before `End`. That
+    /// is after `Reset`, `Malformed`, `StreamError` and `TooLarge`, also of trailers, and where the stream is
+    /// [abandoned](Self::abandon) or [rejected](Self::reject).
     ///
     /// # Errors
     ///
@@ -105,7 +108,13 @@ impl Connection {
     {
         match &mut self.decoder {
             None => Ok(()),
-            Some(decoder) => decoder.cancel(id, out),
+            Some(decoder) => match decoder.cancel(id, out) {
+                Ok(()) => {
+                    self.read = None;
+                    Ok(())
+                }
+                Err(error) => Err(error),
+            },
         }
     }
 

@@ -1,6 +1,9 @@
-use Rattle.wtp_webtransport.proofs.ErrorLemmas.{errors_marked, rests}
+use Rattle.wtp_webtransport.proofs.ErrorLemmas.{instructions_marked, errors_marked, rests}
 use Rattle.wtp_webtransport.proofs.LossLemmas.{reset_marks, stop_marks, abandon_marks, join_marks, overflow_marks, reject_marks, quiet}
 use Rattle.wtp_webtransport.proofs.laws.errors_are_last.Goals as goal
+
+pub returns-clause-instructions : goal.returns-clause-instructions
+returns-clause-instructions c = instructions_marked
 
 pub returns-clause-receive : goal.returns-clause-receive
 returns-clause-receive c = errors_marked
