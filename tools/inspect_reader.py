@@ -725,7 +725,9 @@ class Reader:
         members = {"item": "capsule", **capsule_of(start, number, length)}
         del members["at"]
         stop = None
-        if len(value) < length:
+        if number == CLOSE and length > LONGEST_CLOSE:
+            stop = faulted(start, "H3_DATAGRAM_ERROR")
+        elif len(value) < length:
             stop = cut(start, "capsule", length - len(value))
         elif number == CLOSE:
             close = close_in(value)

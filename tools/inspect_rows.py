@@ -338,6 +338,21 @@ ROWS = [
             "58    end",
         ),
     ),
+    # a close that announces more than its code and 1024 bytes is too long, however it goes on
+    (
+        "long-close-is-cut",
+        "68434405" + "00000007627965",
+        "capsules --open",
+        2,
+        ("CLOSE_WEBTRANSPORT_SESSION, 1029 bytes", "0     fault", "H3_DATAGRAM_ERROR"),
+    ),
+    (
+        "longest-close-is-cut",
+        "68434404" + "00000007627965",
+        "capsules --open",
+        0,
+        ("CLOSE_WEBTRANSPORT_SESSION, 1028 bytes", "cut", "at least 1021 bytes missing"),
+    ),
     # reasons of a close that are hard to show
     (
         "reason-with-direction",

@@ -13,6 +13,7 @@ pub mod UniHeads
 pub mod Instructions
 pub mod Recording
 pub mod Walks
+pub mod Items
 pub mod Warnings
 pub mod ItemFrames
 pub mod Results

@@ -1,7 +1,7 @@
 -- What the items of a recording are: each is what the bytes at its place are, after the items
 -- before it (RFC 9114, sections 4.1, 6.2 and 7; RFC 9297, sections 2.1 and 3.2).
 use Rattle.std.specs.Prelude.{◌≡◌, ℕ, ◌++◌, ◌+◌, ◌-◌, ◌<◌, ◌≤◌, ◌%◌, ◌^◌, ◌⊎◌, ◌==◌, Bool, true}
-use Rattle.std.specs.Prelude.{◌&&◌, false, not, List, [], ◌∷◌, length, take, drop, codes, string_bytes}
+use Rattle.std.specs.Prelude.{◌&&◌, false, not, List, [], ◌∷◌, length, take, drop, codes, nat_lt, string_bytes}
 use Rattle.std.specs.Prelude.{Option, Some, None, Result, Ok, Err}
 use Rattle.std.specs.Str.{bytes_eq}
 use Rattle.wtp_core.specs.Varint.{number_at}
@@ -12,7 +12,7 @@ use Rattle.wtp_wire.specs.Kind.{kind_of}
 use Rattle.wtp_wire.specs.StreamKind.{stream_kind_of}
 use Rattle.wtp_wire.specs.Settings.{settings_in}
 use Rattle.wtp_wire.specs.Datagram.{datagram_in}
-use Rattle.wtp_wire.specs.Capsule.{capsule_in}
+use Rattle.wtp_wire.specs.Capsule.{capsule_in, capsule_kind_of, max_value_len}
 use Rattle.wtp_wire.specs.CapsuleFront.{capsule_front}
 use Rattle.wtp_wire.specs.CloseSession.{close_in}
 use Rattle.wtp_wire.specs.Role.{role_of}
@@ -217,6 +217,22 @@ abbrev pub Closes : ℕ → Option (CapsuleKind × List ℕ) → Option CloseRea
 Closes at (Some capsule) found after = ClosesBy at capsule.0 capsule.1 found after
 Closes at None found after = (found ≡ None) × (after ≡ Ok next-is.Capsules)
 
+-- a value of this length is too long for a capsule of this kind, whatever its bytes are
+abbrev pub is_overlong : Option CapsuleKind → ℕ → Bool
+is_overlong None len = false
+is_overlong (Some kind) len = nat_lt (max_value_len kind) len
+
+-- the end within a capsule at this place that lacks so many bytes: a fault if its value is too long
+-- (draft-ietf-webtrans-http3-02, section 5)
+abbrev pub EndsWithin : Bool → ℕ → ℕ → End → Type 0
+EndsWithin true at missing end = IsFaultAt at code-is.Datagram end
+EndsWithin false at missing end = IsCutAt at (codes "capsule") missing end
+
+-- the reading ends there
+abbrev pub StopsWithin : Bool → ℕ → ℕ → Then → Type 0
+StopsWithin overlong at missing (Ok next) = ⊥
+StopsWithin overlong at missing (Err end) = EndsWithin overlong at missing end
+
 -- a capsule at this place, of which len bytes are there
 pub record IsCapsuleAt (at : ℕ) (bytes : List ℕ) (len : ℕ) (c : CapsuleItem) (after : Then)
     : Type 0 where
@@ -227,7 +243,8 @@ pub record IsCapsuleAt (at : ℕ) (bytes : List ℕ) (len : ℕ) (c : CapsuleIte
   pub name : c.name.now ≡ capsule_name c.number
   pub most : len ≤ head + c.announced
   pub cut : len < head + c.announced → (len ≡ length bytes) × (c.close ≡ None) × (c.limit ≡ None)
-      × IsCut at (codes "capsule") ((head + c.announced) - len) after
+      × StopsWithin (is_overlong (capsule_kind_of c.number) c.announced) at
+      ((head + c.announced) - len) after
   pub whole : len ≡ head + c.announced → len < 2 ^ 62
       → Closes at (capsule_in (take len bytes)) c.close after
   pub limit : len ≡ head + c.announced

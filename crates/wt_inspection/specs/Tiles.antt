@@ -1,16 +1,9 @@
 -- Items that tile bytes: each byte belongs to exactly one item, and the items are in order.
-use Rattle.std.specs.Prelude.{◌≡◌, ℕ, ◌+◌, ◌≤◌, List, [], ◌∷◌, length}
+use Rattle.std.specs.Prelude.{◌≡◌, ℕ, ◌+◌, List, [], ◌∷◌}
 use Rattle.wt_inspection_model.specs.declared.item.Item.{Item}
-use Rattle.wt_inspection.specs.declared.tiling.Tiling.{Tiling}
 
 -- the first item is at the first place, each other one is where the one before it ends, and the
 -- last one ends at the end
 abbrev pub Tiles : ℕ → List Item → ℕ → Type 0
 Tiles start [] end = start ≡ end
 Tiles start (item ∷ rest) end = (item.at ≡ start) × Tiles (start + item.length) rest end
-
--- the items tile these bytes up to the place
-pub record IsTiling (bytes : List ℕ) (t : Tiling) : Type 0 where
-  pub same : t.bytes.now ≡ bytes
-  pub tiles : Tiles 0 t.items.items t.at
-  pub within : t.at ≤ length bytes

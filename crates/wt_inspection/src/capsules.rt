@@ -2,11 +2,11 @@
 ghost use Rattle.std.specs.Prelude.{◌≡◌, ◌≢◌, ◌+◌, ◌%◌, ◌==◌, ◌≤◌, ◌<◌, ◌^◌, ◌++◌, ℕ, List, []};
 ghost use Rattle.std.specs.Prelude.{IsSome, Some, None, true, IfOk, IfSome, codes, length, string_bytes};
 ghost use Rattle.wtp_wire.specs.AnyCapsule.{missing_from};
-ghost use Rattle.wtp_wire.specs.Capsule.{capsule_in};
+ghost use Rattle.wtp_wire.specs.Capsule.{capsule_in, capsule_kind_of};
 ghost use Rattle.wtp_wire.specs.CapsuleCursor.{capsule_value};
 ghost use Rattle.wtp_wire.specs.CapsuleFront.{IsCapsule};
 ghost use Rattle.wtp_wire.specs.CloseSession.{close_in};
-ghost use Rattle.wt_inspection.specs.Recording.{Closes, IsNext};
+ghost use Rattle.wt_inspection.specs.Recording.{Closes, EndsWithin, IsNext, is_overlong};
 ghost use Rattle.wt_inspection.specs.CapsuleNames.{capsule_name, other_name as other_name_of};
 ghost use Rattle.wt_inspection.specs.DataCapsules.{place_of};
 ghost use Rattle.wt_inspection.specs.Walks.{Fits, Holds, HoldsAt, IsFaultOf, JudgesBy, JudgesClose};
@@ -19,7 +19,7 @@ use crate::reading::{Next, Reading, Step, Then, cut, fault, fault_at};
 use std::alloc::{AllocError, Global};
 use std::borrow::CowSlice;
 use wt_inspection_model::item::{
-    CapsuleItem, CloseReason, Content, Cut, Fault, FaultCode, FlowLimit,
+    CapsuleItem, CloseReason, Content, Cut, End, Fault, FaultCode, FlowLimit,
 };
 use wtp_core::error::{ErrorCode, Refused};
 use wtp_core::varint::VarInt;
@@ -394,7 +394,7 @@ pub(crate) fn next_capsule(
     let left = rest.len() - pair.size;
     let announced = pair.second.into_inner();
     if announced > left as u64 {
-        let end = cut(at, "capsule", announced - left as u64);
+        let end = end_within(at, pair.first, announced, announced - left as u64);
         return Ok(Step::last(
             rest.len(),
             Content::Capsule(capsule_of(at, pair.first, announced, None, None)),
@@ -412,6 +412,28 @@ pub(crate) fn next_capsule(
         content: Content::Capsule(item),
         after,
     })
+}
+
+/// Returns the end within a capsule at this place that lacks so many bytes of its value. If the value
+/// is too long, that is a fault, whatever the bytes are.
+fn end_within(at: usize, number: VarInt, announced: u64, missing: u64) -> End
+    ensures { EndsWithin (is_overlong (capsule_kind_of number) announced) at missing result }
+{
+    if is_overlong(number, announced) {
+        End::Fault(too_long(at))
+    } else {
+        cut(at, "capsule", missing)
+    }
+}
+
+/// Returns whether a value of this length is too long for a capsule of this type.
+fn is_overlong(number: VarInt, length: u64) -> bool
+    ensures { result ≡ is_overlong (capsule_kind_of number) length }
+{
+    match CapsuleKind::parse(number) {
+        Some(kind) => length > kind.max_value_len() as u64,
+        None => false,
+    }
 }
 
 /// Returns the code and the reason of the capsule that these bytes are, if it closes its session,

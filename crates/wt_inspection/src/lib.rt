@@ -2,6 +2,7 @@
 //!
 //! [`inspect`] reads the bytes as they were sent in one direction. It returns an [`Inspection`]:
 //! the items, in order, each with its place, what looks wrong in them, and how the bytes end.
+//! [`Inspecting`] gives the same items one after the other, and keeps none of them.
 //! Unlike the streams of `wtransport_proto` it reads payloads of any length, and it goes on after a
 //! field section that needs the dynamic table of QPACK.
 #![tactic(auto)]
@@ -11,6 +12,7 @@ mod fields;
 mod frames;
 mod insertions;
 mod instructions;
+mod items;
 pub mod laws;
 mod limits;
 mod message;
@@ -18,10 +20,9 @@ mod past;
 mod reading;
 mod recording;
 mod settings;
-mod tiling;
 
 pub use insertions::{Insertions, instructions_in};
+pub use items::{Inspecting, inspect, inspect_with};
 pub use reading::Recorded;
-pub use recording::{inspect, inspect_with};
 pub use wt_inspection_model::item;
 pub use wt_inspection_model::item::{Content, End, Inspection, Item};

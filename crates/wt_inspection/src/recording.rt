@@ -1,11 +1,10 @@
-//! The items of a recording.
-ghost use Rattle.std.specs.Prelude.{◌≡◌, ◌+◌, ◌^◌, ◌≤◌, ◌<◌, ◌==◌, IfOk, Ok, codes, length, option_map, None};
-ghost use Rattle.wt_inspection.specs.Recording.{EndsInspection, IsCutAt, IsNext, IsRecording};
+//! What the next bytes of a recording are.
+ghost use Rattle.std.specs.Prelude.{◌≡◌, ◌+◌, ◌^◌, ◌≤◌, ◌<◌, ◌==◌, IfOk, Ok, codes, length, option_map};
+ghost use Rattle.wt_inspection.specs.Recording.{EndsInspection, IsCutAt, IsNext};
 ghost use Rattle.wt_inspection.specs.Recording.{IsPushHead, IsSessionHead, is_push};
 ghost use Rattle.wt_inspection.specs.Recording.{IsStep, Moves, after_head, has_session};
 ghost use Rattle.wt_inspection.specs.DataCapsules.{Stage};
-ghost use Rattle.wt_inspection.specs.Resolved.{ContentWith, HasNoSection, ItemsWith};
-ghost use Rattle.wt_inspection.specs.Tiles.{Tiles};
+ghost use Rattle.wt_inspection.specs.Resolved.{ContentWith, HasNoSection};
 ghost use Rattle.wt_inspection.specs.Walks.{IsStageAt, LeadsAt};
 ghost use Rattle.wtp_wire.specs.StreamKind.{stream_kind_of};
 
@@ -16,14 +15,11 @@ use crate::insertions::Insertions;
 use crate::instructions::{next_acknowledgment, next_insertion};
 use crate::message::warn_of_section;
 use crate::reading::{
-    Next, Reading, Recorded, Step, Then, cut, end_after, end_at, end_of_nothing, fault, start_of,
+    Next, Reading, Recorded, Step, Then, cut, end_after, end_at, end_of_nothing, fault,
 };
 use crate::settings::{read_settings, settings_then, warn_of_settings};
-use crate::tiling::Tiling;
 use std::alloc::{AllocError, Global};
-use wt_inspection_model::item::{
-    Content, DatagramHead, End, Inspection, Rule, StreamHead, StreamName,
-};
+use wt_inspection_model::item::{Content, DatagramHead, End, Rule, StreamHead, StreamName};
 use wtp_core::bytes::get::varint_len_needed;
 use wtp_core::error::ErrorCode;
 use wtp_core::ids::SessionId;
@@ -33,92 +29,14 @@ use wtp_wire::head::{first_pair, missing_bytes};
 use wtp_wire::rules::StreamRole;
 use wtp_wire::stream_header::StreamKind;
 
-/// Returns what the bytes contain. If `open`, more bytes may follow them; otherwise the stream ends
-/// after them.
-///
-/// The items tile the bytes: each byte belongs to exactly one item, and the items are in order.
-/// Each is what the bytes at its place are after the items before it. The bytes after the item with
-/// the first fault, and too few bytes for the head of an item, are one item that is not read. The
-/// end is then that fault, or where the bytes are cut: [`End::Cut`], unless `kind` is
-/// that of a stream and they are not `open`. A stream may not end within a frame, so that is the fault
-/// [`ErrorCode::Frame`] (RFC 9114, section 7.1), nor its DATA frames within a capsule, which is the
-/// fault [`ErrorCode::Message`] (RFC 9297, section 3.3).
-///
-/// DATA frames contain capsules if the first header section, or the first that is not of an interim
-/// response, is that of a session: a request whose `:protocol` is one of WebTransport, `connect-udp`
-/// or `connect-ip`, or any with a true `capsule-protocol`; or a response with the status 2xx and a
-/// true `capsule-protocol`, `sec-webtransport-http3-draft` or `wt-protocol`. A CONNECT whose lines
-/// end before `:protocol` counts as the request of a session. With [`Recorded::SessionResponse`] each
-/// response that accepts is one. Other DATA frames are not read.
-///
-/// A field section that needs the dynamic table has lines of which the name, or the name and the
-/// value, are unknown: [`inspect_with`] knows them.
-///
-/// Returns [`AllocError`] if allocation fails.
-pub fn inspect(
-    alloc: Global,
-    kind: Recorded,
-    bytes: &[u8],
-    open: bool,
-) -> Result<Inspection, AllocError>
-    ensures tiles { IfOk result (λ i. Tiles 0 i.items.items (length bytes.now)) }
-    ensures read { IfOk result (λ i. IsRecording kind «open» bytes.now i.items.items i.end) }
-    ensures sections { IfOk result (λ i. ItemsWith None bytes.now i.items.items) }
-{
-    inspect_with(alloc, kind, bytes, open, None)
-}
-
-/// Does the same as [`inspect`], with the encoder stream of the end that sent the bytes.
-///
-/// A field section is read with the dynamic table as it is when all insertions that the section
-/// needs have just been made. Its Required Insert Count is what the encoded number means once all
-/// insertions were read, or the one before if these are too few for that (RFC 9204, section
-/// 4.5.1.1). So the count is the right one of each section if the encoder stream has at most twice
-/// as many insertions as the table can have entries; and of the later sections otherwise.
-///
-/// Returns [`AllocError`] if allocation fails.
-pub fn inspect_with(
-    alloc: Global,
-    kind: Recorded,
-    bytes: &[u8],
-    open: bool,
-    sent: Option<&Insertions<'_>>,
-) -> Result<Inspection, AllocError>
-    ensures tiles { IfOk result (λ i. Tiles 0 i.items.items (length bytes.now)) }
-    ensures read { IfOk result (λ i. IsRecording kind «open» bytes.now i.items.items i.end) }
-    ensures sections { IfOk result
-        (λ i. ItemsWith (option_map (λ i. i.now) sent.entry) bytes.now i.items.items) }
-{
-    let mut tiling = Tiling::new(alloc, bytes);
-    let mut reading = Reading::new(alloc);
-    let mut state = Ok(start_of(kind));
-    'items: loop {
-        let rest = tiling.rest();
-        if rest.is_empty() {
-            break;
-        }
-        let Step {
-            length,
-            content,
-            after,
-        } = next_step(&mut reading, sent, state, tiling.at(), rest)?;
-        tiling.push(length, content)?;
-        state = after;
-    }
-    let is_read = state.is_ok();
-    let end = end_of(&reading, kind, open, state, bytes);
-    if !open && is_read {
-        reading.warn_at_end(bytes.len())?;
-    }
-    Ok(Inspection {
-        items: tiling.into_items(),
-        warnings: reading.warnings,
-        end,
-    })
-}
-
 /// Returns how these bytes end, if this follows their last item.
-fn end_of(reading: &Reading, kind: Recorded, open: bool, state: Then, bytes: &[u8]) -> End
+pub(crate) fn end_of(
+    reading: &Reading,
+    kind: Recorded,
+    open: bool,
+    state: Then,
+    bytes: &[u8],
+) -> End
     ensures { (stage : Stage) → IsStageAt state reading.now.phase stage
         → EndsInspection kind «open» (length bytes.now == 0) state stage result }
 {
@@ -135,7 +53,7 @@ fn end_of(reading: &Reading, kind: Recorded, open: bool, state: Then, bytes: &[u
 }
 
 /// Returns the next item. After the end of the reading it is all bytes that are left.
-fn next_step(
+pub(crate) fn next_step(
     reading: &mut Reading,
     sent: Option<&Insertions<'_>>,
     state: Then,
