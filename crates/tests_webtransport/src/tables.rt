@@ -193,7 +193,10 @@ static WRONG: [(&str, &[u8]); 6] = [
         "an encoded insert count above the range (4.5.1.1)",
         &[0x01, 0x03, 0x0e, 0x00, 0xd1],
     ),
-    ("a base below zero (4.5.1.2)", &[0x01, 0x03, 0x03, 0x82, 0xd1]),
+    (
+        "a base below zero (4.5.1.2)",
+        &[0x01, 0x03, 0x03, 0x82, 0xd1],
+    ),
     (
         "an encoded insert count that stands for none (4.5.1.1)",
         &[0x01, 0x03, 0x01, 0x00, 0xd1],
