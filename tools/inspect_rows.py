@@ -317,11 +317,11 @@ ROWS = [
         ("PRIORITY_UPDATE    6 bytes", "ID 0", "priority = u=1,i"),
     ),
     (
-        "encoder-stream",
+        "ended-insertions",
         "023fe11fc0036162634461626364027879",
         "uni",
         0,
-        ("QPACK encoder, type 0x2", "payload            16 bytes", "the encoder or decoder stream"),
+        ("QPACK encoder, type 0x2", "        abcd = xy\n", "the encoder or decoder stream"),
     ),
     (
         "all-capsules-of-drafts",

@@ -1,3 +1,3 @@
 pub mod InputLemmas
 pub mod HexLemmas
-mod StatusLemmas
+pub mod SheetLemmas

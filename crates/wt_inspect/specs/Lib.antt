@@ -3,4 +3,6 @@ pub mod HexText
 pub mod HexReading
 pub mod Statuses
 pub mod CommandLine
+pub mod Sheets
 pub mod Shown
+pub mod Showings

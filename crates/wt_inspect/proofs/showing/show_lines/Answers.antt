@@ -1,0 +1,40 @@
+use Rattle.std.proofs.Common.{[], ◌++◌, ◌∙◌, refl, ap}
+use Rattle.wt_inspect.proofs.SheetLemmas.{appends_none, appends_then, ok_map, so_far_none}
+use Rattle.wt_inspect.proofs.showing.show_lines.Goals as goal
+
+pub items-init : goal.items-init
+items-init g c = (
+  c.new.ensures.input,
+  refl,
+  [],
+  appends_none (g.W.Write.contents c.args.output.now),
+  (
+    [],
+    [],
+    record {
+      items = c.new.ensures.none;
+      bytes = ap (λ i. i.bytes) c.new.ensures.input;
+      lines = so_far_none _ _ c.requires;
+      breach = refl;
+    },
+  ),
+)
+
+pub items-preserved : goal.items-preserved
+items-preserved g c =
+    let next = c.in_ok-is_item.ensures.shows in
+    let (more, added, shown) = next.shows c.items.invariant.2 c.items.invariant.4 in
+    (next.same.input ∙ c.items.invariant.0, ap (λ b. b.now) next.same.arguments ∙ c.items.invariant.1, c.items.invariant.2 ++ more, appends_then _ _ _ c.items.invariant.2 more c.items.invariant.3 added, shown)
+
+pub returns-then-not-is_item-clause-shows : goal.returns-then-not-is_item-clause-shows
+returns-then-not-is_item-clause-shows g c =
+    let next = c.in_ok-is_item.ensures.shows in
+    let (more, added, shown) = next.shows c.items.invariant.2 c.items.invariant.4 in
+    let text = c.items.invariant.2 ++ more in
+    let input = next.same.input ∙ c.items.invariant.0 in
+    let arguments = ap (λ b. b.now) next.same.arguments ∙ c.items.invariant.1 in
+    ok_map _ _ c.finish.result
+    (λ status shows.
+    let (last, written, are) = shows text shown in
+    (text ++ last, appends_then _ _ _ text last (appends_then _ _ _ c.items.invariant.2 more c.items.invariant.3 added) written, rw (input, arguments) at are))
+    c.finish.ensures.shows
