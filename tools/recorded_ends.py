@@ -2,12 +2,16 @@
 the requests that the recorded peer answers, and answers those that it sends."""
 
 import re
+from collections import Counter
+from itertools import islice
 
+import section_bytes
+from decoder_stream import ACKNOWLEDGMENT, told_in
 from message_bytes import CONNECT, GET, OF_SERVER, section
 from message_bytes import SESSION as SESSION_REQUEST
 from message_rules import is_malformed_request
 from recorded_connections import REQUEST, SESSION, Connection, number_at
-from recorded_sessions import RecordedSessions, sections_in
+from recorded_sessions import FIELDS, RecordedSessions, sections_in
 from session_events import of_streams
 from session_model import DECISIONS
 
@@ -74,7 +78,22 @@ class RecordedEnds(RecordedSessions):
 
     def fault(self, found):
         """Returns what is wrong with what was found."""
-        return super().fault(self.as_replayed(found))
+        events = [one for one in found if one[1][0] != "decoder"]
+        return super().fault(self.as_replayed(events)) or self.told_fault(found)
+
+    def told_fault(self, found):
+        """Returns what is wrong with the acknowledgments (RFC 9204, section 4.4.1), or None: each
+        section that was read has one if it refers to the dynamic table."""
+        shown = of_streams(found)
+        told = Counter(value for name, value in told_in(found) if name == ACKNOWLEDGMENT)
+        for stream in self.streams:
+            events = shown.get(stream.stream, [])
+            count = sum(event[0] in FIELDS for event in events)
+            sections = islice(section_bytes.sections_in(stream.content), count)
+            due = sum(section[0] != 0 for section in sections)
+            if ("malformed",) not in events and told[stream.stream] != due:
+                return f"stream {stream.stream}: {told[stream.stream]} acknowledgments of {due}"
+        return None
 
     def as_replayed(self, found):
         """Returns the events as those of wt_replay: each stream of a session that the peer opened

@@ -146,6 +146,17 @@ impl Lines {
         write!(self.text, "fault {code} {scope}")
     }
 
+    /// Appends the line of what is sent on the decoder stream, if it is anything, and clears it.
+    pub fn decoder(&mut self, told: &mut Vec<u8>) -> Result<(), AllocError> {
+        if told.is_empty() {
+            return Ok(());
+        }
+        self.bytes("decoder", told.as_slice())?;
+        writeln!(self.text, "")?;
+        told.clear();
+        Ok(())
+    }
+
     /// Appends the line of a datagram.
     pub fn datagram(
         &mut self,

@@ -16,7 +16,8 @@
 //! - `datagram HEX`: a QUIC datagram came.
 //!
 //! In the output a line `connection` begins a connection. The others are those of the program `wt_replay` for
-//! messages and sessions, with frames named as in `wtp_frames`. Insertions into the table have none. `joins` is left out where a stream is refused at
+//! messages and sessions, with frames named as in `wtp_frames`. Insertions into the table have none; `decoder HEX`
+//! is what this end sends on its decoder stream after an event. `joins` is left out where a stream is refused at
 //! once. `ID OFFSET refused WHY` says that something was not sent.
 #![tactic(auto)]
 

@@ -83,7 +83,7 @@ pub struct Player {
     connection: H3Connection,
     /// What it sends, of which nothing is compared.
     out: Vec<u8>,
-    /// What it sends on its decoder stream.
+    /// What it sends on its decoder stream, of which there is no line yet.
     told: Vec<u8>,
     streams: BTreeMap<u64, Stream>,
     answers: BTreeMap<u64, StatusCode>,
@@ -173,6 +173,7 @@ impl Player {
             stream.waits = None;
             stream.is_over = true;
             self.lines.add(id, stream.at, &event)?;
+            self.lines.decoder(&mut self.told)?;
         }
         self.ready.push_back(id)?;
         self.update()
@@ -220,6 +221,7 @@ impl Player {
         drop(received);
         stream.consume(consumed);
         self.tell(id, ends_early)?;
+        self.lines.decoder(&mut self.told)?;
         if is_last {
             return Ok(false);
         }
