@@ -1,6 +1,6 @@
 //! What an encoder keeps of the sections that it sent (RFC 9204, sections 2.1 and 4.4).
 
-ghost use Rattle.std.specs.Prelude.{◌≡◌, ℕ, List, [], ◌∷◌, ◌++◌, length, drop, slice_index_or, ◌+◌, ◌<◌, ◌≤◌, ◌==◌, max, Some, None, IfSome, IfNone, MatchOption, MatchResult, nat_le, ◌&&◌};
+ghost use Rattle.std.specs.Prelude.{◌≡◌, ℕ, List, [], ◌∷◌, ◌++◌, length, take, drop, slice_index_or, ◌+◌, ◌<◌, ◌≤◌, ◌==◌, max, Some, None, IfSome, IfNone, MatchOption, MatchResult, nat_le, ◌&&◌};
 ghost use Rattle.std.specs.List.{remove};
 ghost use Rattle.wtp_dynamic.specs.EncoderState.{taken, without, unsent, all_above, increment_fault, may_wait, waiting_streams, may_block};
 ghost use Rattle.wtp_dynamic.specs.declared.ledger.Sent.{Sent};
@@ -158,6 +158,14 @@ impl Ledger {
     {
         self.sections.push_back(sent)?;
         Ok(())
+    }
+
+    /// The latest sections were not sent after all: only the oldest `len` are kept. Nothing changes
+    /// if there are no more.
+    pub fn truncate(&mut self, len: usize)
+        ensures { self.new ≡ (self.old.0, take len self.old.1) }
+    {
+        self.sections.truncate(len);
     }
 
     /// A stream was cancelled: none of its sections will be acknowledged (section 4.4.2).

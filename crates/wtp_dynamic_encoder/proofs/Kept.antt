@@ -1,16 +1,18 @@
 -- What an encoder keeps: it owes nothing more, and few streams may be blocked.
-use Rattle.std.proofs.Common.{◌≡◌, ◌⊎◌, ℕ, ◌+◌, ◌<◌, ◌≤◌, ◌==◌, nat_lt, max, not, inl, inr, Bool, true, false, cond, ◌&&◌, ◌||◌, List, [], ◌∷◌, ◌++◌, length, refl, sym, ◌∙◌, ap, subst, arith, eq-eqb, Option, Some, None, Ok, Err}
+use Rattle.std.proofs.Common.{◌≡◌, ◌⊎◌, ℕ, ◌+◌, ◌<◌, ◌≤◌, ◌==◌, nat_lt, max, not, inl, inr, Bool, true, false, cond, ◌&&◌, ◌||◌, List, [], ◌∷◌, ◌++◌, length, take, zero, suc, refl, sym, ◌∙◌, ap, subst, arith, eq-eqb, Option, Some, None, Ok, Err}
 use Rattle.std.proofs.lemmas.Bool.{cases_lt, lt-ltb, ltb-true, eqb-true}
+use Rattle.std.proofs.lemmas.List.{take_all}
+use Rattle.std.proofs.Math.Seq.{take-append_seam}
 use Rattle.wtp_huffman.proofs.Chosen.{chosen}
 use Rattle.wtp_dynamic.specs.declared.acknowledgment.Acknowledgment.{Acknowledgment}
 use Rattle.wtp_dynamic.specs.declared.acknowledgment.Acknowledgment.TheVariants.{Section, Cancellation, Increment}
 use Rattle.wtp_dynamic.specs.declared.error.DecoderStreamError.TheVariants as fault
 use Rattle.wtp_dynamic.specs.declared.ledger.Sent.{Sent}
 use Rattle.wtp_dynamic.specs.Table.{Table, insert_count, empty_table}
-use Rattle.wtp_dynamic.specs.EncoderState.{Owes, taken, with_first, without, may_wait, waiting_streams, may_block, IsAmong, FewWait}
+use Rattle.wtp_dynamic.specs.EncoderState.{Owes, AreKept, taken, with_first, without, may_wait, waiting_streams, may_block, IsAmong, FewWait}
 use Rattle.wtp_dynamic.proofs.Owed.{owes_section, owes_acknowledged, owes_cancelled, owes_incremented}
 use Rattle.wtp_dynamic_encoder.specs.Acknowledging.{Ledger, without_section, step, Leads, Stands, Reaches}
-use Rattle.wtp_dynamic_encoder.specs.Encoding.{encoder_of, opened}
+use Rattle.wtp_dynamic_encoder.specs.Encoding.{encoder_of, opened, first_sections}
 
 -- ---- the start
 
@@ -115,7 +117,7 @@ step_keeps t most n (Cancellation stream) l next count keeps did =
       few = few_less most l.0 l.1 l.0 (without stream l.1) (less_without l.0 stream l.1) keeps.few;
     })
 step_keeps t most n (Increment size) l next count keeps did = elim (chosen (size == 0) (Err fault.ZeroIncrement) (cond (nat_lt n (l.0 + size)) (Err fault.IncrementTooLarge) (Ok (l.0 + size, l.1))) (Ok next) did) [
-  | inl zero ↦ cc zero.1
+  | inl none ↦ cc none.1
   | inr some ↦ elim (chosen (nat_lt n (l.0 + size)) (Err fault.IncrementTooLarge) (Ok (l.0 + size, l.1)) (Ok next) some.1) [
     | inl large ↦ cc large.1
     | inr fits ↦ within fits.0 (cc fits.1)
@@ -221,12 +223,39 @@ opened_keeps t most l after sent is kept live some few allowed = subst (λ (z : 
   where
     some_then : (sent.required == 0) ≡ false → sent.lowest < sent.required
     some_then fails = elim some [
-      | inl zero ↦ cc (eq-eqb sent.required 0 zero, fails)
+      | inl none ↦ cc (eq-eqb sent.required 0 none, fails)
       | inr more ↦ more
     ]
 
     by_none : (b : Bool) → (sent.required == 0) ≡ b → Both t most (cond b l (l.0, l.1 ++ sent ∷ []))
     by_none true none = kept
     by_none false fails = (owes_section sent (encoder_of t l) kept.0 live (some_then fails) few, few_push most l.0 l.1 sent allowed kept.1)
+
+-- ---- sections that are taken back
+
+kept_take : (place count n : ℕ) (xs : List Sent) → AreKept place count xs → AreKept place count (take n xs)
+kept_take place count zero [] kept = tt
+kept_take place count zero (x ∷ xs) kept = tt
+kept_take place count (suc n) [] kept = tt
+kept_take place count (suc n) (x ∷ xs) (low, some, few, kept) = (low, some, few, kept_take place count n xs kept)
+
+less_take : (known n : ℕ) (xs : List Sent) → Less known xs known (take n xs)
+less_take known zero [] = λ stream waits. waits
+less_take known zero (x ∷ xs) = λ stream waits. cc waits
+less_take known (suc n) [] = λ stream waits. waits
+less_take known (suc n) (x ∷ xs) = less_cons known x xs (take n xs) (less_take known n xs)
+
+pub first_keep : (t : Table) (most n : ℕ) (l : Ledger) → Both t most l → Both t most (first_sections n l)
+first_keep t most n l (owes, few) = (
+  record { known = owes.known; received = owes.received; kept = kept_take t.dropped (insert_count t) n l.1 owes.kept },
+  few_less most l.0 l.1 l.0 (take n l.1) (less_take l.0 n l.1) few,
+)
+
+pub opened_first : (sent : Sent) (l after : Ledger) → after ≡ opened sent l → first_sections (length l.1) after ≡ l
+opened_first sent l after is = subst (λ (z : Ledger). first_sections (length l.1) z ≡ l) (sym is) (by_none (sent.required == 0))
+  where
+    by_none : (b : Bool) → first_sections (length l.1) (cond b l (l.0, l.1 ++ sent ∷ [])) ≡ l
+    by_none true = ap (λ (xs : List Sent). (l.0, xs)) (take_all (length l.1) l.1 (omega arith))
+    by_none false = ap (λ (xs : List Sent). (l.0, xs)) (take-append_seam l.1 (sent ∷ []))
 
 pub ruleset start = (owes_nothing, few_nothing)

@@ -185,6 +185,10 @@ abbrev pub opened : Sent → Ledger → Ledger
 opened sent ledger =
     if sent.required == 0 then ledger else (ledger.0, ledger.1 ++ sent ∷ [])
 
+-- the oldest sections that are not acknowledged, so many of them
+abbrev pub first_sections : ℕ → Ledger → Ledger
+first_sections count ledger = (ledger.0, take count ledger.1)
+
 -- what is kept of a section
 abbrev pub sent_at : (stream required lowest : ℕ) → Sent
 sent_at stream required lowest =

@@ -1,12 +1,12 @@
 //! The encoder: its table, the sections that it sent, and what the decoder told it.
 
-ghost use Rattle.std.specs.Prelude.{◌≡◌, ◌^◌, ◌<◌, ◌≤◌, ◌++◌, [], MatchResult};
+ghost use Rattle.std.specs.Prelude.{◌≡◌, ◌^◌, ◌<◌, ◌≤◌, ◌++◌, [], length, MatchResult};
 ghost use Rattle.wtp_dynamic.specs.Table.{empty_table, insert_count};
 ghost use Rattle.wtp_dynamic.specs.InsertCount.{most_entries};
 ghost use Rattle.wtp_dynamic.specs.EncoderState.{Owes, FewWait};
 ghost use Rattle.wtp_dynamic_encoder.specs.Acknowledging.{most_bytes};
 ghost use Rattle.wtp_dynamic_encoder.specs.Choosing.{default_policy};
-ghost use Rattle.wtp_dynamic_encoder.specs.Encoding.{Runs, State, held_count, encoder_of, InsertsIf, ResizesIf, Ordered, prefix_for, sent_at, opened, bound_for, Encodes, PieceRead};
+ghost use Rattle.wtp_dynamic_encoder.specs.Encoding.{Runs, State, held_count, encoder_of, InsertsIf, ResizesIf, Ordered, prefix_for, sent_at, opened, first_sections, bound_for, Encodes, PieceRead};
 
 use crate::choice::{copy_of, draining_index};
 use crate::decoder_stream::DecoderStream;
@@ -189,6 +189,14 @@ impl QpackEncoder {
         self.ledger.known()
     }
 
+    /// Returns how many sections are not acknowledged. A section is counted from the call of
+    /// [`QpackEncoder::encode`] that wrote it, if it refers to the dynamic table.
+    pub fn unacknowledged(&self) -> usize
+        ensures { result ≡ length self.now.ledger.1 }
+    {
+        self.ledger.len()
+    }
+
     /// Returns how many bytes of a cut instruction of the decoder stream are held: at most ten, and
     /// none after an error of the stream.
     pub fn held(&self) -> usize
@@ -309,6 +317,20 @@ impl QpackEncoder {
         let sent = send(stream, &self.table, &mut self.ledger, &lines, section);
         self.room = lines.into_room();
         sent
+    }
+
+    /// Takes back sections that were encoded and are not sent: only the oldest `count` of those that
+    /// are not acknowledged are kept.
+    ///
+    /// A section that is not sent is never acknowledged (section 4.4.1), and its entries could never
+    /// be evicted. With the count of [`QpackEncoder::unacknowledged`] before a call of
+    /// [`QpackEncoder::encode`], this undoes what the call noted of its section, and nothing else. The
+    /// entries that the call inserted stay, so the instructions that it appended to the encoder stream
+    /// still have to be sent. No section of which a byte was sent may be taken back.
+    pub fn take_back(&mut self, count: usize)
+        ensures { self.new ≡ record self.old { ledger = first_sections count self.old.ledger } }
+    {
+        self.ledger.truncate(count);
     }
 
     /// Reads the next piece of the decoder stream: does the instructions that are now complete

@@ -1,6 +1,6 @@
 //! Laws of the definitions: the contract of each function is the law.
 
-ghost use Rattle.std.specs.Prelude.{◌≡◌, ◌⊎◌, ℕ, ◌^◌, ◌<◌, ◌≤◌, List, [], ◌++◌, map};
+ghost use Rattle.std.specs.Prelude.{◌≡◌, ◌⊎◌, ℕ, ◌^◌, ◌<◌, ◌≤◌, List, [], ◌++◌, length, map};
 ghost use Rattle.wtp_dynamic_encoder.specs.declared.proposal.Policy.{Policy};
 ghost use Rattle.wtp_dynamic_encoder.specs.declared.proposal.Proposal.{Proposal};
 ghost use Rattle.wtp_dynamic_encoder.specs.Choosing.{field_of};
@@ -11,7 +11,7 @@ ghost use Rattle.wtp_dynamic.specs.Stream as encoder_stream;
 ghost use Rattle.wtp_dynamic.specs.Answer.{HasFields};
 ghost use Rattle.wtp_dynamic.specs.EncoderState.{Encoder, Owes, IsOpen};
 ghost use Rattle.wtp_dynamic_encoder.specs.Acknowledging.{Ledger, Stands, Breaks};
-ghost use Rattle.wtp_dynamic_encoder.specs.Encoding.{Ordered, IsSent, needed, sent_of};
+ghost use Rattle.wtp_dynamic_encoder.specs.Encoding.{Ordered, IsSent, needed, sent_of, first_sections};
 
 /// However a decoder stream is cut: what pieces lead to one after the other, they lead to joined;
 /// and there is one result. What follows a fault changes nothing.
@@ -63,4 +63,12 @@ pub fn sections_of_encoders()
         → needed sent.plans ≤ insert_count decoder
         → insert_count written < 2 ^ 62 → decoder.limit < 2 ^ 62
         → HasFields decoder section (map field_of proposals) }
+{}
+
+/// A section that is taken back leaves the sections that were not acknowledged before it, and the
+/// Known Received Count, whether it refers to the dynamic table or not.
+pub fn sections_taken_back()
+    ensures { (stream most : ℕ) (policy : Policy) (proposals : List Proposal) (written : Table) (old new : Ledger)
+        (before after : List ℕ) → IsSent stream most policy proposals written old new before after
+        → first_sections (length old.1) new ≡ old }
 {}
