@@ -6,3 +6,4 @@ pub mod TakenLemmas
 pub mod ControlLemmas
 pub mod SessionLemmas
 pub mod WordLemmas
+pub mod EncodedLemmas

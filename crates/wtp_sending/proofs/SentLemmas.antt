@@ -1,7 +1,6 @@
 -- What each call wrote is read as it was meant.
-use Rattle.std.proofs.Common.{◌≡◌, ℕ, ◌+◌, ◌-◌, ◌^◌, ◌<◌, ◌≤◌, ◌==◌, Bool, true, false, cond, ltb, eqb, List, [], ◌∷◌, ◌++◌, map, length, Option, Some, None, Result, Ok, Err, refl, sym, ap, subst, ◌∙◌, arith, lit<, length-append}
+use Rattle.std.proofs.Common.{◌≡◌, ℕ, ◌+◌, ◌-◌, ◌^◌, ◌<◌, ◌≤◌, Bool, true, false, cond, ltb, eqb, List, [], ◌∷◌, ◌++◌, length, Some, Result, Ok, Err, refl, sym, ap, subst, ◌∙◌, arith, lit<, length-append}
 use Rattle.std.proofs.lemmas.Bool.{ltb-true, ltb-false, eqb-false}
-use Rattle.std.proofs.lemmas.List.{append-nil}
 use Rattle.std.specs.Int.{w32, to_be_bytes}
 use Rattle.wtp_core.specs.Varint.{shortest}
 use Rattle.wtp_core.proofs.EncodingLemmas.{encoding_not_empty}
@@ -10,7 +9,6 @@ use Rattle.wtp_core.proofs.ShortLemmas.{shortest-encodes}
 use Rattle.wtp_wire.specs.CloseSession.{close_wire}
 use Rattle.wtp_qpack.specs.Field.{Field}
 use Rattle.wtp_qpack.specs.FieldSection.{section_of}
-use Rattle.wtp_messages.specs.declared.message.Message.{Message}
 use Rattle.wtp_messages.specs.declared.message.Role.{Role}
 use Rattle.wtp_messages.specs.declared.message.Role.TheVariants as role
 use Rattle.wtp_messages.specs.declared.message.Section.{Section}
@@ -19,25 +17,25 @@ use Rattle.wtp_messages.specs.declared.response.Asked.TheVariants as asked
 use Rattle.wtp_messages.specs.declared.malformed.Malformed.TheVariants.{ContentTooLong}
 use Rattle.wtp_messages.specs.declared.malformed.Malformed.{Malformed}
 use Rattle.wtp_messages.specs.Message.{end_of}
-use Rattle.wtp_messages.specs.Content.{fits, left_after}
+use Rattle.wtp_messages.specs.Content.{fits}
 use Rattle.wtp_messages.specs.Request.{is_connect, asks_for_session}
 use Rattle.wtp_messages.specs.Response.{is_success}
 use Rattle.wtp_frames.specs.declared.endpoint.Endpoint.{Endpoint}
-use Rattle.wtp_frames.specs.declared.endpoint.Side.TheVariants.{Client}
 use Rattle.wtp_frames.specs.declared.reader.Place.{Place as Reading}
 use Rattle.wtp_frames.specs.declared.reader.Place.TheVariants as reading
 use Rattle.wtp_frames.specs.declared.reader.Reader.{Reader}
+use Rattle.wtp_frames.specs.Grammar.{section_item}
 use Rattle.wtp_frames.specs.Interim.{after_interim}
 use Rattle.wtp_frames.specs.Reading.{by_end}
 use Rattle.wtp_frames.specs.Run.{run, preceded}
-use Rattle.wtp_frames.specs.Start.{awaiting}
 use Rattle.wtp_frames.proofs.InterimLemmas.{no_section, one_more}
 use Rattle.wtp_sending.specs.declared.error.SendError.{SendError}
 use Rattle.wtp_sending.specs.declared.error.SendError.TheVariants as error
 use Rattle.wtp_sending.specs.declared.message.Place.{Place}
 use Rattle.wtp_sending.specs.declared.message.Place.TheVariants.{Head, Content, Connecting, Tunnel, Session, Trailers, Ended}
 use Rattle.wtp_sending.specs.declared.message.Sending.{Sending}
-use Rattle.wtp_sending.specs.Message.{SendsHead, SendsTrailers, IsHead, IsAllowed, interims_of, after_request, after_response, after_head, headers_wire, data_head, announces, with_content, counts, with_data, data_at, after_data, after_bytes, ended, by_rule, end_at, after_end, opens, placed}
+use Rattle.wtp_sending.specs.Message.{SendsHead, SendsTrailers, IsAllowed, interims_of, after_response, after_head, data_head, announces, with_content, with_data, data_at, after_data, after_bytes, ended, by_rule, end_at, after_end, opens, placed}
+use Rattle.wtp_sending.specs.Encoded.{section_wire, SendsHeadAs, SendsTrailersAs, ReadsSection}
 use Rattle.wtp_sending.specs.Session.{in_session, drain_wire, close_data, by_reason, after_close}
 use Rattle.wtp_sending.specs.Writing.{two_numbers}
 use Rattle.wtp_sending.specs.Sent.{Sent, SentHeaders, SentDataHead, SentBytes, SentTrailers, SentDrain, SentClose, Connected, SentEnd, Leads, bytes_of, items_of, reads_data, IsInBody, IsAt, IsAfter, IsRead}
@@ -72,6 +70,13 @@ at_after e Ended owed r h = h
 
 read_at : (e : Endpoint) (x : Sent) (new : Sending) (r next : Reader) (place : Place) (owed : ℕ) → new.place ≡ place → new.owed ≡ owed → ((more : List ℕ) → run r (bytes_of x ++ more) ≡ preceded (items_of e.max_section x) (run next more)) → IsAfter e place owed next → IsRead e x new r
 read_at e x new r next place owed p o gives at = record {
+  next = next;
+  gives = gives;
+  at = subst (λ (q : Place). IsAfter e q new.owed next) (sym p) (subst (λ (n : ℕ). IsAfter e place n next) (sym o) at);
+}
+
+section_at : (e : Endpoint) (section : List ℕ) (new : Sending) (r next : Reader) (place : Place) (owed : ℕ) → new.place ≡ place → new.owed ≡ owed → ((more : List ℕ) → run r (section_wire section ++ more) ≡ preceded (section_item e.max_section section ∷ []) (run next more)) → IsAfter e place owed next → ReadsSection e section new r
+section_at e section new r next place owed p o gives at = record {
   next = next;
   gives = gives;
   at = subst (λ (q : Place). IsAfter e q new.owed next) (sym p) (subst (λ (n : ℕ). IsAfter e place n next) (sym o) at);
@@ -113,24 +118,36 @@ section_leads e s k fields (found.Interim response) a = (refl, λ c. one_more e 
 section_leads e s k fields (found.Response response) a = response_leads e k s.role response.status
 section_leads e s k fields found.Trailers a = absurd a
 
-pub headers_sent : (e : Endpoint) (fields : List Field) (old new : Sending) (r : Reader) → IsAt e old.place old.owed r → SendsHead old fields new → IsRead e (SentHeaders fields) new r
-headers_sent e fields old new r at h =
+-- in any section
+pub head_sent : (e : Endpoint) (section : List ℕ) (fields : List Field) (old new : Sending) (r : Reader) → IsAt e old.place old.owed r → SendsHeadAs section old fields new → ReadsSection e section new r
+head_sent e section fields old new r at h =
     let k : ℕ = interims_of old.place in
     let is : IsAt e (Head k) old.owed r = subst (λ (p : Place). IsAt e p old.owed r) h.at at in
-    read_at e (SentHeaders fields) new r (reads_data e k reading.Body false 0) (after_head old.role k fields h.head.found) 0
+    section_at e section new r (reads_data e k reading.Body false 0) (after_head old.role k fields h.head.found) 0
     (sym h.head.leads)
     (ap (λ (s : Sending). s.owed) h.others ∙ is.1)
-    (λ more. ap (λ (x : Reader). run x (headers_wire fields ++ more)) is.0 ∙ head_read e k (section_of fields) more h.framed)
+    (λ more. ap (λ (x : Reader). run x (section_wire section ++ more)) is.0 ∙ head_read e k section more h.framed)
     (section_leads e old k fields h.head.found h.head.allowed)
+
+pub tail_sent : (e : Endpoint) (section : List ℕ) (fields : List Field) (old new : Sending) (r : Reader) → IsAt e old.place old.owed r → SendsTrailersAs section old fields new → ReadsSection e section new r
+tail_sent e section fields old new r at h =
+    let is : IsInBody e reading.Body 0 r = subst (λ (n : ℕ). IsInBody e reading.Body n r) h.none (subst (λ (p : Place). IsAt e p old.owed r) h.at at) in
+    section_at e section new r (reads_data e is.interims reading.AfterTrailers false 0) Trailers 0
+    (ap (λ (s : Sending). s.place) h.others)
+    (ap (λ (s : Sending). s.owed) h.others ∙ h.none)
+    (λ more. ap (λ (x : Reader). run x (section_wire section ++ more)) is.is ∙ trailers_read e is.interims is.streamed section more h.framed)
+    (empty_body e is.interims reading.AfterTrailers false, refl)
+
+-- in a section of the static table alone
+pub headers_sent : (e : Endpoint) (fields : List Field) (old new : Sending) (r : Reader) → IsAt e old.place old.owed r → SendsHead old fields new → IsRead e (SentHeaders fields) new r
+headers_sent e fields old new r at h =
+    let s = head_sent e (section_of fields) fields old new r at (record { at = h.at; fits = h.fits; framed = h.framed; head = h.head; others = h.others }) in
+    record { next = s.next; gives = s.gives; at = s.at }
 
 pub trailers_sent : (e : Endpoint) (fields : List Field) (old new : Sending) (r : Reader) → IsAt e old.place old.owed r → SendsTrailers old fields new → IsRead e (SentTrailers fields) new r
 trailers_sent e fields old new r at h =
-    let is : IsInBody e reading.Body 0 r = subst (λ (n : ℕ). IsInBody e reading.Body n r) h.none (subst (λ (p : Place). IsAt e p old.owed r) h.at at) in
-    read_at e (SentTrailers fields) new r (reads_data e is.interims reading.AfterTrailers false 0) Trailers 0
-    (ap (λ (s : Sending). s.place) h.others)
-    (ap (λ (s : Sending). s.owed) h.others ∙ h.none)
-    (λ more. ap (λ (x : Reader). run x (headers_wire fields ++ more)) is.is ∙ trailers_read e is.interims is.streamed (section_of fields) more h.framed)
-    (empty_body e is.interims reading.AfterTrailers false, refl)
+    let s = tail_sent e (section_of fields) fields old new r at (record { at = h.at; none = h.none; fits = h.fits; framed = h.framed; are = h.are; others = h.others }) in
+    record { next = s.next; gives = s.gives; at = s.at }
 
 -- ---- DATA
 

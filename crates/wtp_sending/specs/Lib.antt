@@ -4,3 +4,5 @@ pub mod Session
 pub mod Control
 pub mod Sent
 pub mod Words
+pub mod Indexing
+pub mod Encoded

@@ -19,6 +19,7 @@ ghost use Rattle.wtp_sending.specs.declared.control.ControlSending.{ControlSendi
 ghost use Rattle.wtp_sending.specs.declared.message.Place.TheVariants.{Head};
 ghost use Rattle.wtp_sending.specs.declared.message.Sending.{Sending};
 ghost use Rattle.wtp_sending.specs.Control.{after_settings, goaway_bytes, after_goaway, IsControlAt, IsControlRead};
+ghost use Rattle.wtp_sending.specs.Encoded.{SendsHeadAs, SendsTrailersAs, ReadsSection};
 ghost use Rattle.wtp_sending.specs.Message.{SendsHead, SendsTrailers};
 ghost use Rattle.wtp_sending.specs.Sent.{Sent, Leads, LeadsAll, IsAt, IsRead, AreRead, Takes};
 ghost use Rattle.wtp_sending.specs.Session.{uni_head, bi_head, datagram_head};
@@ -43,6 +44,21 @@ pub fn sent_sections_are_accepted()
         → Takes old.message fields new.message }
     ensures trailers { (old new : Sending) (fields : List Field) → SendsTrailers old fields new
         → Takes old.message fields new.message }
+{}
+
+/// HEADERS are read by the other end as the section that was sent, whatever the section is, as one that
+/// refers to the dynamic table; and the fields that it was made of are not malformed to the receiver.
+pub fn sent_encoded_sections_are_read()
+    ensures head { (e : Endpoint) (section : List ℕ) (fields : List Field) (old new : Sending)
+        (r : Reader) → IsAt e old.place old.owed r → SendsHeadAs section old fields new
+        → ReadsSection e section new r }
+    ensures trailers { (e : Endpoint) (section : List ℕ) (fields : List Field) (old new : Sending)
+        (r : Reader) → IsAt e old.place old.owed r → SendsTrailersAs section old fields new
+        → ReadsSection e section new r }
+    ensures accepted_head { (section : List ℕ) (old new : Sending) (fields : List Field)
+        → SendsHeadAs section old fields new → Takes old.message fields new.message }
+    ensures accepted_trailers { (section : List ℕ) (old new : Sending) (fields : List Field)
+        → SendsTrailersAs section old fields new → Takes old.message fields new.message }
 {}
 
 /// What is sent on the control stream after its type is read by the other end as it was meant,

@@ -8,6 +8,7 @@
 
 pub mod control;
 pub mod error;
+pub mod indexing;
 pub mod laws;
 pub mod message;
 pub mod peer;

@@ -10,6 +10,7 @@ ghost use Rattle.wtp_sending.specs.Message.{after_response as after_response_is,
 ghost use Rattle.wtp_sending.specs.Message.{data_head, data_at, after_data, counts, after_bytes};
 ghost use Rattle.wtp_sending.specs.Message.{SendsTrailers, AreTrailers, BreaksTrailers, RefusesTrailers, LacksSection, after_end, opens, placed, Changes};
 
+mod encoded;
 mod session;
 pub mod words;
 
