@@ -5,6 +5,8 @@
 #[cfg(test)]
 mod control;
 #[cfg(test)]
+mod encoded;
+#[cfg(test)]
 mod messages;
 #[cfg(test)]
 mod same;
