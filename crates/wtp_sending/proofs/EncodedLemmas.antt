@@ -1,15 +1,20 @@
 -- What an encoder is after a section that was written, or was not.
-use Rattle.std.proofs.Common.{◌≡◌, ℕ, zero, suc, List, [], ◌∷◌, length, take, Option, Err, refl, sym, subst}
+use Rattle.std.proofs.Common.{◌≡◌, ◌⊎◌, ◌^◌, ◌<◌, ◌≤◌, ℕ, zero, suc, List, [], ◌∷◌, length, map, take, Option, Err, refl, sym, ap, subst}
 use Rattle.wtp_qpack.specs.Field.{Field}
-use Rattle.wtp_dynamic.specs.Table.{Table}
+use Rattle.wtp_dynamic.specs.Table.{Table, Later, insert_count, table_size}
 use Rattle.wtp_dynamic_encoder.specs.declared.proposal.Policy.{Policy}
 use Rattle.wtp_dynamic_encoder.specs.declared.proposal.Proposal.{Proposal}
+use Rattle.wtp_dynamic.specs.Answer.{HasFields}
+use Rattle.wtp_dynamic.specs.EncoderState.{Encoder, Owes, IsOpen}
+use Rattle.wtp_dynamic_encoder.specs.declared.proposal.Indexing.{Indexing}
 use Rattle.wtp_dynamic_encoder.specs.Acknowledging.{Ledger}
-use Rattle.wtp_dynamic_encoder.specs.Encoding.{State, Progress, Encodes, sent_of, first_sections}
+use Rattle.wtp_dynamic_encoder.specs.Choosing.{field_of}
+use Rattle.wtp_dynamic_encoder.proofs.Read.{sent_reads}
+use Rattle.wtp_dynamic_encoder.specs.Encoding.{State, Progress, Encodes, needed, sent_of, first_sections}
 use Rattle.wtp_dynamic_encoder.proofs.Kept.{opened_first}
 use Rattle.wtp_sending.specs.declared.error.SendError.{SendError}
 use Rattle.wtp_sending.specs.declared.error.SendError.TheVariants as error
-use Rattle.wtp_sending.specs.Encoded.{proposed, with_indexing, AreProposals, done, with_ledger, IsTakenBack, IsStopped, LacksFrame, LacksEncoded}
+use Rattle.wtp_sending.specs.Encoded.{proposed, with_indexing, AreProposals, done, IsEncoded, sent_in, with_ledger, IsTakenBack, IsStopped, LacksFrame, LacksEncoded}
 
 -- ---- proposals
 
@@ -37,6 +42,18 @@ are_all (f ∷ fields) (p ∷ ps) are =
     let others : AreProposals fields ps = cc are in
     let rest = are_all fields ps others in
     cc (first, rest)
+
+-- their fields are those that were proposed
+fields_of : (fields : List Field) (ps : List Proposal) → AreProposals fields ps → map field_of ps ≡ fields
+fields_of [] [] are = refl
+fields_of (f ∷ fields) [] are = cc are
+fields_of [] (p ∷ ps) are = cc are
+fields_of (f ∷ fields) (p ∷ ps) are =
+    let first : proposed p ≡ with_indexing f = cc are in
+    let others : AreProposals fields ps = cc are in
+    let this : field_of p ≡ f = ap (λ (x : Field × Indexing). x.0) first in
+    let rest : map field_of ps ≡ fields = fields_of fields ps others in
+    cc (this, rest)
 
 -- ---- the encoder
 
@@ -100,3 +117,13 @@ lacks_encoded stream fields ps old mid new before after section room error.Inval
 lacks_encoded stream fields ps old mid new before after section room error.IdRises are encodes is lacks = absurd lacks
 lacks_encoded stream fields ps old mid new before after section room error.Unsupported are encodes is lacks = absurd lacks
 lacks_encoded stream fields ps old mid new before after section room (error.Malformed rule) are encodes is lacks = absurd lacks
+
+-- ---- what a decoder reads
+
+pub encoded_reads : (stream : ℕ) (fields : List Field) (old new : State) (before after section : List ℕ) (encoded : IsEncoded stream fields old new before after section) (now : Encoder) (decoder : Table)
+    → let sent = sent_in stream fields old new before after section encoded in
+    Owes now → (needed sent.plans ≡ 0) ⊎ IsOpen (sent_of stream sent.plans sent.lowest) now.sections → Later new.table now.table → Later decoder now.table → table_size now.table.live ≤ now.table.limit
+    → now.known ≤ insert_count decoder → needed sent.plans ≤ insert_count decoder → insert_count new.table < 2 ^ 62 → decoder.limit < 2 ^ 62 → HasFields decoder section fields
+encoded_reads stream fields old new before after section encoded now decoder owes state later behind fits known free small limited =
+    subst (λ (z : List Field). HasFields decoder section z) (fields_of fields encoded.proposals encoded.are)
+    (sent_reads stream old.most old.policy encoded.proposals new.table old.ledger new.ledger section (sent_in stream fields old new before after section encoded) now decoder owes state later behind fits known free small limited)

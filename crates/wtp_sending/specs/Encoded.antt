@@ -16,7 +16,7 @@ use Rattle.wtp_dynamic_encoder.specs.declared.proposal.Indexing.{Indexing}
 use Rattle.wtp_dynamic_encoder.specs.declared.proposal.Proposal.{Proposal}
 use Rattle.wtp_dynamic_encoder.specs.Acknowledging.{Ledger}
 use Rattle.wtp_dynamic_encoder.specs.Choosing.{field_of}
-use Rattle.wtp_dynamic_encoder.specs.Encoding.{State, AreOffered, Ordered, Encodes}
+use Rattle.wtp_dynamic_encoder.specs.Encoding.{State, AreOffered, Ordered, Encodes, IsSent}
 use Rattle.wtp_sending.specs.declared.error.SendError.{SendError}
 use Rattle.wtp_sending.specs.declared.error.SendError.TheVariants as error
 use Rattle.wtp_sending.specs.declared.message.Place.{Place}
@@ -52,6 +52,12 @@ pub record IsEncoded (stream : ℕ) (fields : List Field) (old new : State) (bef
   pub are : AreProposals fields proposals
   pub encodes : Encodes stream proposals old new before after [] section done
 
+-- what the encoder wrote of it
+abbrev pub sent_in : (stream : ℕ) (fields : List Field) (old new : State) (before after : List ℕ)
+    (section : List ℕ) (encoded : IsEncoded stream fields old new before after section)
+    → IsSent stream old.most old.policy encoded.proposals new.table old.ledger new.ledger [] section
+sent_in stream fields old new before after section encoded = encoded.encodes.4.1
+
 -- the encoder with these unacknowledged sections
 abbrev pub with_ledger : State → Ledger → State
 with_ledger state ledger = record state { ledger = ledger }
@@ -65,7 +71,8 @@ IsTakenBack stream fields old new before after section =
     × IsEncoded stream fields old (with_ledger new ledger) before after section
     × (new.ledger ≡ old.ledger)
 
--- Only the first so many fields were offered to the table, and none is in a section.
+-- Allocation failed: only the first so many fields were offered to the table, and the sections that
+-- are not acknowledged are those of before.
 pub record IsStopped (fields : List Field) (old new : State) (before after : List ℕ) : Type 0 where
   pub offered : List Proposal
   pub are : AreProposals (take (length offered) fields) offered

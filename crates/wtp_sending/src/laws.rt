@@ -1,6 +1,6 @@
 //! Laws of the definitions that the contracts cite. Each function does nothing: its contract is the
 //! law.
-ghost use Rattle.std.specs.Prelude.{◌≡◌, ◌<◌, ◌^◌, ◌%◌, ◌/◌, ◌++◌, ℕ, List, false, Some, None, Ok};
+ghost use Rattle.std.specs.Prelude.{◌≡◌, ◌⊎◌, ◌<◌, ◌≤◌, ◌^◌, ◌%◌, ◌/◌, ◌++◌, ℕ, List, false, Some, None, Ok};
 ghost use Rattle.wtp_core.specs.Varint.{shortest};
 ghost use Rattle.wtp_wire.specs.Content.{SettingsOf, WebTransportOf};
 ghost use Rattle.wtp_wire.specs.Datagram.{datagram_in};
@@ -10,6 +10,10 @@ ghost use Rattle.wtp_wire.specs.HeaderFront.{Headed, header_front};
 ghost use Rattle.wtp_wire.specs.Settings.{settings_wire};
 ghost use Rattle.wtp_wire.specs.Wire.{wire};
 ghost use Rattle.wtp_qpack.specs.Field.{Field};
+ghost use Rattle.wtp_dynamic.specs.Answer.{HasFields};
+ghost use Rattle.wtp_dynamic.specs.EncoderState.{Encoder, Owes, IsOpen};
+ghost use Rattle.wtp_dynamic.specs.Table.{Table, Later, insert_count, table_size};
+ghost use Rattle.wtp_dynamic_encoder.specs.Encoding.{State, needed, sent_of};
 ghost use Rattle.wtp_frames.specs.declared.endpoint.Endpoint.{Endpoint};
 ghost use Rattle.wtp_frames.specs.declared.frame_type.FrameType.TheVariants as kind;
 ghost use Rattle.wtp_frames.specs.declared.reader.Reader.{Reader};
@@ -19,7 +23,7 @@ ghost use Rattle.wtp_sending.specs.declared.control.ControlSending.{ControlSendi
 ghost use Rattle.wtp_sending.specs.declared.message.Place.TheVariants.{Head};
 ghost use Rattle.wtp_sending.specs.declared.message.Sending.{Sending};
 ghost use Rattle.wtp_sending.specs.Control.{after_settings, goaway_bytes, after_goaway, IsControlAt, IsControlRead};
-ghost use Rattle.wtp_sending.specs.Encoded.{SendsHeadAs, SendsTrailersAs, ReadsSection};
+ghost use Rattle.wtp_sending.specs.Encoded.{IsEncoded, sent_in, SendsHeadAs, SendsTrailersAs, ReadsSection};
 ghost use Rattle.wtp_sending.specs.Message.{SendsHead, SendsTrailers};
 ghost use Rattle.wtp_sending.specs.Sent.{Sent, Leads, LeadsAll, IsAt, IsRead, AreRead, Takes};
 ghost use Rattle.wtp_sending.specs.Session.{uni_head, bi_head, datagram_head};
@@ -59,6 +63,21 @@ pub fn sent_encoded_sections_are_read()
         → SendsHeadAs section old fields new → Takes old.message fields new.message }
     ensures accepted_trailers { (section : List ℕ) (old new : Sending) (fields : List Field)
         → SendsTrailersAs section old fields new → Takes old.message fields new.message }
+{}
+
+/// A section that was written for fields reads as exactly these, at each decoder of the encoder's stream
+/// that has received what the encoder knows of, and what the section needs, as long as it is not
+/// acknowledged, however the encoder went on; whatever the rule says of how fields are indexed.
+pub fn encoded_sections_have_their_fields()
+    ensures { (stream : ℕ) (fields : List Field) (old new : State) (before after section : List ℕ)
+        (encoded : IsEncoded stream fields old new before after section) (now : Encoder) (decoder : Table)
+        → let sent = sent_in stream fields old new before after section encoded in
+        Owes now → (needed sent.plans ≡ 0) ⊎ IsOpen (sent_of stream sent.plans sent.lowest) now.sections
+        → Later new.table now.table → Later decoder now.table
+        → table_size now.table.live ≤ now.table.limit → now.known ≤ insert_count decoder
+        → needed sent.plans ≤ insert_count decoder
+        → insert_count new.table < 2 ^ 62 → decoder.limit < 2 ^ 62
+        → HasFields decoder section fields }
 {}
 
 /// What is sent on the control stream after its type is read by the other end as it was meant,
