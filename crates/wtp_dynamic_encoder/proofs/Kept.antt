@@ -12,7 +12,7 @@ use Rattle.wtp_dynamic.specs.Table.{Table, insert_count, empty_table}
 use Rattle.wtp_dynamic.specs.EncoderState.{Owes, AreKept, taken, with_first, without, may_wait, waiting_streams, may_block, IsAmong, FewWait}
 use Rattle.wtp_dynamic.proofs.Owed.{owes_section, owes_acknowledged, owes_cancelled, owes_incremented}
 use Rattle.wtp_dynamic_encoder.specs.Acknowledging.{Ledger, without_section, step, Leads, Stands, Reaches}
-use Rattle.wtp_dynamic_encoder.specs.Encoding.{encoder_of, opened, first_sections}
+use Rattle.wtp_dynamic_encoder.specs.Encoding.{encoder_of, opened, first_sections, is_unused}
 
 -- ---- the start
 
@@ -230,6 +230,24 @@ opened_keeps t most l after sent is kept live some few allowed = subst (λ (z : 
     by_none : (b : Bool) → (sent.required == 0) ≡ b → Both t most (cond b l (l.0, l.1 ++ sent ∷ []))
     by_none true none = kept
     by_none false fails = (owes_section sent (encoder_of t l) kept.0 live (some_then fails) few, few_push most l.0 l.1 sent allowed kept.1)
+
+-- ---- other limits, before anything was inserted
+
+nothing : (l : List Sent) → (length l == 0) ≡ true → l ≡ []
+nothing [] e = refl
+nothing (x ∷ l) e = absurd (omega (arith, eqb-true (length (x ∷ l)) 0 e))
+
+unused_ledger : (t : Table) (l : Ledger) → is_unused t l ≡ true → l ≡ (0, [])
+unused_ledger t (known, sections) e =
+    let a = both (insert_count t == 0 && t.capacity == 0 && known == 0) (length sections == 0) e in
+    let b = both (insert_count t == 0 && t.capacity == 0) (known == 0) a.0 in
+    rw (eqb-true known 0 b.1, nothing sections a.1) refl
+
+pub owes_unused : (t u : Table) (l : Ledger) (limit : ℕ) → is_unused t l ≡ true → u ≡ empty_table limit → Owes (encoder_of u l)
+owes_unused t u l limit e new = rw (unused_ledger t l e, new) (owes_nothing limit)
+
+pub few_unused : (t : Table) (l : Ledger) (most : ℕ) → is_unused t l ≡ true → FewWait most l.0 l.1
+few_unused t l most e = rw (unused_ledger t l e) (few_nothing most)
 
 -- ---- sections that are taken back
 

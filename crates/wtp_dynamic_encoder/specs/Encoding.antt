@@ -5,7 +5,7 @@ use Rattle.wtp_qpack.specs.Field.{Field}
 use Rattle.wtp_dynamic.specs.declared.error.DecoderStreamError.{DecoderStreamError}
 use Rattle.wtp_dynamic.specs.declared.error.DecoderStreamError.TheVariants as stream
 use Rattle.wtp_dynamic.specs.declared.ledger.Sent.{Sent}
-use Rattle.wtp_dynamic.specs.Table.{Table, insert_count, inserted, resized}
+use Rattle.wtp_dynamic.specs.Table.{Table, empty_table, insert_count, inserted, resized}
 use Rattle.wtp_dynamic.specs.Writing.{Order, Sets, written, Carries}
 use Rattle.wtp_dynamic.specs.Plans.{Plan, StaticField, TableField, StaticName, TableName, NewName, planned_line, planned_prefix, ArePlans}
 use Rattle.wtp_dynamic.specs.InsertCount.{most_entries}
@@ -39,6 +39,16 @@ pub record State : Type 0 where
 -- an encoder by its parts
 abbrev pub encoder_of : Table → Ledger → Encoder
 encoder_of table ledger = record { table = table; known = ledger.0; sections = ledger.1 }
+
+-- nothing was inserted, no capacity was set, no section is open and nothing was acknowledged
+abbrev pub is_unused : Table → Ledger → Bool
+is_unused table ledger =
+    (insert_count table == 0) && (table.capacity == 0) && (ledger.0 == 0) && (length ledger.1 == 0)
+
+-- with these limits, if it is unused
+abbrev pub limited : (limit most : ℕ) → State → State
+limited limit most s =
+    if is_unused s.table s.ledger then record s { table = empty_table limit; most = most } else s
 
 -- how many bytes of a cut instruction are held: none once the stream has ended
 abbrev pub held_count : Progress → ℕ

@@ -6,7 +6,7 @@ ghost use Rattle.wtp_dynamic.specs.InsertCount.{most_entries};
 ghost use Rattle.wtp_dynamic.specs.EncoderState.{Owes, FewWait};
 ghost use Rattle.wtp_dynamic_encoder.specs.Acknowledging.{most_bytes};
 ghost use Rattle.wtp_dynamic_encoder.specs.Choosing.{default_policy};
-ghost use Rattle.wtp_dynamic_encoder.specs.Encoding.{Runs, State, held_count, encoder_of, InsertsIf, ResizesIf, Ordered, prefix_for, sent_at, opened, first_sections, bound_for, Encodes, PieceRead};
+ghost use Rattle.wtp_dynamic_encoder.specs.Encoding.{Runs, State, held_count, encoder_of, limited, is_unused, InsertsIf, ResizesIf, Ordered, prefix_for, sent_at, opened, first_sections, bound_for, Encodes, PieceRead};
 
 use crate::choice::{copy_of, draining_index};
 use crate::decoder_stream::DecoderStream;
@@ -155,6 +155,33 @@ impl QpackEncoder {
             keys: Vec::new(alloc),
             room: Vec::new(alloc),
         }
+    }
+
+    /// Sets the limits that the settings of the decoder announce, if nothing was inserted, no capacity was set
+    /// and no section refers to the table. Returns whether they were set. So an encoder can be created with a
+    /// limit of 0, which inserts nothing, before these settings come.
+    pub fn set_limits(&mut self, limit: u64, most: u64) -> bool
+        requires { limit < 2 ^ 60 }
+        ensures set { result ≡ is_unused self.old.table self.old.ledger }
+        ensures limits { self.new ≡ limited limit most self.old }
+    {
+        if !self.is_unused() {
+            return false;
+        }
+        self.table = IndexedTable::new(self.alloc, limit);
+        self.most = most;
+        true
+    }
+
+    // Returns whether nothing was inserted, no capacity was set, no section is open and nothing was
+    // acknowledged.
+    fn is_unused(&self) -> bool
+        ensures { result ≡ is_unused self.now.table self.now.ledger }
+    {
+        self.table.insert_count() == 0
+            && self.table.table().capacity() == 0
+            && self.ledger.known() == 0
+            && self.ledger.len() == 0
     }
 
     /// Returns the policy.
