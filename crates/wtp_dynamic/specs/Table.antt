@@ -81,6 +81,15 @@ inserted entry table =
     let room = evicted (table.capacity - entry_size entry) table in
     record room { live = room.live ++ entry ∷ [] }
 
+-- the table with one more entry, for which there is room
+abbrev pub appended : Field → Table → Table
+appended entry table = record table { live = table.live ++ entry ∷ [] }
+
+-- a table of some capacity without entries, of which some were evicted
+abbrev pub bare_table : (limit capacity dropped : ℕ) → Table
+bare_table limit capacity dropped =
+    record { live = []; dropped = dropped; capacity = capacity; limit = limit }
+
 abbrev pub empty_table : ℕ → Table
 empty_table limit = record { live = []; dropped = 0; capacity = 0; limit = limit }
 

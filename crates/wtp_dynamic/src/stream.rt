@@ -1,6 +1,6 @@
 //! The encoder stream, read from pieces that are cut anywhere (RFC 9204, section 4.3).
 
-ghost use Rattle.std.specs.Prelude.{◌≡◌, ◌≢◌, ℕ, List, [], ◌++◌, ◌^◌, ◌≤◌, ◌<◌, length, take, drop, OnOk, IfOk, Ok, Err, MatchResult, false};
+ghost use Rattle.std.specs.Prelude.{◌≡◌, ◌≢◌, ℕ, List, [], ◌++◌, ◌^◌, ◌≤◌, ◌<◌, length, take, drop, OnOk, IfOk, Ok, Err, MatchResult, MatchOption, false};
 ghost use Rattle.std.specs.List.{flat_map};
 ghost use Rattle.std.specs.Vec.{vec_len};
 ghost use Rattle.wtp_dynamic.specs.declared.error.EncoderStreamError.TheVariants.{Memory};
@@ -9,13 +9,13 @@ ghost use Rattle.wtp_dynamic.specs.InstructionView.{coded, instruction};
 ghost use Rattle.wtp_dynamic.specs.Steps.{text_of, referred, named_entry, referring_entry, literal_entry, step, Steps, Makes};
 ghost use Rattle.wtp_dynamic.specs.FrontView.{front_seen};
 ghost use Rattle.wtp_dynamic.specs.Front.{most_bytes};
-ghost use Rattle.wtp_dynamic.specs.Stream.{first_of, reading_fault, StreamRead};
+ghost use Rattle.wtp_dynamic.specs.Stream.{first_of, reading_fault, IsCut, StreamRead};
 
 use crate::error::EncoderStreamError;
 use crate::front::{self, Front};
 use crate::instruction::{Coded, Instruction};
 use crate::table::{DynamicTable, Entry};
-use std::alloc::Global;
+use std::alloc::{AllocError, Global};
 use std::marker::Model;
 use std::mem::replace;
 use wtp_huffman::huffman::{self, HuffmanError};
@@ -192,6 +192,34 @@ impl EncoderStream {
             table: DynamicTable::new(alloc, limit),
             held: Vec::new(alloc),
         }
+    }
+
+    /// Creates the end of a stream that led to this table, and of which these bytes of a cut
+    /// instruction are held. Returns `None` if the bytes are not the beginning of an instruction, or
+    /// are a whole one.
+    pub fn resume(
+        alloc: Global,
+        table: DynamicTable,
+        held: &[u8],
+    ) -> Result<Option<Self>, AllocError>
+        ensures { IfOk result (λ resumed. MatchOption resumed (¬ (IsCut table held.now))
+            (λ stream. (stream ≡ (table, held.now)) × IsCut table held.now)) }
+    {
+        let mut bytes = Vec::new(alloc);
+        bytes.extend_from_slice(held)?;
+        if let Front::Cut = first_of(&table, held) {
+            Ok(Some(EncoderStream { table, held: bytes }))
+        } else {
+            Ok(None)
+        }
+    }
+
+    /// Returns the bytes of a cut instruction that are held.
+    pub fn held_bytes(&self) -> &[u8]
+        ensures is { result.now ≡ self.now.1 }
+        ensures cut { IsCut self.now.0 result.now }
+    {
+        self.held.as_slice()
     }
 
     /// Returns how many bytes of a cut instruction are held.

@@ -1,10 +1,10 @@
 //! The dynamic table (RFC 9204, section 3.2).
 
-ghost use Rattle.std.specs.Prelude.{◌≡◌, ℕ, ◌+◌, ◌-◌, ◌^◌, ◌<◌, ◌≤◌, List, length, take, drop, IfOk, Ok, Err, option_map};
+ghost use Rattle.std.specs.Prelude.{◌≡◌, ℕ, ◌+◌, ◌-◌, ◌^◌, ◌<◌, ◌≤◌, List, length, take, drop, IfOk, Ok, Err, MatchResult, option_map};
 ghost use Rattle.std.specs.Vec.{vec_len};
 ghost use Rattle.std.specs.VecDeque.{deque_capacity};
 ghost use Rattle.wtp_dynamic.specs.declared.error.EncoderStreamError.TheVariants.{Memory};
-ghost use Rattle.wtp_dynamic.specs.Table.{Table, entry_size, table_size, insert_count, excess, evicted, inserted, empty_table, entry_of, relative_entry, post_base_entry};
+ghost use Rattle.wtp_dynamic.specs.Table.{Table, entry_size, table_size, insert_count, excess, evicted, inserted, appended, empty_table, bare_table, entry_of, relative_entry, post_base_entry};
 ghost use Rattle.wtp_dynamic.specs.Steps.{set_step, insert_step, Steps};
 
 use crate::error::EncoderStreamError;
@@ -140,6 +140,39 @@ impl DynamicTable {
             capacity: 0,
             limit,
         }
+    }
+
+    /// Creates a table of this capacity without entries, of which so many were evicted: the beginning
+    /// of one whose parts were stored, to which [`append`](DynamicTable::append) adds the entries.
+    /// Nothing is allocated.
+    pub fn without_entries(alloc: Global, limit: u64, capacity: u64, dropped: u64) -> Self
+        requires { (limit < 2 ^ 60) × (capacity ≤ limit) × (dropped ≤ 2 ^ 62) }
+        ensures { result ≡ bare_table limit capacity dropped }
+    {
+        DynamicTable {
+            entries: VecDeque::new(alloc),
+            dropped,
+            size: 0,
+            capacity,
+            limit,
+        }
+    }
+
+    /// Appends an entry, for which there is room without an eviction.
+    ///
+    /// Returns [`AllocError`] if allocation failed; nothing has changed then.
+    #[tactic(auto, using(crate::proofs::Tables::size_push))]
+    pub fn append(&mut self, entry: Entry) -> Result<(), AllocError>
+        requires fits { table_size self.old.live + entry_size entry ≤ self.old.capacity }
+        requires few { insert_count self.old < 2 ^ 62 }
+        ensures { MatchResult result (λ _. self.new ≡ appended entry self.old)
+            (λ _. self.new ≡ self.old) }
+    {
+        let size = entry.size();
+        self.entries.reserve(1)?;
+        self.entries.push_back_reserved(entry);
+        self.size += size;
+        Ok(())
     }
 
     /// Returns how many entries have ever been inserted.
