@@ -1,1 +1,3 @@
 pub mod Grown
+pub mod Stored
+pub mod Kept

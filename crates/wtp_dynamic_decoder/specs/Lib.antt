@@ -1,3 +1,4 @@
 pub mod Decoder
 pub mod Lines
 pub mod Opening
+pub mod Stored

@@ -7,6 +7,8 @@ ghost use Rattle.wtp_dynamic.specs.Front.{most_bytes};
 ghost use Rattle.wtp_dynamic_decoder.specs.Decoder.{Runs, held_count, PieceRead, waits, is_other, Refuses, due_section, due_increment, due_cancellation, acknowledged, incremented, cancelled, Tells};
 ghost use Rattle.wtp_dynamic_decoder.specs.Opening.{OpensAs};
 
+pub mod stored;
+
 use crate::lines::SectionLines;
 use std::alloc::{AllocError, Global};
 use std::marker::Model;
