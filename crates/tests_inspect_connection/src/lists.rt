@@ -1,0 +1,77 @@
+//! Lists, by rows.
+use crate::same::assert_same;
+use std::alloc::Global;
+use std::process::Abort;
+use wt_inspect_connection::list::{Channel, ListError, Sender, read_list};
+
+/// A text, how many entries it has, or why it is no list.
+static COUNTS: [(&str, Result<usize, ListError>); 22] = [
+    ("", Err(ListError::Empty)),
+    ("\n\n", Err(ListError::Empty)),
+    ("0 client a", Ok(1)),
+    ("0 client a\n", Ok(1)),
+    ("\n0 client a\n\n4 server b b\n", Ok(2)),
+    ("datagrams client a\ndatagrams client a\n", Ok(2)),
+    ("4611686018427387903 server a", Ok(1)),
+    ("4611686018427387904 server a", Err(ListError::Line(1))),
+    ("18446744073709551616 server a", Err(ListError::Line(1))),
+    ("0 client a\n4 server", Err(ListError::Line(2))),
+    ("0 client ", Err(ListError::Line(1))),
+    ("0 client", Err(ListError::Line(1))),
+    ("0  client a", Err(ListError::Line(1))),
+    (" 0 client a", Err(ListError::Line(1))),
+    ("+0 client a", Err(ListError::Line(1))),
+    ("-0 client a", Err(ListError::Line(1))),
+    ("0 Client a", Err(ListError::Line(1))),
+    ("datagram client a", Err(ListError::Line(1))),
+    ("2 server a", Err(ListError::NotSent(1))),
+    ("\n3 client a", Err(ListError::NotSent(2))),
+    (
+        "0 client a\n0 server a\n0 client b",
+        Err(ListError::Twice(3)),
+    ),
+    ("0 client a\n00 client b", Err(ListError::Twice(2))),
+];
+
+/// Checks the number of entries, or the error. Without memory another call is made.
+fn check_count(rt: &impl Abort, alloc: Global, text: &str, wanted: Result<usize, ListError>) {
+    let came = match read_list(alloc, text) {
+        Err(ListError::Memory) => read_list(alloc, text),
+        came => came,
+    };
+    match (came, wanted) {
+        (Ok(entries), Ok(count)) => assert_same(rt, entries.len(), count, text),
+        (Ok(_), Err(_)) => assert_same(rt, "a list", "an error", text),
+        (Err(_), Ok(_)) => assert_same(rt, "an error", "a list", text),
+        (Err(error), Err(other)) => assert_same(rt, error, other, text),
+    }
+}
+
+#[test]
+fn lists_have_their_entries(rt: HostRuntime) {
+    for (text, wanted) in &COUNTS {
+        check_count(&rt, rt.alloc(), text, *wanted);
+    }
+}
+
+#[test]
+fn an_entry_has_what_its_line_says(rt: HostRuntime) {
+    let text = "datagrams server a b \n7 server x";
+    let alloc = rt.alloc();
+    let came = match read_list(alloc, text) {
+        Err(ListError::Memory) => read_list(alloc, text),
+        came => came,
+    };
+    match came {
+        Ok(entries) => match entries.as_slice() {
+            [first, second] => {
+                assert_same(&rt, first.channel, Channel::Datagram, "channel");
+                assert_same(&rt, first.sender, Sender::Server, "sender");
+                assert_same(&rt, first.file, "a b ", "file");
+                assert_same(&rt, second.channel, Channel::Stream(7), "channel");
+            }
+            _ => assert_same(&rt, entries.len(), 2, "entries"),
+        },
+        Err(error) => assert_same(&rt, error, ListError::Empty, text),
+    }
+}

@@ -1,0 +1,106 @@
+//! What a stream is for.
+ghost use Rattle.std.specs.Prelude.{◌≡◌};
+ghost use Rattle.wtp_core.specs.Varint.{number_at};
+ghost use Rattle.wt_inspect_connection.specs.Purposes.{purpose_by_signal, purpose_by_type, purpose_of};
+ghost use Rattle.wt_inspect_connection.specs.Purposes.{purpose_without, session_by};
+
+use crate::list::is_bidirectional;
+use wtp_core::varint::first_varint;
+
+/// The type of a control stream (RFC 9114, section 6.2.1).
+const CONTROL: u64 = 0x00;
+
+/// The type of a push stream (RFC 9114, section 6.2.2).
+const PUSH: u64 = 0x01;
+
+/// The type of an encoder stream (RFC 9204, section 4.2).
+const ENCODER: u64 = 0x02;
+
+/// The type of a decoder stream (RFC 9204, section 4.2).
+const DECODER: u64 = 0x03;
+
+/// The type of a unidirectional stream of a session (draft-ietf-webtrans-http3-02, section 4.1).
+const SESSION: u64 = 0x54;
+
+/// The first number of a bidirectional stream of a session (draft-ietf-webtrans-http3-02, section
+/// 4.2).
+const SIGNAL: u64 = 0x41;
+
+/// What a stream is for.
+#[derive(Clone, Copy, Debug, PartialEq, Eq)]
+pub enum Purpose {
+    /// A control stream (RFC 9114, section 6.2.1).
+    Control,
+    /// A push stream (RFC 9114, section 6.2.2).
+    Push,
+    /// A QPACK encoder stream (RFC 9204, section 4.2).
+    Encoder,
+    /// A QPACK decoder stream (RFC 9204, section 4.2).
+    Decoder,
+    /// A stream of the session with this ID (draft-ietf-webtrans-http3-02, section 4).
+    Session(u64),
+    /// A request and its response (RFC 9114, section 6.1), which may be those of a session.
+    Request,
+    /// None of these, or too few bytes to know.
+    Other,
+}
+
+/// Returns what a stream is for, by its ID and by the first bytes of the end that opened it, which
+/// are none if they were not recorded.
+pub fn purpose_of(id: u64, bytes: &[u8]) -> Purpose
+    ensures { result ≡ purpose_of id bytes.now }
+{
+    if is_bidirectional(id) {
+        purpose_by_signal(id, bytes)
+    } else {
+        purpose_by_type(bytes)
+    }
+}
+
+/// Returns what a unidirectional stream is for.
+fn purpose_by_type(bytes: &[u8]) -> Purpose
+    ensures { result ≡ purpose_by_type (number_at bytes.now) }
+{
+    let Some((number, size)) = first_varint(bytes) else {
+        return Purpose::Other;
+    };
+    match number.into_inner() {
+        CONTROL => Purpose::Control,
+        PUSH => Purpose::Push,
+        ENCODER => Purpose::Encoder,
+        DECODER => Purpose::Decoder,
+        SESSION => session_in(&bytes[size..]),
+        _ => Purpose::Other,
+    }
+}
+
+/// Returns what a bidirectional stream is for.
+fn purpose_by_signal(id: u64, bytes: &[u8]) -> Purpose
+    ensures { result ≡ purpose_by_signal id (number_at bytes.now) }
+{
+    match first_varint(bytes) {
+        Some((number, size)) if number.into_inner() == SIGNAL => session_in(&bytes[size..]),
+        _ => purpose_without(id),
+    }
+}
+
+/// Returns what a bidirectional stream without a session is for.
+fn purpose_without(id: u64) -> Purpose
+    ensures { result ≡ purpose_without id }
+{
+    if id % 2 == 0 {
+        Purpose::Request
+    } else {
+        Purpose::Other
+    }
+}
+
+/// Returns what a stream is for whose session ID is the first number of these bytes.
+fn session_in(bytes: &[u8]) -> Purpose
+    ensures { result ≡ session_by (number_at bytes.now) }
+{
+    match first_varint(bytes) {
+        Some((id, _)) if id.into_inner() % 4 == 0 => Purpose::Session(id.into_inner()),
+        _ => Purpose::Other,
+    }
+}
