@@ -7,6 +7,8 @@ mod dynamic;
 #[cfg(test)]
 mod early;
 #[cfg(test)]
+mod encoded;
+#[cfg(test)]
 mod errors;
 #[cfg(test)]
 mod given_up;

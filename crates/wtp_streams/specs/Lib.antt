@@ -3,3 +3,4 @@ pub mod Calls
 pub mod Errors
 pub mod Ends
 pub mod Sends
+pub mod Encoded

@@ -6,6 +6,7 @@ ghost use Rattle.wtp_streams.specs.Sends.{ReceivesEnds, accepts_ends};
 ghost use Rattle.wtp_streams.specs.Table.{entry_at, known_in, first_ready, named_by};
 
 mod control;
+mod encoded;
 mod endings;
 pub(crate) mod half;
 pub(crate) mod mark;

@@ -9,6 +9,8 @@ ghost use Rattle.wtp_sending.specs.Writing.{WritesAll, Fails, FailsAllocating};
 ghost use Rattle.wtp_streams.specs.Ends.{asked_of as asked_of_is, is_extended as is_extended_is, is_request as is_request_is, asks, connects};
 ghost use Rattle.wtp_streams.specs.Sends.{HalfSends, HalfResponds, HalfRefuses, RefusesBy, HalfChanges, InSession, head_for, sending_in, response_in};
 
+mod encoded;
+
 use crate::h3::refused::Refused;
 use std::alloc::Global;
 use wtp_core::bytes::BytesWriter;

@@ -68,7 +68,7 @@ impl H3Connection {
     }
 
     // Checks that a request with these fields may be sent on the stream with this ID.
-    fn may_request(&self, id: u64, list: &FieldList) -> Result<(), Refused>
+    pub(super) fn may_request(&self, id: u64, list: &FieldList) -> Result<(), Refused>
         ensures { result ≡ may_request_is (ends_of self.now) id list.now }
     {
         if self.over {
@@ -135,7 +135,7 @@ impl H3Connection {
     }
 
     // Takes a response with this status to the request on a stream, which is its answer if it is final.
-    fn answer(&mut self, id: u64, status: u32)
+    pub(super) fn answer(&mut self, id: u64, status: u32)
         ensures { ends_of self.new ≡ answered_with (ends_of self.old) id (Some status) }
     {
         self.streams.answer(id, status);

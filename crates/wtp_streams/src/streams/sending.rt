@@ -1,9 +1,12 @@
 //! What the own halves of streams need: what the peer allows, and streams that are opened with their first
 //! bytes.
-ghost use Rattle.std.specs.Prelude.{◌≡◌, Ok, OnOk, OnErr, IfErr, None, is_some, length};
+ghost use Rattle.std.specs.Prelude.{◌≡◌, ◌⊎◌, ℕ, List, Ok, OnOk, OnErr, IfErr, None, is_some, length};
 ghost use Rattle.wtp_sending.specs.Message.{headers_wire, SendsHead, RefusesHeaders};
+ghost use Rattle.wtp_sending.specs.Encoded.{done, section_wire, IsIdle, RefusesHeadersWith};
+ghost use Rattle.wtp_sending.specs.declared.error.SendError.TheVariants as SendError;
 ghost use Rattle.wtp_sending.specs.Session.{in_session, bi_head};
 ghost use Rattle.wtp_sending.specs.Writing.{WritesAll, FailsAllocating};
+ghost use Rattle.wtp_streams.specs.Encoded.{HeadIs};
 ghost use Rattle.wtp_streams.specs.Calls.{opens_in, belongs_in, awaited_in, unawaited};
 ghost use Rattle.wtp_streams.specs.Ends.{asked_of as asked_of_is, peer_in, is_open as is_open_is};
 ghost use Rattle.wtp_streams.specs.Sends.{is_leaving as is_leaving_is, may_extend as may_extend_is};
@@ -18,6 +21,7 @@ use std::alloc::Global;
 use std::collections::btree_map::Entry;
 use wtp_connection::connection::Known;
 use wtp_core::bytes::BytesWriter;
+use wtp_dynamic_encoder::encoder::QpackEncoder;
 use wtp_fields::fields::FieldList;
 use wtp_messages::response::Asked;
 use wtp_sending::error::SendError;
@@ -141,6 +145,54 @@ impl Streams {
                     }
                     Err(error) => Err(error),
                 },
+            },
+        }
+    }
+
+    // Sends a request on a stream, of which there is none with this ID, in a section of this encoder, and
+    // registers it.
+    pub(crate) fn request_with<W: BytesWriter>(
+        &mut self,
+        alloc: Global,
+        id: u64,
+        sending: &mut Sending,
+        list: &FieldList,
+        encoder: &mut QpackEncoder,
+        instructions: &mut Vec<u8>,
+        out: &mut W,
+    ) -> Result<(), SendError>
+        requires { entry_at (table_of self.old) id ≡ None }
+        ensures sent { OnOk result ((section : List ℕ)
+            × HeadIs list.now encoder.old encoder.new instructions.old.items instructions.new.items section
+            sending.old sending.new
+            × WritesAll (section_wire section) done (W.written out.old) (W.room out.old) (W.written out.new)
+            (W.room out.new)) }
+        ensures opened { OnOk result (table_of self.new ≡ opens_in (table_of self.old) id (asked_of_is list.now)) }
+        ensures refused { IfErr result (λ e. RefusesHeadersWith sending.old list.now encoder.old encoder.new
+            instructions.old.items instructions.new.items (W.room out.old) e
+            ⊎ ((e ≡ SendError.Memory) × IsIdle encoder.old encoder.new instructions.old.items
+            instructions.new.items)) }
+        ensures kept { OnErr result (table_of self.new ≡ table_of self.old) }
+        ensures unwritten { OnErr result ((W.written out.new ≡ W.written out.old)
+            × (W.room out.new ≡ W.room out.old)) }
+        ensures target { W.target out.new ≡ W.target out.old }
+    {
+        let asked = asked_of(list);
+        let stream = self.connection.open(asked);
+        let stays = matches!(asked, Asked::Session);
+        match self.table.entry(id) {
+            Err(_) => Err(SendError::Memory),
+            Ok(entry) => match entry {
+                Entry::Occupied(_) => Err(SendError::Memory),
+                Entry::Vacant(place) => {
+                    match sending.headers_with(alloc, list, encoder, instructions, out) {
+                        Ok(()) => {
+                            place.insert(Kept::new(stream, None, stays));
+                            Ok(())
+                        }
+                        Err(error) => Err(error),
+                    }
+                }
             },
         }
     }
