@@ -7,8 +7,6 @@ mod dynamic;
 #[cfg(test)]
 mod early;
 #[cfg(test)]
-mod encoded;
-#[cfg(test)]
 mod errors;
 #[cfg(test)]
 mod given_up;
