@@ -1,6 +1,7 @@
 pub mod Chains
 pub mod InsertCounts
 pub mod Tables
+pub mod Storing
 pub mod Cuts
 pub mod Texts
 pub mod Streams

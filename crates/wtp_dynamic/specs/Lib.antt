@@ -6,6 +6,7 @@ pub mod InsertCount
 pub mod Instruction
 pub mod InstructionView
 pub mod Steps
+pub mod Stored
 pub mod Stream
 pub mod Section
 pub mod SectionView

@@ -1,6 +1,6 @@
 //! What an encoder keeps of the sections that it sent (RFC 9204, sections 2.1 and 4.4).
 
-ghost use Rattle.std.specs.Prelude.{◌≡◌, ℕ, List, [], ◌∷◌, ◌++◌, length, take, drop, slice_index_or, ◌+◌, ◌<◌, ◌≤◌, ◌==◌, max, Some, None, IfSome, IfNone, MatchOption, MatchResult, nat_le, ◌&&◌};
+ghost use Rattle.std.specs.Prelude.{◌≡◌, ℕ, List, [], ◌∷◌, ◌++◌, length, take, drop, slice_get, slice_index_or, ◌+◌, ◌<◌, ◌≤◌, ◌==◌, max, Some, None, IfSome, IfNone, MatchOption, MatchResult, nat_le, ◌&&◌};
 ghost use Rattle.std.specs.List.{remove};
 ghost use Rattle.wtp_dynamic.specs.EncoderState.{taken, without, unsent, all_above, increment_fault, may_wait, waiting_streams, may_block};
 ghost use Rattle.wtp_dynamic.specs.declared.ledger.Sent.{Sent};
@@ -122,6 +122,17 @@ impl Ledger {
         }
     }
 
+    /// Creates a ledger of no section with this Known Received Count: the beginning of one whose parts
+    /// were stored, to which [`open`](Ledger::open) adds the sections. Nothing is allocated.
+    pub fn without_sections(alloc: Global, known: u64) -> Self
+        ensures { result ≡ (known, []) }
+    {
+        Ledger {
+            known,
+            sections: VecDeque::new(alloc),
+        }
+    }
+
     /// Returns the Known Received Count: how many entries the decoder is known to have received
     /// (section 2.1.4).
     pub fn known(&self) -> u64
@@ -135,6 +146,24 @@ impl Ledger {
         ensures { result ≡ length self.now.1 }
     {
         self.sections.len()
+    }
+
+    /// Returns the section at a place among those that are not acknowledged, the oldest first.
+    pub fn get(&self, place: usize) -> Option<Sent>
+        ensures { result ≡ slice_get self.now.1 place }
+    {
+        match self.sections.get(place) {
+            Some(sent) => Some(*sent),
+            None => None,
+        }
+    }
+
+    /// Returns how many streams may be blocked by the sections that are not acknowledged (section
+    /// 2.1.2).
+    pub fn waiting(&self) -> usize
+        ensures { result ≡ length (waiting_streams self.now.0 self.now.1) }
+    {
+        count_waiting(&self.sections, self.known)
     }
 
     /// Returns whether one more section of a stream may need more insertions than are known to be

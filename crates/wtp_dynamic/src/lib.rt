@@ -12,5 +12,6 @@ pub mod instruction;
 pub mod laws;
 pub mod ledger;
 pub mod section;
+pub mod stored;
 pub mod stream;
 pub mod table;

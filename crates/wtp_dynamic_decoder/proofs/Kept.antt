@@ -9,10 +9,11 @@ use Rattle.wtp_dynamic.specs.Stream.{IsCut}
 use Rattle.wtp_dynamic.specs.Table.{Table, table_size}
 use Rattle.wtp_dynamic.proofs.Streams.{held_few, cut_nothing}
 use Rattle.wtp_dynamic_decoder.specs.declared.decoder.Waiting.{Waiting}
-use Rattle.wtp_dynamic_decoder.specs.declared.decoder.stored.Head.{Head}
+use Rattle.wtp_dynamic.specs.declared.stored.Head.{Head}
 use Rattle.wtp_dynamic_decoder.specs.Decoder.{Decoder, Progress, Runs, Failed, progress_of}
-use Rattle.wtp_dynamic_decoder.specs.Stored.{entries_bytes, head_bytes, error_number, fault_number, held_bytes, head_of, decoder_bytes, most_stored, IsDecoder, IsStored, IsNone, IsHead, IsWide, has_fault, HasTable}
-use Rattle.wtp_dynamic_decoder.proofs.Stored.{same_parts, entries_begin, entries_few, SameHead, head_same, head_length}
+use Rattle.wtp_dynamic.specs.Stored.{entries_bytes, head_bytes, IsHead, IsWide, HasTable}
+use Rattle.wtp_dynamic_decoder.specs.Stored.{error_number, fault_number, held_bytes, head_of, decoder_bytes, most_stored, IsDecoder, IsStored, IsNone, has_fault}
+use Rattle.wtp_dynamic.proofs.Storing.{same_parts, entries_begin, entries_few, SameHead, head_same, head_length}
 
 -- ---- the numbers of a decoder
 

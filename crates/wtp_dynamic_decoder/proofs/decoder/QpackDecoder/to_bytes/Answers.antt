@@ -1,7 +1,7 @@
 use Rattle.std.proofs.Common.{◌++◌, ap, ◌∙◌, arith}
 use Rattle.wtp_dynamic.specs.Table.{Table}
 use Rattle.wtp_dynamic_decoder.specs.Decoder.{Decoder}
-use Rattle.wtp_dynamic_decoder.specs.Stored.{entries_bytes}
+use Rattle.wtp_dynamic.specs.Stored.{entries_bytes}
 use Rattle.wtp_dynamic_decoder.proofs.Kept.{few_written}
 use Rattle.wtp_dynamic_decoder.proofs.decoder.QpackDecoder.to_bytes.Goals as goal
 

@@ -1,7 +1,7 @@
 use Rattle.std.proofs.Common.{◌≡◌, ◌≤◌, ◌++◌, ◌-◌, length}
 use Rattle.wtp_dynamic.specs.Table.{table_size}
-use Rattle.wtp_dynamic_decoder.specs.Stored.{entries_bytes}
-use Rattle.wtp_dynamic_decoder.proofs.decoder.stored.take_table.Given as goal
+use Rattle.wtp_dynamic.specs.Stored.{entries_bytes}
+use Rattle.wtp_dynamic.proofs.stored.take_table.Given as goal
 
 abbrev pub invariant-loop-count : goal.invariant-loop-count
 invariant-loop-count l = record {

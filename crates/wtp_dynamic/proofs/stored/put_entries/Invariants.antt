@@ -1,6 +1,6 @@
 use Rattle.std.proofs.Common.{◌≡◌, ◌-◌, ◌≤◌, ◌++◌, take}
-use Rattle.wtp_dynamic_decoder.specs.Stored.{entries_bytes}
-use Rattle.wtp_dynamic_decoder.proofs.decoder.stored.put_entries.Given as goal
+use Rattle.wtp_dynamic.specs.Stored.{entries_bytes}
+use Rattle.wtp_dynamic.proofs.stored.put_entries.Given as goal
 
 abbrev pub invariant-loop-place : goal.invariant-loop-place
 invariant-loop-place l = record {

@@ -2,10 +2,10 @@ use Rattle.std.proofs.Common.{length, ap, sym, ◌∙◌, arith, length-append}
 use Rattle.wtp_qpack.specs.Field.{Field}
 use Rattle.wtp_dynamic.specs.Table.{Table, table_size}
 use Rattle.wtp_dynamic.proofs.Tables.{size_push}
-use Rattle.wtp_dynamic_decoder.proofs.Stored.{no_entry, no_fit, taken_more}
-use Rattle.wtp_dynamic_decoder.specs.Stored.{entries_bytes}
+use Rattle.wtp_dynamic.proofs.Storing.{no_entry, no_fit, taken_more}
+use Rattle.wtp_dynamic.specs.Stored.{entries_bytes}
 use Rattle.std.proofs.Common.{◌++◌, ◌∷◌, [], List, ℕ}
-use Rattle.wtp_dynamic_decoder.proofs.decoder.stored.take_table.Goals as goal
+use Rattle.wtp_dynamic.proofs.stored.take_table.Goals as goal
 
 pub returns-in-Ok-None : goal.returns-in-Ok-None
 returns-in-Ok-None c = no_entry c.args.bytes.now c.loop-count.rest.now c.loop-count.table.live c.args.head.now.count c.args.head.now.capacity c.loop-count.invariant.bytes

@@ -1,7 +1,7 @@
 use Rattle.std.proofs.Common.{ap, ◌∙◌, arith}
-use Rattle.wtp_dynamic_decoder.proofs.Stored.{one_more, none_left}
-use Rattle.wtp_dynamic_decoder.proofs.decoder.stored.put_entries.Goals as goal
-use Rattle.wtp_dynamic_decoder.proofs.decoder.stored.put_entries.Goals.{in-Some+in_ok-put_entry, in_default}
+use Rattle.wtp_dynamic.proofs.Storing.{one_more, none_left}
+use Rattle.wtp_dynamic.proofs.stored.put_entries.Goals as goal
+use Rattle.wtp_dynamic.proofs.stored.put_entries.Goals.{in-Some+in_ok-put_entry, in_default}
 
 pub loop-place-preserved : goal.loop-place-preserved
 loop-place-preserved c =

@@ -1,6 +1,6 @@
 use Rattle.std.proofs.lemmas.Nat.{le_bytes_8}
-use Rattle.wtp_dynamic_decoder.specs.Stored.{word}
-use Rattle.wtp_dynamic_decoder.proofs.decoder.stored.number_in.Goals as goal
+use Rattle.wtp_dynamic.specs.Stored.{word}
+use Rattle.wtp_dynamic.proofs.stored.number_in.Goals as goal
 
 pub returns : goal.returns
 unfolding word

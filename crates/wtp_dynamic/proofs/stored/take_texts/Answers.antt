@@ -1,6 +1,6 @@
 use Rattle.std.proofs.Common.{arith}
-use Rattle.wtp_dynamic_decoder.proofs.Stored.{no_words, no_texts}
-use Rattle.wtp_dynamic_decoder.proofs.decoder.stored.take_texts.Goals as goal
+use Rattle.wtp_dynamic.proofs.Storing.{no_words, no_texts}
+use Rattle.wtp_dynamic.proofs.stored.take_texts.Goals as goal
 
 pub returns-in_default : goal.returns-in_default
 returns-in_default c = no_words c.args.bytes.now (omega (arith, c.in_default.ensures))

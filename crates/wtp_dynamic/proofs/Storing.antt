@@ -1,4 +1,4 @@
--- The bytes of a decoder: what is read back.
+-- The bytes of a table that is stored: what is read back.
 use Rattle.std.proofs.Common.{◌≡◌, ℕ, ◌+◌, ◌-◌, ◌^◌, ◌<◌, ◌≤◌, List, [], ◌∷◌, ◌++◌, length, take, drop, Option, Some, None, refl, sym, ap, ◌∙◌, arith, append_assoc, append-nil, length-append}
 use Rattle.std.specs.List.{slice_get}
 use Rattle.std.proofs.lemmas.Bool.{le-ltb}
@@ -8,8 +8,8 @@ use Rattle.std.proofs.lemmas.List.{take_at, drop_at, take_more, take-append-drop
 use Rattle.std.proofs.lemmas.Nat.{from_le_bytes-to_le_bytes_8}
 use Rattle.wtp_qpack.specs.Field.{Field}
 use Rattle.wtp_dynamic.specs.Table.{Table, insert_count, entry_size, table_size, entry_of}
-use Rattle.wtp_dynamic_decoder.specs.Stored.{word, entry_bytes, entries_bytes, head_bytes, IsWide, IsEntry}
-use Rattle.wtp_dynamic_decoder.specs.declared.decoder.stored.Head.{Head}
+use Rattle.wtp_dynamic.specs.Stored.{word, entry_bytes, entries_bytes, head_bytes, IsWide, IsEntry}
+use Rattle.wtp_dynamic.specs.declared.stored.Head.{Head}
 
 -- ---- words
 
@@ -132,7 +132,7 @@ head_put h a b c d e f g i p q r s t u v = rw (v, u, t, s, r, q, p) (simp append
 head_then : (h : Head) (rest : List ℕ) → head_bytes h ++ rest ≡ word h.limit ++ (word h.capacity ++ (word h.dropped ++ (word h.known ++ (word h.fault ++ (word h.held ++ (word h.count ++ rest))))))
 head_then h rest = simp append_assoc
 
-word_then : (n : ℕ) (rest : List ℕ) → length (word n ++ rest) ≡ 8 + length rest
+pub word_then : (n : ℕ) (rest : List ℕ) → length (word n ++ rest) ≡ 8 + length rest
 word_then n rest = omega (arith, length-append (word n) rest, word_size n)
 
 pub head_length : (h : Head) (rest : List ℕ) → length (head_bytes h ++ rest) ≡ 56 + length rest
