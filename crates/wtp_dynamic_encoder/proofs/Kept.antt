@@ -28,11 +28,11 @@ or_cases : (a b : Bool) → (a || b) ≡ true → (a ≡ true) ⊎ ((a ≡ false
 or_cases true b e = inl refl
 or_cases false b e = inr (refl, e)
 
-or_second : (a b : Bool) → b ≡ true → (a || b) ≡ true
+pub or_second : (a b : Bool) → b ≡ true → (a || b) ≡ true
 or_second true b e = refl
 or_second false b e = e
 
-both : (a b : Bool) → (a && b) ≡ true → (a ≡ true) × (b ≡ true)
+pub both : (a b : Bool) → (a && b) ≡ true → (a ≡ true) × (b ≡ true)
 both true b e = (refl, e)
 both false b e = cc e
 
@@ -169,7 +169,7 @@ wait_push known stream (x ∷ xs) y waits = elim (or_cases (nat_lt known x.requi
 ]
 
 -- a stream that may be blocked is listed
-waiting_has : (known stream : ℕ) (xs : List Sent) → may_wait known stream xs ≡ true → IsAmong stream (waiting_streams known xs)
+pub waiting_has : (known stream : ℕ) (xs : List Sent) → may_wait known stream xs ≡ true → IsAmong stream (waiting_streams known xs)
 waiting_has known stream [] waits = cc waits
 waiting_has known stream (x ∷ xs) waits = by_later (may_wait known stream xs) refl (λ later. waiting_has known stream xs later)
   where
@@ -237,7 +237,7 @@ nothing : (l : List Sent) → (length l == 0) ≡ true → l ≡ []
 nothing [] e = refl
 nothing (x ∷ l) e = absurd (omega (arith, eqb-true (length (x ∷ l)) 0 e))
 
-unused_ledger : (t : Table) (l : Ledger) → is_unused t l ≡ true → l ≡ (0, [])
+pub unused_ledger : (t : Table) (l : Ledger) → is_unused t l ≡ true → l ≡ (0, [])
 unused_ledger t (known, sections) e =
     let a = both (insert_count t == 0 && t.capacity == 0 && known == 0) (length sections == 0) e in
     let b = both (insert_count t == 0 && t.capacity == 0) (known == 0) a.0 in

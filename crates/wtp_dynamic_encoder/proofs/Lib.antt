@@ -10,3 +10,7 @@ pub mod Chained
 pub mod Hashed
 pub mod Walks
 pub mod KeyLists
+pub mod Waiting
+pub mod Storing
+pub mod Remaking
+pub mod Rooms

@@ -3,7 +3,7 @@ use Rattle.std.proofs.Common.{◌≡◌, ℕ, suc, ◌+◌, ◌-◌, ◌<◌, �
 use Rattle.std.specs.Str.{bytes_eq}
 use Rattle.std.specs.List.{slice_get, slice_index}
 use Rattle.std.proofs.lemmas.Bool.{cases_lt, lt-ltb, le-ltb}
-use Rattle.std.proofs.lemmas.List.{take_all, length-take, get_or-take, get_or-map, length-map, map-append, drop-map}
+use Rattle.std.proofs.lemmas.List.{take_all, take_more, length-take, get_or-take, get_or-map, length-map, map-append, drop-map}
 use Rattle.std.proofs.lemmas.Option.{slice_get_within, get_or_from_slice_get}
 use Rattle.std.proofs.lemmas.Slice.Eq.{bytes_eq-Decides}
 use borrow.Author.Tests.{eqb-true}
@@ -207,4 +207,26 @@ index_insert key entry t u old new to hash index did at is same hashes dropped =
       hashes = hashes ∙ ap (λ (z : List ℕ). z ++ hash ∷ []) (index_evict key t old d to index (at ∙ ap (λ (x : Table). x.dropped) (sym found))) ∙ ap (λ (h : ℕ). map key (drop d t.live) ++ h ∷ []) same
           ∙ sym (map-append key (drop d t.live) (entry ∷ [])) ∙ ap (λ (x : Table). map key x.live) found;
       dropped = dropped ∙ at;
+    }
+
+-- ---- a table whose hashes are not known
+
+-- the hashes of the entries below an absolute index
+pub record IsIndexedTo (key : Field → ℕ) (t : Table) (chain : Chain) (index : ℕ) : Type 0 where
+  pub chain_is : IsChain chain
+  pub hashes : hashes_of chain ≡ map key (take (index - t.dropped) t.live)
+  pub dropped : chain.dropped ≡ t.dropped
+
+pub to_next : (key : Field → ℕ) (t : Table) (old new : Chain) (index hash : ℕ) (entry : Field) → t.dropped ≤ index → Some entry ≡ entry_of t index → hash ≡ key entry → IsIndexedTo key t old index → IsChain new → hashes_of new ≡ hashes_of old ++ hash ∷ [] → new.dropped ≡ old.dropped → IsIndexedTo key t new (index + 1)
+to_next key t old new index hash entry low found same is chain hashes dropped =
+    let k : ℕ = index - t.dropped in
+    let at : slice_get t.live k ≡ Some entry = sym (at_place t index low) ∙ sym found in
+    let within : k < length t.live = slice_get_within t.live k entry at in
+    let more : take (k + 1) t.live ≡ take k t.live ++ entry ∷ [] = take_more t.live k entry within ∙ ap (λ (x : Field). take k t.live ++ x ∷ []) (get_or_from_slice_get t.live k entry entry at) in
+    let next : k + 1 ≡ (index + 1) - t.dropped = omega (arith, low) in
+    record {
+      chain_is = chain;
+      hashes = hashes ∙ ap (λ (z : List ℕ). z ++ hash ∷ []) is.hashes ∙ ap (λ (h : ℕ). map key (take k t.live) ++ h ∷ []) same
+          ∙ sym (map-append key (take k t.live) (entry ∷ [])) ∙ ap (map key) (sym more) ∙ ap (λ (n : ℕ). map key (take n t.live)) next;
+      dropped = dropped ∙ is.dropped;
     }

@@ -7,3 +7,4 @@ pub mod Hashing
 pub mod Chains
 pub mod Indexed
 pub mod Keys
+pub mod Stored

@@ -54,6 +54,20 @@ impl Chain {
         }
     }
 
+    /// Creates an empty queue that so many hashes have left. Nothing is allocated.
+    #[tactic(auto, using(crate::proofs::Chained::chain_none))]
+    pub(crate) fn after(alloc: Global, dropped: u64) -> Self
+        ensures chain { IsChain result }
+        ensures hashes { hashes_of result ≡ [] }
+        ensures dropped { result.dropped ≡ dropped }
+    {
+        Chain {
+            heads: Vec::new(alloc),
+            links: VecDeque::new(alloc),
+            dropped,
+        }
+    }
+
     /// Returns one more than the last place of a hash, among those that one more than a place of its
     /// bucket leaves; or 0 if there is none.
     fn settle(&self, hash: u64, start: u64) -> usize
@@ -130,6 +144,21 @@ impl Chain {
             let _oldest = self.links.pop_front();
             self.dropped += 1;
         }
+    }
+
+    /// Makes room for a hash, and appends it.
+    ///
+    /// Returns [`AllocError`] if allocation failed.
+    pub(crate) fn append(&mut self, alloc: Global, hash: u64) -> Result<(), AllocError>
+        requires chain { IsChain self.old }
+        requires few { self.old.dropped + length (hashes_of self.old) ≤ 2 ^ 63 }
+        ensures chain { OnOk result (IsChain self.new) }
+        ensures hashes { OnOk result (hashes_of self.new ≡ hashes_of self.old ++ hash ∷ []) }
+        ensures dropped { OnOk result (self.new.dropped ≡ self.old.dropped) }
+    {
+        self.reserve(alloc)?;
+        self.push(hash);
+        Ok(())
     }
 
     /// Removes the oldest hashes, until so many have left the queue, and appends one, for which there

@@ -1,10 +1,10 @@
 //! The decoder stream, read from pieces that are cut anywhere (RFC 9204, section 4.4).
 
-ghost use Rattle.std.specs.Prelude.{◌≡◌, ℕ, List, [], ◌++◌, ◌<◌, length, take};
-ghost use Rattle.wtp_dynamic_encoder.specs.Acknowledging.{most_bytes, first_of, step, Steps, StreamRead};
+ghost use Rattle.std.specs.Prelude.{◌≡◌, ℕ, List, [], ◌++◌, ◌<◌, length, take, IfOk, MatchOption};
+ghost use Rattle.wtp_dynamic_encoder.specs.Acknowledging.{most_bytes, first_of, step, IsCut, Steps, StreamRead};
 ghost use Rattle.wtp_dynamic_encoder.specs.FirstView.{first_seen};
 
-use std::alloc::Global;
+use std::alloc::{AllocError, Global};
 use std::marker::Model;
 use std::mem::replace;
 use wtp_dynamic::acknowledgment::{self, Acknowledgment};
@@ -121,6 +121,29 @@ impl DecoderStream {
         DecoderStream {
             held: Vec::new(alloc),
         }
+    }
+
+    /// Creates the end of a stream of which these bytes of a cut instruction are held. Returns `None` if
+    /// they are not the beginning of an instruction, or are a whole one.
+    pub fn resume(alloc: Global, held: &[u8]) -> Result<Option<Self>, AllocError>
+        ensures { IfOk result (λ resumed. MatchOption resumed (¬ (IsCut held.now))
+            (λ stream. (stream ≡ held.now) × IsCut held.now)) }
+    {
+        let mut bytes = Vec::new(alloc);
+        bytes.extend_from_slice(held)?;
+        if let First::Cut = read_first(held) {
+            Ok(Some(DecoderStream { held: bytes }))
+        } else {
+            Ok(None)
+        }
+    }
+
+    /// Returns the bytes of a cut instruction that are held.
+    pub fn held_bytes(&self) -> &[u8]
+        ensures is { result.now ≡ self.now }
+        ensures cut { IsCut result.now }
+    {
+        self.held.as_slice()
     }
 
     /// Returns how many bytes of a cut instruction are held: at most ten.

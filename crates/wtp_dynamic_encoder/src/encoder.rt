@@ -8,6 +8,8 @@ ghost use Rattle.wtp_dynamic_encoder.specs.Acknowledging.{most_bytes};
 ghost use Rattle.wtp_dynamic_encoder.specs.Choosing.{default_policy};
 ghost use Rattle.wtp_dynamic_encoder.specs.Encoding.{Runs, State, held_count, encoder_of, limited, is_unused, InsertsIf, ResizesIf, Ordered, prefix_for, sent_at, opened, first_sections, bound_for, Encodes, PieceRead};
 
+pub mod stored;
+
 use crate::choice::{copy_of, draining_index};
 use crate::decoder_stream::DecoderStream;
 use crate::indexed::IndexedTable;

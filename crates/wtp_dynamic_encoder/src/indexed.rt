@@ -1,16 +1,16 @@
 //! The dynamic table of an encoder, in which an entry is found by its texts without going over the
 //! others (RFC 9204, section 3.2).
 
-ghost use Rattle.std.specs.Prelude.{◌≡◌, ◌^◌, ◌<◌, ◌≤◌};
+ghost use Rattle.std.specs.Prelude.{◌≡◌, ◌^◌, ◌<◌, ◌≤◌, IfOk};
 ghost use Rattle.wtp_dynamic.specs.Table.{Table, empty_table, insert_count, table_size, evicted, FindsLatest};
 ghost use Rattle.wtp_dynamic.specs.Steps.{set_step, insert_step, Steps};
 ghost use Rattle.wtp_dynamic_encoder.specs.Choosing.{is_field, has_name};
-ghost use Rattle.wtp_dynamic_encoder.specs.Indexed.{IsIndexedBy, Tells};
+ghost use Rattle.wtp_dynamic_encoder.specs.Indexed.{IsIndexed, IsIndexedBy, Tells};
 ghost use Rattle.wtp_dynamic_encoder.specs.Hashing.{hash_text, name_hash, field_hash, AreHashes};
 
 use crate::chain::Chain;
 use crate::hash::Hashes;
-use std::alloc::Global;
+use std::alloc::{AllocError, Global};
 use std::marker::Model;
 use wtp_dynamic::error::EncoderStreamError;
 use wtp_dynamic::table::{DynamicTable, Entry};
@@ -106,7 +106,37 @@ fn find_name(table: &DynamicTable, names: &Chain, hash: u64, name: &[u8], below:
     None
 }
 
+/// Returns the hashes of the names and of the fields of a table.
+fn index_of(alloc: Global, table: &DynamicTable) -> Result<(Chain, Chain), AllocError>
+    ensures { IfOk result (λ index. IsIndexed table.now index.0 index.1) }
+{
+    let mut names = Chain::after(alloc, table.dropped());
+    let mut fields = Chain::after(alloc, table.dropped());
+    for index in table.dropped()..table.insert_count() {
+        if let Some((name, value)) = table.get(index) {
+            let hashes = Hashes::of(name, value);
+            names.append(alloc, hashes.name)?;
+            fields.append(alloc, hashes.field)?;
+        }
+    }
+    Ok((names, fields))
+}
+
 impl IndexedTable {
+    /// Creates a table of one whose hashes are not known.
+    ///
+    /// Returns [`AllocError`] if allocation failed.
+    pub(crate) fn of(alloc: Global, table: DynamicTable) -> Result<Self, AllocError>
+        ensures { IfOk result (λ indexed. indexed ≡ table) }
+    {
+        let (names, fields) = index_of(alloc, &table)?;
+        Ok(IndexedTable {
+            table,
+            names,
+            fields,
+        })
+    }
+
     /// Creates an empty table of capacity 0. Nothing is allocated.
     #[tactic(auto, using(crate::proofs::Walks::index_none))]
     pub(crate) fn new(alloc: Global, limit: u64) -> Self

@@ -1,6 +1,6 @@
 //! Laws of the definitions: the contract of each function is the law.
 
-ghost use Rattle.std.specs.Prelude.{◌≡◌, ◌⊎◌, ℕ, ◌^◌, ◌<◌, ◌≤◌, List, [], ◌++◌, length, map};
+ghost use Rattle.std.specs.Prelude.{◌≡◌, ◌⊎◌, ℕ, ◌^◌, ◌<◌, ◌≤◌, List, [], ◌++◌, length, map, max};
 ghost use Rattle.wtp_dynamic_encoder.specs.declared.proposal.Policy.{Policy};
 ghost use Rattle.wtp_dynamic_encoder.specs.declared.proposal.Proposal.{Proposal};
 ghost use Rattle.wtp_dynamic_encoder.specs.Choosing.{field_of};
@@ -10,8 +10,8 @@ ghost use Rattle.wtp_dynamic.specs.Instruction.{Instruction};
 ghost use Rattle.wtp_dynamic.specs.Stream as encoder_stream;
 ghost use Rattle.wtp_dynamic.specs.Answer.{HasFields};
 ghost use Rattle.wtp_dynamic.specs.EncoderState.{Encoder, Owes, IsOpen};
-ghost use Rattle.wtp_dynamic_encoder.specs.Acknowledging.{Ledger, Stands, Breaks};
-ghost use Rattle.wtp_dynamic_encoder.specs.Encoding.{Ordered, IsSent, needed, sent_of, first_sections};
+ghost use Rattle.wtp_dynamic_encoder.specs.Acknowledging.{Ledger, Stands, Reaches, Breaks};
+ghost use Rattle.wtp_dynamic_encoder.specs.Encoding.{Ordered, AreOffered, IsSent, needed, sent_of, first_sections};
 
 /// However a decoder stream is cut: what pieces lead to one after the other, they lead to joined;
 /// and there is one result. What follows a fault changes nothing.
@@ -71,4 +71,21 @@ pub fn sections_taken_back()
     ensures { (stream most : ℕ) (policy : Policy) (proposals : List Proposal) (written : Table) (old new : Ledger)
         (before after : List ℕ) → IsSent stream most policy proposals written old new before after
         → first_sections (length old.1) new ≡ old }
+{}
+
+/// An encoder needs no more room than its capacity and its policy say: fields that are encoded leave the
+/// capacity as it is, and a section is noted only while fewer are not acknowledged than the policy
+/// allows. The decoder stream leaves no more sections than there were.
+pub fn encoders_keep_their_room()
+    ensures capacity { (policy : Policy) (proposals : List Proposal) (ledger : Ledger) (old new : Table)
+        (before after : List ℕ) → AreOffered policy proposals ledger old new before after
+        → new.capacity ≡ old.capacity }
+    ensures sent { (stream most : ℕ) (policy : Policy) (proposals : List Proposal) (written : Table)
+        (old new : Ledger) (before after : List ℕ)
+        → IsSent stream most policy proposals written old new before after
+        → length new.1 ≤ max (length old.1) policy.unacknowledged }
+    ensures read { (inserted : ℕ) (start : Ledger) (bytes : List ℕ) (ledger : Ledger) (held : List ℕ)
+        → Stands inserted start bytes ledger held → length ledger.1 ≤ length start.1 }
+    ensures failed { (inserted : ℕ) (start : Ledger) (bytes : List ℕ) (ledger : Ledger)
+        → Reaches inserted start bytes ledger → length ledger.1 ≤ length start.1 }
 {}
