@@ -10,7 +10,7 @@ use Rattle.wtp_wire.specs.declared.capsule.CapsuleError.TheVariants as capsule_e
 use Rattle.wtp_webtransport.specs.declared.capsules.CapsuleType.{CapsuleType}
 use Rattle.wtp_webtransport.specs.declared.capsules.Sort.{Sort}
 use Rattle.wtp_webtransport.specs.declared.capsules.Sort.TheVariants.{Read, Skip, Refuse}
-use Rattle.wtp_webtransport.specs.Capsules.{Found, Place, Head, Value, Skipping, between, skipping, place_by, value_taken, skip_taken, starts, sort_of, head_by, head_taken, Taken, taken_of, CapsuleIs, IsPlace}
+use Rattle.wtp_webtransport.specs.Capsules.{Found, Place, Head, Value, Skipping, between, skipping, place_by, value_taken, skip_taken, starts, sort_of, head_by, head_taken, Taken, taken_of, CapsuleIs, IsPlace, IsWithin}
 use Rattle.wtp_webtransport.specs.Cuts.{Run, rests, breaks, followed, after_found, by_taken, run_within, run, IsProper}
 use Rattle.wtp_webtransport.proofs.CapsuleLemmas.{no_pair, not_none}
 
@@ -316,3 +316,31 @@ pub refused_as_written : (id n : ℕ) (head more : List ℕ)
 refused_as_written id n head more e s =
     begun id n head more e
     ∙ ap (λ (x : Sort). by_taken (λ q rest. run q rest) (starts x n more)) s
+
+-- ---- a step leaves less
+
+value_fewer : (k : CapsuleType) (v : List ℕ) (n : ℕ) (y : List ℕ) → length (value_taken k v n y).2 ≤ length y
+value_fewer k v n y = elim (cases_lt (length y) n) [
+  | inl part ↦ rw (lt-ltb (length y) n part) (omega arith)
+  | inr whole ↦ rw (le-ltb (length y) n whole) (omega (arith, length-drop n y))
+]
+
+value_less : (k : CapsuleType) (v : List ℕ) (n : ℕ) (y : List ℕ) → 0 < n → 0 < length y → length (value_taken k v n y).2 < length y
+value_less k v n y some full = elim (cases_lt (length y) n) [
+  | inl part ↦ rw (lt-ltb (length y) n part) (omega (arith, full))
+  | inr whole ↦ rw (le-ltb (length y) n whole) (omega (arith, length-drop n y, some, whole))
+]
+
+starts_fewer : (sort : Sort) (n : ℕ) (r : List ℕ) → length (starts sort n r).2 ≤ length r
+starts_fewer (Read k) n r = value_fewer k [] n r
+starts_fewer Skip n r = omega (arith, length-drop n r)
+starts_fewer Refuse n r = omega arith
+
+head_less : (o : Option ((ℕ × ℕ) × List ℕ)) (h a : List ℕ) → pair_at h ≡ None → 0 < length a → pair_at (h ++ a) ≡ o → length (head_by (h ++ a) o).2 < length a
+head_less None h a none full e = full
+head_less (Some p) h a none full e = omega (arith, starts_fewer (sort_of p.0.0 p.0.1) p.0.1 p.1, longer h a p.0.0 p.0.1 p.1 none e)
+
+pub taken_less : (p : Place) (a : List ℕ) → IsWithin p → 0 < length a → length (taken_of p a).2 < length a
+taken_less (Head h) a w full = head_less (pair_at (h ++ a)) h a w full refl
+taken_less (Value k v n) a w full = value_less k v n a w full
+taken_less (Skipping n) a w full = omega (arith, length-drop n a, w, full)

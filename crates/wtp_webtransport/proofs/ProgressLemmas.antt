@@ -1,9 +1,8 @@
 -- A loop of calls ends.
-use Rattle.std.proofs.Common.{◌≡◌, ℕ, ◌+◌, ◌-◌, ◌==◌, ◌<◌, ◌≤◌, ◌&&◌, ◌||◌, not, nat_lt, Bool, true, false, cond, List, [], ◌∷◌, ◌++◌, length, take, drop, Option, Some, None, Result, Ok, Err, refl, sym, ap, subst, ◌∙◌, arith, inl, inr, length-drop, length-take}
-use Rattle.std.proofs.lemmas.Bool.{cases_lt, lt-ltb, le-ltb, ltb-true, ltb-false}
+use Rattle.std.proofs.Common.{◌≡◌, ℕ, ◌+◌, ◌-◌, ◌==◌, ◌<◌, ◌≤◌, ◌&&◌, ◌||◌, not, nat_lt, Bool, true, false, cond, List, [], ◌∷◌, ◌++◌, length, take, drop, Option, Some, None, Result, Ok, Err, refl, sym, ap, subst, ◌∙◌, arith, length-drop, length-take}
+use Rattle.std.proofs.lemmas.Bool.{ltb-true, ltb-false}
 use Rattle.wtp_core.specs.Varint.{number_at}
 use Rattle.wtp_qpack.specs.Field.{Field}
-use Rattle.wtp_wire.specs.Settings.{pair_at}
 use Rattle.wtp_wire.specs.CloseSession.{close_in}
 use Rattle.wtp_wire.specs.declared.capsule.CapsuleError.TheVariants as capsule_error
 use Rattle.wtp_frames.specs.Reading.{slice}
@@ -47,8 +46,6 @@ use Rattle.wtp_dynamic_fields.specs.declared.section.TableSectionError.{TableSec
 use Rattle.wtp_dynamic_fields.specs.declared.section.TableSectionError.TheVariants as table_error
 use Rattle.wtp_webtransport.specs.declared.capsules.CapsuleType.{CapsuleType}
 use Rattle.wtp_webtransport.specs.declared.capsules.CapsuleType.TheVariants as capsule
-use Rattle.wtp_webtransport.specs.declared.capsules.Sort.{Sort}
-use Rattle.wtp_webtransport.specs.declared.capsules.Sort.TheVariants.{Read, Skip, Refuse}
 use Rattle.wtp_webtransport.specs.declared.connection.Connection.{Connection}
 use Rattle.wtp_webtransport.specs.declared.connection.messages.Taken.{Taken as Section}
 use Rattle.wtp_webtransport.specs.declared.connection.messages.Taken.TheVariants as taken
@@ -64,7 +61,7 @@ use Rattle.wtp_webtransport.specs.declared.stream.Unread.{Unread}
 use Rattle.wtp_webtransport.specs.declared.stream.Unread.TheVariants as unread
 use Rattle.wtp_webtransport.specs.declared.stream.Due.{Due}
 use Rattle.wtp_webtransport.specs.declared.stream.Due.TheVariants as due
-use Rattle.wtp_webtransport.specs.Capsules.{Found, Place, Head, Value, Skipping, value_taken, starts, sort_of, head_by, Taken, taken_of, CapsuleIs, IsWithin}
+use Rattle.wtp_webtransport.specs.Capsules.{Found, Place, Head, Taken, CapsuleIs, IsWithin}
 use Rattle.wtp_webtransport.specs.Prefix.{names_table}
 use Rattle.wtp_webtransport.specs.Sessions.{asks_of}
 use Rattle.wtp_webtransport.specs.Streams.{with_streams, with_frames, due_by, spoiled_if, GivesNext}
@@ -72,7 +69,7 @@ use Rattle.wtp_webtransport.specs.Receiving.{Outcome, fails, leaves, found_opene
 use Rattle.wtp_webtransport.specs.Calls.{Continues, course_of}
 use Rattle.wtp_webtransport.specs.Progress.{unread_calls, calls_left, IsSound, GoOn}
 use Rattle.wtp_webtransport.proofs.CallLemmas.{fails_ends}
-use Rattle.wtp_webtransport.proofs.CutLemmas.{longer}
+use Rattle.wtp_webtransport.proofs.CutLemmas.{taken_less}
 use Rattle.wtp_webtransport.proofs.SoundLemmas.{call_sound}
 
 -- ---- calls that take no bytes of the frames
@@ -185,34 +182,6 @@ free_interim c t = elim c.over as (λ b. free_calls (cond {A = Joined} b (c, t, 
   | true ↦ omega arith
   | false ↦ free_opened c t
 ]
-
--- ---- capsules
-
-value_fewer : (k : CapsuleType) (v : List ℕ) (n : ℕ) (y : List ℕ) → length (value_taken k v n y).2 ≤ length y
-value_fewer k v n y = elim (cases_lt (length y) n) [
-  | inl part ↦ rw (lt-ltb (length y) n part) (omega arith)
-  | inr whole ↦ rw (le-ltb (length y) n whole) (omega (arith, length-drop n y))
-]
-
-value_less : (k : CapsuleType) (v : List ℕ) (n : ℕ) (y : List ℕ) → 0 < n → 0 < length y → length (value_taken k v n y).2 < length y
-value_less k v n y some full = elim (cases_lt (length y) n) [
-  | inl part ↦ rw (lt-ltb (length y) n part) (omega (arith, full))
-  | inr whole ↦ rw (le-ltb (length y) n whole) (omega (arith, length-drop n y, some, whole))
-]
-
-starts_fewer : (sort : Sort) (n : ℕ) (r : List ℕ) → length (starts sort n r).2 ≤ length r
-starts_fewer (Read k) n r = value_fewer k [] n r
-starts_fewer Skip n r = omega (arith, length-drop n r)
-starts_fewer Refuse n r = omega arith
-
-head_less : (o : Option ((ℕ × ℕ) × List ℕ)) (h a : List ℕ) → pair_at h ≡ None → 0 < length a → pair_at (h ++ a) ≡ o → length (head_by (h ++ a) o).2 < length a
-head_less None h a none full e = full
-head_less (Some p) h a none full e = omega (arith, starts_fewer (sort_of p.0.0 p.0.1) p.0.1 p.1, longer h a p.0.0 p.0.1 p.1 none e)
-
-taken_less : (p : Place) (a : List ℕ) → IsWithin p → 0 < length a → length (taken_of p a).2 < length a
-taken_less (Head h) a w full = head_less (pair_at (h ++ a)) h a w full refl
-taken_less (Value k v n) a w full = value_less k v n a w full
-taken_less (Skipping n) a w full = omega (arith, length-drop n a, w, full)
 
 -- ---- calls
 

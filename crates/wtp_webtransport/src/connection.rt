@@ -7,6 +7,7 @@ ghost use Rattle.wtp_webtransport.specs.Tables.{Call};
 ghost use Rattle.wtp_webtransport.specs.Streams.{connection_of, resuming_connection, without_early_data, accepted, request_stream, after_error, is_unprocessed_by};
 
 mod messages;
+mod sections;
 mod sessions;
 mod streams;
 mod table;
