@@ -20,3 +20,4 @@ pub mod ErrorLemmas
 pub mod LossLemmas
 pub mod PastLemmas
 pub mod TableLemmas
+pub mod KeptLemmas

@@ -58,6 +58,11 @@ use Rattle.wtp_webtransport.specs.Sessions.{asks_of}
 use Rattle.wtp_webtransport.specs.Streams.{due_by, with_streams, with_frames}
 use Rattle.wtp_webtransport.specs.Receiving.{Outcome, closed_in, fails, leaves, found_opened, goaway_in, content_by, closed_if, complete, capsule_found, CapsulesGive, ContentBy, DataBy, ends_by, SessionEndGives, EndBy, too_large_by, interim_by, request_by, response_in, takes, taken_of, span_in, ReadGives, ResultGives, PrefixGives, SectionBy, told_more, FoundGives, UnreadBy, DueGives, StreamGives, ReceivesIf, Receives, OverGives, TableGives}
 use Rattle.wtp_webtransport.specs.Places.{EndsAt, IsPlaced}
+use Rattle.wtp_webtransport.specs.Events.{Inserted}
+use Rattle.wtp_webtransport.specs.Tables.{with_decoder, without_read, instructed, CallBy, Call}
+use Rattle.wtp_dynamic.specs.declared.error.EncoderStreamError.{EncoderStreamError}
+use Rattle.wtp_dynamic.specs.Table.{insert_count}
+use Rattle.std.specs.Prelude.{MatchResult}
 
 abbrev pub Placed : List ℕ → Outcome → Type 0
 Placed bytes o = (o.0 ≤ length bytes) × IsPlaced o.1 o.0 bytes
@@ -260,3 +265,24 @@ received_placed limit c s bytes fin o gives = (receives_placed c.over limit c s 
 
 pub received_within : (limit : ℕ) (c : Connection) (s : Stream) (bytes : List ℕ) (fin : Bool) (o : Outcome) → Receives limit c s bytes fin o → o.0 ≤ length bytes
 received_within limit c s bytes fin o gives = (receives_placed c.over limit c s bytes fin o gives).0
+
+-- ---- instructions for the dynamic table
+
+read_placed_by : (r : Result (Unit {0}) EncoderStreamError) (c : Connection) (e : Decoder) (s : Stream) (bytes : List ℕ) (o : Outcome)
+    → MatchResult r
+    (λ _. o ≡ (length bytes, Inserted (insert_count e.table), with_decoder c e, s))
+    (λ f. o ≡ fails (with_decoder c e) s (fault.Instructions f) (length bytes))
+    → Placed bytes o
+read_placed_by (Ok u) c e s bytes o g = subst (Placed bytes) (sym g) (all_bytes bytes, tt)
+read_placed_by (Err f) c e s bytes o g =
+    subst (Placed bytes) (sym g) (fails_placed (with_decoder c e) s (fault.Instructions f) (length bytes) bytes (all_bytes bytes))
+
+by_placed : (x : Option Decoder) (limit : ℕ) (c : Connection) (s : Stream) (bytes : List ℕ) (fin : Bool) (o : Outcome) → CallBy x limit c s bytes fin o → Placed bytes o
+by_placed None limit c s bytes fin o gives = receives_placed c.over limit c s bytes fin o gives
+by_placed (Some d) limit c s bytes fin o (e, r, read, gives) = read_placed_by r c e s bytes o gives
+
+pub called_placed : (limit : ℕ) (c : Connection) (s : Stream) (bytes : List ℕ) (fin : Bool) (o : Outcome) → Call limit c s bytes fin o → IsPlaced o.1 o.0 bytes
+called_placed limit c s bytes fin o gives = (by_placed (instructed c s bytes) limit (without_read c) s bytes fin o gives).1
+
+pub called_within : (limit : ℕ) (c : Connection) (s : Stream) (bytes : List ℕ) (fin : Bool) (o : Outcome) → Call limit c s bytes fin o → o.0 ≤ length bytes
+called_within limit c s bytes fin o gives = (by_placed (instructed c s bytes) limit (without_read c) s bytes fin o gives).0

@@ -54,6 +54,20 @@ abbrev pub Call : ℕ → Connection → Stream → List ℕ → Bool → Outcom
 Call limit c s bytes fin o =
     CallBy (instructed c s bytes) limit (without_read c) s bytes fin o
 
+-- ---- the limits of a table
+
+-- another state of the table of a connection: its limits are the same
+pub record HasLimits (old new : Decoder) : Type 0 where
+  pub limit : new.table.limit ≡ old.table.limit
+  pub waiting : new.waiting ≡ old.waiting
+  pub most : new.most ≡ old.most
+
+-- there is a table exactly if there was one, with the same limits
+abbrev pub KeepsLimits : Option Decoder → Option Decoder → Type 0
+KeepsLimits None new = new ≡ None
+KeepsLimits (Some old) None = ⊥
+KeepsLimits (Some old) (Some new) = HasLimits old new
+
 -- ---- the decoder stream (section 4.4)
 
 -- the instruction that is due, if there is one, was appended to bytes; or one is due and allocation

@@ -34,7 +34,8 @@ ghost use Rattle.wtp_webtransport.specs.Capsules.{Found, Place, between, place_b
 ghost use Rattle.wtp_webtransport.specs.Cuts.{breaks, followed, after_found, run, IsProper};
 ghost use Rattle.wtp_webtransport.specs.Places.{IsPlaced};
 ghost use Rattle.wtp_webtransport.specs.Prefix.{names_table};
-ghost use Rattle.wtp_webtransport.specs.Tables.{InstructionsGive};
+ghost use Rattle.wtp_webtransport.specs.Tables.{InstructionsGive, Call, KeepsLimits};
+ghost use Rattle.wtp_webtransport.specs.Words.{without_table};
 ghost use Rattle.wtp_dynamic_decoder.specs.Decoder.{Decoder};
 
 /// A session ends once: `SessionClosed` and `SessionLost` come only on the own stream of a session that
@@ -309,4 +310,18 @@ pub fn streams_are_sound()
     ensures reject { (c : Connection) (s : Stream) (id : ℕ) (goaway : Option ℕ)
         → IsSound s → IsSound (rejects c s id goaway).2 }
     ensures answer { (s : Stream) (status : ℕ) → IsSound s → IsSound (answered s status) }
+{}
+
+/// A call of `receive` keeps the limits of the dynamic table, and makes none: so the bytes of a table
+/// need no more room after it.
+pub fn tables_keep_their_limits()
+    ensures { (limit : ℕ) (c : Connection) (s : Stream) (bytes : List ℕ) (fin : Bool) (o : Outcome)
+        → Call limit c s bytes fin o → KeepsLimits c.decoder o.2.decoder }
+{}
+
+/// A call of `receive` without a dynamic table is one of `Receives`.
+#[tactic(auto, using(crate::proofs::TableLemmas::call_alone))]
+pub fn calls_without_a_table_are_plain()
+    ensures { (limit : ℕ) (c : Connection) (s : Stream) (bytes : List ℕ) (fin : Bool) (o : Outcome)
+        → without_table c ≡ c → Call limit c s bytes fin o → Receives limit c s bytes fin o }
 {}

@@ -1,6 +1,6 @@
 //! The dynamic table: the encoder stream of the peer, and what is due on the own decoder stream (RFC
 //! 9204, sections 2.1, 2.2, 4.3 and 4.4).
-ghost use Rattle.std.specs.Prelude.{◌≡◌, ◌≢◌, false, None, MatchBool};
+ghost use Rattle.std.specs.Prelude.{◌≡◌, ◌≢◌, false, Some, None, MatchBool, MatchOption};
 ghost use Rattle.wtp_webtransport.specs.Events.{told_of};
 ghost use Rattle.wtp_webtransport.specs.Tables.{with_decoder, instructed, CallBy, Says, due_read, after_read, due_inserts, after_inserts, due_cancel, after_cancel, inserts_of, too_many_blocked as too_many_blocked_is};
 
@@ -30,6 +30,30 @@ impl Connection {
         ensures { self.new ≡ with_decoder self.old decoder }
     {
         self.decoder = Some(decoder);
+    }
+
+    /// Returns the dynamic table, if the own SETTINGS allow one.
+    pub fn table(&self) -> Option<&QpackDecoder>
+        ensures { MatchOption result (self.now.decoder ≡ None) (λ d. self.now.decoder ≡ Some d.now) }
+    {
+        self.decoder.as_ref()
+    }
+
+    /// Returns how many insertions the field section needed that is to be
+    /// [acknowledged](Self::acknowledge), if one is.
+    pub fn unacknowledged(&self) -> Option<u64>
+        ensures { result ≡ self.now.read }
+    {
+        self.read
+    }
+
+    /// Gives a connection whose [words](crate::connection::words) were kept its dynamic table, and what
+    /// [`unacknowledged`](Self::unacknowledged) returned.
+    pub fn restore_table(&mut self, decoder: QpackDecoder, unacknowledged: Option<u64>)
+        ensures { self.new ≡ record self.old { decoder = Some decoder; read = unacknowledged } }
+    {
+        self.decoder = Some(decoder);
+        self.read = unacknowledged;
     }
 
     /// Returns how many entries the peer inserted into the dynamic table. A stream that waits for no more
