@@ -128,7 +128,8 @@ int wt_stream_of_session(uint64_t session, wt_stream *stream);
 /* What an event is. `number` is its number, and `detail` its detail. */
 enum {
   WT_EVENT_MORE = 0,     /* more bytes are needed */
-  WT_EVENT_WAITS = 1,    /* the stream waits: detail is one of WT_WAITS_.., number the session */
+  WT_EVENT_WAITS = 1,    /* the stream waits: detail is one of WT_WAITS_.., number the session, or
+                            how many insertions into the dynamic table it needs */
   WT_EVENT_OPENED = 2,   /* what the stream is for: detail is one of WT_PURPOSE_.. */
   WT_EVENT_JOINS = 3,    /* the stream belongs to the session `number`: call wt_stream_join */
   WT_EVENT_JOINED = 4,   /* that session is open: the bytes of the stream follow */
@@ -157,7 +158,9 @@ enum {
   WT_EVENT_CONNECTION_ERROR = 22, /* number is the error code, for the connection: close it */
   WT_EVENT_RESET = 23, /* the peer reset the stream: reset the own half too, with the code `number`
                           if detail is 1 */
-  WT_EVENT_END = 24    /* the stream ended */
+  WT_EVENT_END = 24,     /* the stream ended */
+  WT_EVENT_INSERTED = 26 /* of QPACK's encoder stream, with a table: number is how many entries were
+                            inserted into it. Read again the streams that wait for no more */
 };
 
 /* A session is over after WT_EVENT_SESSION_CLOSED and WT_EVENT_SESSION_LOST, on its own stream:
@@ -182,7 +185,13 @@ enum {
   WT_HEADERS_TRAILERS = 3
 };
 
-enum { WT_WAITS_NOTHING = 0, WT_WAITS_SESSION = 1, WT_WAITS_SETTINGS = 2, WT_WAITS_ANSWER = 3 };
+enum {
+  WT_WAITS_NOTHING = 0,
+  WT_WAITS_SESSION = 1,
+  WT_WAITS_SETTINGS = 2,
+  WT_WAITS_ANSWER = 3,
+  WT_WAITS_TABLE = 4 /* QPACK's dynamic table: for as many insertions as the number says */
+};
 
 /* The rules of messages (RFC 9114, sections 4.1 to 4.4; RFC 9297, section 3.2). */
 enum {
@@ -235,16 +244,16 @@ typedef struct wt_event {
    most 15 of its type and length, or the bytes of its value that came, which are those of a close, at
    most 1028, or of a datagram, at most max_datagram. So room for 1028 bytes, or for max_datagram if
    that is more, suffices (as tests see; a call with too little says how much it needs, and changes
-   nothing). Other streams hold none, and may have null. `table` is for QPACK's dynamic table, which
-   this version does not have: null, with the length 0.
+   nothing). Other streams hold none, and may have null. `table` is QPACK's dynamic table (below), or
+   null, with the length 0, if the own SETTINGS allow none.
    A stream that does not wait leaves at most max_section + 16 bytes, or 4112 if that is more: QUIC's
    window of a stream has to be at least that, or the stream stands still. max_fields / 32 elements of
    `fields` suffice, and as many bytes of `out` as the largest of max_fields, max_datagram and 1024.
    WT_OK: *event is the event. Its fields are the first event->fields of `fields`, with their texts
    in `out`; event->used bytes of `out` are these texts, or what the comments above say.
    WT_BUFFER_TOO_SMALL: an array is too short; *event is the event that comes with enough room, and
-   nothing else changed. WT_INVALID: *connection, *stream or the held bytes are not valid.
-   WT_UNSUPPORTED: a table is given. WT_MEMORY. */
+   nothing else changed. WT_INVALID: *connection, *stream, the held bytes or the table are not valid.
+   WT_MEMORY. */
 int wt_receive(wt_connection *connection, wt_stream *stream, uint8_t *held, size_t held_room,
                uint8_t *table, size_t table_length, const uint8_t *bytes, size_t length,
                uint8_t fin, wt_event *event, wt_field *fields, size_t fields_room, uint8_t *out,
@@ -338,7 +347,8 @@ int wt_session_known(const wt_connection *connection, uint64_t session, const wt
 int wt_stream_join(wt_connection *connection, wt_stream *stream, uint32_t known, wt_event *event);
 
 /* Says what a stream waits for.
-   WT_OK: *waits is one of WT_WAITS_.., and *session is the session that it waits for, otherwise 0.
+   WT_OK: *waits is one of WT_WAITS_.., and *session is the session that it waits for, or how many
+   insertions into the dynamic table, otherwise 0.
    WT_INVALID: *stream is not valid. */
 int wt_stream_waits(const wt_stream *stream, uint32_t *waits, uint64_t *session);
 
@@ -395,6 +405,75 @@ enum {
 /* What to do with a datagram, by what is known of its session: one of WT_DATAGRAM_.., or
    WT_INVALID. */
 int wt_datagram_use(uint32_t known);
+
+/* ---- QPACK's dynamic table (RFC 9204) ----
+
+   An endpoint whose SETTINGS have SETTINGS_QPACK_MAX_TABLE_CAPACITY (0x01) and
+   SETTINGS_QPACK_BLOCKED_STREAMS (0x07) above 0 lets its peer refer to fields that it sent before. It
+   keeps the table in an array of its own, without pointers, and passes that to wt_receive and
+   wt_receive_pushed from the first byte on: for the encoder stream of the peer and for the streams of
+   requests. The streams of sessions, and that of a session once it is open, need no table: a call
+   without one reads them in the same way, and sooner.
+
+     uint8_t *table = malloc(wt_table_size(4096));
+     wt_table_new(4096, table, wt_table_size(4096));
+     ..
+     answer = wt_receive(&connection, &s->state, s->held, sizeof s->held, table, wt_table_size(4096),
+                         ..);
+     wt_table_acknowledge(table, wt_table_size(4096), id, out, sizeof out, &used);
+
+   A stream whose section needs insertions that did not come yet waits: WT_EVENT_WAITS with
+   WT_WAITS_TABLE. It is to be read again once the number of a WT_EVENT_INSERTED, or of
+   wt_table_insert_count, is not below its own. The caller counts the streams that wait so, and calls
+   wt_too_many_blocked where there are more than its SETTINGS allow.
+
+   What is written here is for the own decoder stream, which begins with its type
+   (wt_stream_header_write). `out` needs at most 11 bytes.
+
+   The table needs the same array in all calls: one that is shorter than wt_table_size says, or that
+   begins with other bytes than those of a table, is WT_INVALID. What follows the bytes of the table
+   in the array is not read, and stays. */
+
+/* The size of the array for a table of which the own SETTINGS allow this capacity, in bytes: 104 bytes
+   more than five times the capacity. It is enough for every state of the table. 0: the capacity is 2^60
+   or more. WT_TABLE_SIZE is the same for a smaller constant. */
+#define WT_TABLE_SIZE(capacity) ((size_t)104 + 5 * (size_t)(capacity))
+size_t wt_table_size(uint64_t capacity);
+
+/* Makes a table without entries. WT_INVALID: the capacity is 2^60 or more, or the array is shorter than
+   wt_table_size says. WT_MEMORY. */
+int wt_table_new(uint64_t capacity, uint8_t *table, size_t table_length);
+
+/* Says how many entries were inserted into a table. WT_INVALID, here and in the next three calls: the
+   array has no table. WT_MEMORY. */
+int wt_table_insert_count(const uint8_t *table, size_t table_length, uint64_t *count);
+
+/* Writes the acknowledgment of the field section that the last call of wt_receive or wt_receive_pushed
+   with this table read, if it was read with the table (RFC 9204, section 4.4.1). id is the ID of the
+   stream of that call. Call it after each of these calls, whatever the event is, and before the next
+   one: a message that is malformed has a section that was read, too. It writes once.
+   WT_OK: *used is the size, or 0 if nothing is due. WT_BUFFER_TOO_SMALL: *used is the size, and
+   nothing else changed. WT_MEMORY. */
+int wt_table_acknowledge(uint8_t *table, size_t table_length, uint64_t id, uint8_t *out, size_t room,
+                         size_t *used);
+
+/* Writes how many insertions the peer was not told of, if there are any (RFC 9204, section 4.4.3).
+   Acknowledgments tell it of those that sections needed; when to tell it of others is the caller's
+   choice: after WT_EVENT_INSERTED, for example. The answers are those of wt_table_acknowledge. */
+int wt_table_increment(uint8_t *table, size_t table_length, uint8_t *out, size_t room, size_t *used);
+
+/* Writes the cancellation of the stream with this ID, unless the capacity is 0 (RFC 9204, section
+   4.4.2). It writes at each call: call it once, after wt_table_acknowledge, for each stream of a
+   message whose reading ends before WT_EVENT_END. That is after WT_EVENT_RESET, WT_EVENT_MALFORMED,
+   WT_EVENT_STREAM_ERROR and WT_EVENT_TOO_LARGE, and where the stream is abandoned. The answers are
+   those of wt_table_acknowledge. */
+int wt_table_cancel(uint8_t *table, size_t table_length, uint64_t id, uint8_t *out, size_t room,
+                    size_t *used);
+
+/* Says that more streams wait for the table than the own SETTINGS allow (RFC 9204, section 2.1.2).
+   WT_OK: *event is WT_EVENT_CONNECTION_ERROR with WT_QPACK_DECOMPRESSION_FAILED, or WT_EVENT_MORE
+   after an error of the connection. WT_INVALID: *connection is not valid. */
+int wt_too_many_blocked(wt_connection *connection, wt_event *event);
 
 /* ---- GOAWAY ----
 

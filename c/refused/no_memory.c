@@ -288,6 +288,90 @@ static int receive_pushed(void) {
   return event.kind == WT_EVENT_HEADERS && hold.fin && event.fields == 5 ? WT_MEMORY : WT_INVALID;
 }
 
+/* A server whose table has the entries of RFC 9204, appendix B.2, and a request that refers to them. */
+enum { TABLE_SIZE = 1204 };
+static const char tabled_request[] = "\x01\x06\x03\x00\xd1\xd7\x81\x80";
+
+typedef struct tabled {
+  wt_connection connection;
+  wt_stream encoder, stream;
+  uint8_t table[TABLE_SIZE];
+  wt_event event;
+  wt_field fields[8];
+  uint8_t out[128];
+} tabled;
+
+static int receive_tabled(tabled *t, wt_stream *stream, const char *bytes, size_t size) {
+  return wt_receive(&t->connection, stream, NULL, 0, t->table, TABLE_SIZE, (const uint8_t *)bytes,
+                    size, 0, &t->event, t->fields, 8, t->out, sizeof t->out);
+}
+
+static int begin_tabled(tabled *t) {
+  static const wt_endpoint server = {WT_SIDE_SERVER, 0, 0, 1, 4096, 4096, 100, {0, 0, 0, 0, 0}};
+  static const char inserts[] = "\x3f\xbd\x01\xc0\x0fwww.example.com\xc1\x0c/sample/path";
+  memset(t, 0, sizeof *t);
+  return wt_connection_new(WT_ABI, &server, &t->connection) == WT_OK &&
+         wt_table_new(220, t->table, TABLE_SIZE) == WT_OK &&
+         wt_stream_accept(&t->connection, 2, &t->encoder) == WT_OK &&
+         wt_stream_accept(&t->connection, 4, &t->stream) == WT_OK &&
+         receive_tabled(t, &t->encoder, "\x02", 1) == WT_OK &&
+         receive_tabled(t, &t->encoder, inserts, sizeof inserts - 1) == WT_OK &&
+         t->event.kind == WT_EVENT_INSERTED && t->event.number == 2 &&
+         receive_tabled(t, &t->stream, tabled_request, 8) == WT_OK &&
+         t->event.kind == WT_EVENT_OPENED;
+}
+
+/* Makes a call with allocations refused, after which nothing but its event has changed. */
+static int tabled_call(int (*call)(tabled *t), int is_read) {
+  static tabled t, same;
+  long k = left;
+  int answer;
+  left = -1;
+  if (!begin_tabled(&t)) return WT_INVALID;
+  if (is_read && receive_tabled(&t, &t.stream, tabled_request, 8) != WT_OK) return WT_INVALID;
+  same = t;
+  left = k;
+  answer = call(&t);
+  left = -1;
+  if (answer == WT_MEMORY && memcmp(&t, &same, sizeof t) != 0) return WT_INVALID;
+  return answer;
+}
+
+static int call_receive(tabled *t) { return receive_tabled(t, &t->stream, tabled_request, 8); }
+static int call_insert(tabled *t) { return receive_tabled(t, &t->encoder, "\x02", 1); }
+
+static int call_acknowledge(tabled *t) {
+  size_t used;
+  return wt_table_acknowledge(t->table, TABLE_SIZE, 4, t->out, sizeof t->out, &used);
+}
+
+static int call_increment(tabled *t) {
+  size_t used;
+  return wt_table_increment(t->table, TABLE_SIZE, t->out, sizeof t->out, &used);
+}
+
+static int call_cancel(tabled *t) {
+  size_t used;
+  return wt_table_cancel(t->table, TABLE_SIZE, 4, t->out, sizeof t->out, &used);
+}
+
+static int call_count(tabled *t) {
+  uint64_t count;
+  return wt_table_insert_count(t->table, TABLE_SIZE, &count);
+}
+
+static int tabled_receive(void) { return tabled_call(call_receive, 0); }
+static int tabled_insert(void) { return tabled_call(call_insert, 0); }
+static int tabled_acknowledge(void) { return tabled_call(call_acknowledge, 1); }
+static int tabled_increment(void) { return tabled_call(call_increment, 0); }
+static int tabled_cancel(void) { return tabled_call(call_cancel, 0); }
+static int tabled_count(void) { return tabled_call(call_count, 0); }
+
+static int make_table(void) {
+  uint8_t table[TABLE_SIZE];
+  return wt_table_new(220, table, TABLE_SIZE);
+}
+
 static void refuse(const char *name, int (*call)(void)) {
   for (long k = 0; k < 200; k++) {
     int answer;
@@ -325,6 +409,13 @@ int main(void) {
   refuse("wt_receive of a request", receive_request);
   refuse("wt_receive of a capsule", receive_capsule);
   refuse("wt_receive_pushed", receive_pushed);
+  refuse("wt_table_new", make_table);
+  refuse("wt_table_insert_count", tabled_count);
+  refuse("wt_receive with a table", tabled_receive);
+  refuse("wt_receive of instructions", tabled_insert);
+  refuse("wt_table_acknowledge", tabled_acknowledge);
+  refuse("wt_table_increment", tabled_increment);
+  refuse("wt_table_cancel", tabled_cancel);
   refuse("wt_sending_headers", send_headers);
   refuse("wt_sending_trailers", send_trailers);
   refuse("wt_sending_close", send_close);

@@ -42,6 +42,7 @@ void test_connection_calls(void);
 void test_connection_words(void);
 void test_connection_pushes(void);
 void test_connection_peer(void);
+void test_connection_table(void);
 void test_sending_messages(void);
 void test_sending_sessions(void);
 void test_sending_words(void);

@@ -320,7 +320,7 @@ static void refused(void) {
   CHECK(p->hold.taken == 0 && !p->hold.fin);
   p->hold.taken = 7;
   CHECK(wt_receive_pushed(&c, &p->r.stream, NULL, 0, &table, 1, &p->hold, p->room, 16, post + 3, 7, 1,
-                          &e, NULL, 0, NULL, 0) == WT_UNSUPPORTED);
+                          &e, NULL, 0, NULL, 0) == WT_INVALID);
   CHECK(p->hold.taken == 0 && !p->hold.fin);
   CHECK(e.kind == UINT32_MAX && p->hold.end - p->hold.start == 3);
   p->hold.taken = 7;

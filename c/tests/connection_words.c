@@ -152,7 +152,7 @@ static void rooms(void) {
   memset(out, 0x55, sizeof out);
   memset(&e, 0x55, sizeof e);
   CHECK(wt_receive(&c, &r->stream, NULL, 0, table, 1, session_request, 34, 0, &e, fields, 5, out,
-                   100) == WT_UNSUPPORTED);
+                   100) == WT_INVALID);
   CHECK(e.kind == 0x55555555);
   CHECK(wt_receive(&c, &r->stream, NULL, 0, NULL, 0, session_request, 34, 0, &e, NULL, 0, NULL,
                    0) == WT_BUFFER_TOO_SMALL);

@@ -31,6 +31,7 @@ int main(void) {
   test_connection_words();
   test_connection_pushes();
   test_connection_peer();
+  test_connection_table();
   test_sending_messages();
   test_sending_sessions();
   test_sending_words();

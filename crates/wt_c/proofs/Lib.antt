@@ -16,3 +16,4 @@ pub mod ReceivingLemmas
 pub mod PeerLemmas
 pub mod PushingLemmas
 pub mod SendingLemmas
+pub mod TableLemmas

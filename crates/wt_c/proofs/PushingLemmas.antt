@@ -6,8 +6,8 @@ use Rattle.std.proofs.lemmas.Slice.{between_is}
 use Rattle.std.proofs.lemmas.List.{take_all, drop-append-le, drop_all, drop_at, drop-drop, take_min, length-take, length-take-le, length-append, append-nil}
 use Rattle.std.proofs.lemmas.List.Edits.{take-paste}
 use Rattle.wtp_webtransport.specs.Receiving.{Outcome}
-use Rattle.wtp_webtransport.proofs.PlaceLemmas.{received_within}
-use Rattle.wt_c.specs.declared.status.TheConstants.{OK, BUFFER_TOO_SMALL, INVALID, UNSUPPORTED, MEMORY}
+use Rattle.wtp_webtransport.proofs.PlaceLemmas.{called_within}
+use Rattle.wt_c.specs.declared.status.TheConstants.{OK, BUFFER_TOO_SMALL, INVALID, MEMORY}
 use Rattle.wt_c.specs.declared.connections.WtConnection.{WtConnection}
 use Rattle.wt_c.specs.declared.connections.events.WtEvent.{WtEvent}
 use Rattle.wt_c.specs.declared.connections.hold.WtHold.{WtHold}
@@ -111,9 +111,9 @@ are_read new after room chunk bytes read (suc kept) taken same of_chunk of_array
     }
 
 -- no more bytes are consumed than are read
-pub consumed_within : (connection : WtConnection) (stream : WtStream) (held bytes : List ℕ) (fin : Bool) (o : Outcome) (event : WtEvent) → Gives connection stream held bytes fin o
+pub consumed_within : (connection : WtConnection) (stream : WtStream) (held table bytes : List ℕ) (fin : Bool) (o : Outcome) (event : WtEvent) → Gives connection stream held table bytes fin o
     → event ≡ event_from connection.max_datagram o → event.consumed ≤ length bytes
-consumed_within connection stream held bytes fin o event g e = rw e (received_within connection.max_fields g.c g.s bytes fin o g.receives)
+consumed_within connection stream held table bytes fin o event g e = rw e (called_within connection.max_fields g.c g.s bytes fin o g.receives)
 
 pub consumed_of_chunk : (consumed : ℕ) (bytes chunk : List ℕ) → consumed ≤ length bytes → bytes ≡ chunk → consumed ≤ length chunk
 consumed_of_chunk consumed bytes chunk within same = rw (sym same) within
@@ -122,9 +122,9 @@ pub consumed_of_array : (consumed n : ℕ) (bytes after : List ℕ) → consumed
 consumed_of_array consumed n bytes after within same = omega (arith, within, ap (λ (l : List ℕ). length l) same, length-take n after)
 
 -- the same of the bytes by another name
-pub gives_same : (connection : WtConnection) (stream : WtStream) (held bytes read : List ℕ) (fin last : Bool) (o : Outcome) → bytes ≡ read → fin ≡ last
-    → Gives connection stream held bytes fin o → Gives connection stream held read last o
-gives_same connection stream held bytes read fin last o same end g = rw (sym same, sym end) g
+pub gives_same : (connection : WtConnection) (stream : WtStream) (held table bytes read : List ℕ) (fin last : Bool) (o : Outcome) → bytes ≡ read → fin ≡ last
+    → Gives connection stream held table bytes fin o → Gives connection stream held table read last o
+gives_same connection stream held table bytes read fin last o same end g = rw (sym same, sym end) g
 
 pub leaves_same : (o : Outcome) (connection after : WtConnection) (stream : WtStream) (held held_after bytes read : List ℕ) (fields fields_after : List WtField) (out out_after : List ℕ) (event given : WtEvent)
     → bytes ≡ read → event ≡ given → Leaves o connection after stream held held_after bytes fields fields_after out out_after event
@@ -136,27 +136,25 @@ pub holds_same : (kept held chunk : List ℕ) (n m kind consumed : ℕ) (new : W
 holds_same kept held chunk n m kind consumed new room same size h = rw (sym same, sym size) h
 
 -- memory was lacking for bytes that are held, or for what is read
-pub memory_same : (connection : WtConnection) (stream : WtStream) (held bytes read : List ℕ) (fin last : Bool) → bytes ≡ read → fin ≡ last
-    → (held_by stream held ≢ []) ⊎ ((o : Outcome) × Gives connection stream held bytes fin o × (o.1 ≡ NoMemory))
-    → (held_by stream held ≢ []) ⊎ ((o : Outcome) × Gives connection stream held read last o × (o.1 ≡ NoMemory))
-memory_same connection stream held bytes read fin last same end m = rw (sym same, sym end) m
+pub memory_same : (connection : WtConnection) (stream : WtStream) (held table bytes read : List ℕ) (fin last : Bool) → bytes ≡ read → fin ≡ last
+    → (held_by stream held ≢ []) ⊎ ((table ≢ []) ⊎ ((o : Outcome) × Gives connection stream held table bytes fin o × (o.1 ≡ NoMemory)))
+    → (held_by stream held ≢ []) ⊎ ((table ≢ []) ⊎ ((o : Outcome) × Gives connection stream held table read last o × (o.1 ≡ NoMemory)))
+memory_same connection stream held table bytes read fin last same end m = rw (sym same, sym end) m
 
 -- ---- what wt_receive returns
 
 abbrev pub IsAnswer : ℤ → Type 0
-IsAnswer r = (r ≡ OK) ⊎ ((r ≡ BUFFER_TOO_SMALL) ⊎ ((r ≡ INVALID) ⊎ ((r ≡ UNSUPPORTED) ⊎ (r ≡ MEMORY))))
+IsAnswer r = (r ≡ OK) ⊎ ((r ≡ BUFFER_TOO_SMALL) ⊎ ((r ≡ INVALID) ⊎ (r ≡ MEMORY)))
 
 -- it is the same after it was stored
 pub same_answer : (r : ℤ) → IsAnswer r → to_z w32 (of_z w32 r) ≡ r
 same_answer r (inl e) = rw e refl
 same_answer r (inr (inl e)) = rw e refl
 same_answer r (inr (inr (inl e))) = rw e refl
-same_answer r (inr (inr (inr (inl e)))) = rw e refl
-same_answer r (inr (inr (inr (inr e)))) = rw e refl
+same_answer r (inr (inr (inr e))) = rw e refl
 
 pub is_ok : (r : ℤ) → IsAnswer r → of_z w32 r ≡ 0 → r ≡ OK
 is_ok r (inl e) z = e
 is_ok r (inr (inl e)) z = absurd (omega (arith, rw e at z))
 is_ok r (inr (inr (inl e))) z = absurd (omega (arith, rw e at z))
-is_ok r (inr (inr (inr (inl e)))) z = absurd (omega (arith, rw e at z))
-is_ok r (inr (inr (inr (inr e)))) z = absurd (omega (arith, rw e at z))
+is_ok r (inr (inr (inr e))) z = absurd (omega (arith, rw e at z))

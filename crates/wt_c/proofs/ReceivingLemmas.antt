@@ -1,6 +1,5 @@
 -- The structs and the arrays after a call of wt_receive.
-use Rattle.std.proofs.Common.{◌≡◌, ℕ, ◌==◌, Bool, true, List, [], ◌++◌, length, take, drop, refl, sym, ap, ◌∙◌}
-use Rattle.std.proofs.lemmas.Bool.{eqb-true}
+use Rattle.std.proofs.Common.{◌≡◌, ℕ, List, ◌++◌, length, take, drop, refl, sym, ap, ◌∙◌}
 use Rattle.std.proofs.lemmas.List.{drop_at}
 use Rattle.wtp_webtransport.specs.Events.{Told}
 use Rattle.wtp_webtransport.specs.Places.{IsPlaced}
@@ -15,14 +14,11 @@ use Rattle.wt_c.specs.Connections.{with_connection, stream_with, held_by, HasStr
 use Rattle.wt_c.specs.ConnectionEvents.{fields_of, size_beside, told_within, whole_event}
 use Rattle.wt_c.specs.ConnectionCalls.{place_within, stream_within, Puts, event_from, Leaves}
 use Rattle.wt_c.proofs.ConnectionLemmas.{kept_after}
-use Rattle.wt_c.proofs.LimitLemmas.{empty, sound_within}
+use Rattle.wt_c.proofs.LimitLemmas.{sound_within}
 
 pub event_is : (max : ℕ) (o : Outcome) (event : WtEvent) (given : Told) (left : List ℕ) → event ≡ whole_event given o.0 (length left)
     → given ≡ told_within max o.1 → left ≡ held_in (place_within max o.3.capsules) → event ≡ event_from max o
 event_is max o event given left e g l = rw (e, g, l) refl
-
-pub no_table : (table : List ℕ) (none : Bool) → none ≡ (length table == 0) → none ≡ true → table ≡ []
-no_table table none e t = empty table (eqb-true (length table) 0 (sym e ∙ t))
 
 pub leaves_is : (o : Outcome) (connection after : WtConnection) (stream : WtStream) (held held_after bytes left : List ℕ) (fields fields_after : List WtField) (out out_after : List ℕ) (event : WtEvent) (given : Told)
     → event ≡ whole_event given o.0 (length left) → given ≡ told_within connection.max_datagram o.1 → left ≡ held_in (place_within connection.max_datagram o.3.capsules)

@@ -23,14 +23,16 @@ use Rattle.wtp_webtransport.specs.Events.{Told, SessionClosed, Datagram}
 use Rattle.wtp_webtransport.specs.Fault.{code_of}
 use Rattle.wtp_webtransport.specs.Joining.{Taken}
 use Rattle.wtp_webtransport.specs.Places.{EndsAt, IsPlaced}
-use Rattle.wtp_webtransport.specs.Receiving.{Outcome, Receives}
+use Rattle.wtp_webtransport.specs.Receiving.{Outcome}
 use Rattle.wtp_webtransport.specs.Sessions.{known_of}
 use Rattle.wtp_webtransport.specs.Streams.{accepted, request_stream}
-use Rattle.wtp_webtransport.specs.Words.{held_in, IsSound, without_table}
+use Rattle.wtp_webtransport.specs.Tables.{Call}
+use Rattle.wtp_webtransport.specs.Words.{held_in, IsSound}
 use Rattle.wt_c.specs.Connections.{with_connection, HasConnection, stream_with, HasStream}
 use Rattle.wt_c.specs.ConnectionEvents.{plain, with_bytes, c_event, fields_of, told_within, whole_event}
 use Rattle.wt_c.specs.Fields.{HoldLines}
 use Rattle.wt_c.specs.Output.{WritesPrefix}
+use Rattle.wt_c.specs.Tables.{HasTable}
 use Rattle.wt_c.specs.declared.connections.WtConnection.{WtConnection}
 use Rattle.wt_c.specs.declared.connections.events.WtEvent.{WtEvent}
 use Rattle.wt_c.specs.declared.connections.streams.WtStream.{WtStream}
@@ -74,15 +76,16 @@ Puts (Datagram payload) fields out fields_after out_after n k =
 Puts told fields out fields_after out_after n k =
     HoldLines fields out fields_after out_after n k (fields_of told)
 
--- what the core gives for the connection and the stream of these structs; the connection has no dynamic table
-pub record Gives (connection : WtConnection) (stream : WtStream) (held bytes : List ℕ) (fin : Bool)
-    (o : Outcome) : Type 0 where
+-- What the core gives for the connection and the stream of these structs, and the dynamic table in
+-- these bytes: with none, the connection has no table, and the call is one of Receives.
+pub record Gives (connection : WtConnection) (stream : WtStream) (held table bytes : List ℕ)
+    (fin : Bool) (o : Outcome) : Type 0 where
   pub c : Connection
   pub s : Stream
   pub connection_is : HasConnection c connection
-  pub alone : without_table c ≡ c
+  pub table_is : HasTable c table
   pub stream_is : HasStream s stream held
-  pub receives : Receives connection.max_fields c s bytes fin o
+  pub receives : Call connection.max_fields c s bytes fin o
 
 -- its event
 abbrev pub event_from : ℕ → Outcome → WtEvent

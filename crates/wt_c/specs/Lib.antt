@@ -22,3 +22,4 @@ pub mod PeerSettings
 pub mod Pushing
 pub mod Sending
 pub mod SendingCalls
+pub mod Tables

@@ -18,6 +18,7 @@ pub mod pushing;
 pub mod receiving;
 pub mod sessions;
 pub mod streams;
+pub mod table;
 
 use crate::status::{INVALID, OK};
 use wtp_frames::endpoint::{Endpoint, Side};

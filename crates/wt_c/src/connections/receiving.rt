@@ -1,26 +1,25 @@
 //! What is next on a stream.
-ghost use Rattle.std.specs.Prelude.{◌≡◌, ◌≢◌, ◌⊎◌, ◌≤◌, ◌<◌, ◌==◌, ◌++◌, not, [], length, drop};
-ghost use Rattle.wtp_webtransport.specs.Events.{NoMemory, told_of};
-ghost use Rattle.wtp_webtransport.specs.Receiving.{Outcome, Receives};
-ghost use Rattle.wtp_webtransport.specs.Words.{without_table};
+ghost use Rattle.std.specs.Prelude.{◌≡◌, ◌≢◌, ◌⊎◌, ◌<◌, ◌==◌, not, [], length};
+ghost use Rattle.wtp_webtransport.specs.Events.{NoMemory};
+ghost use Rattle.wtp_webtransport.specs.Receiving.{Outcome};
 ghost use Rattle.wt_c.specs.Connections.{IsNoConnection, held_by, IsNoStream};
 ghost use Rattle.wt_c.specs.ConnectionCalls.{Gives, Leaves, event_from};
+ghost use Rattle.wt_c.specs.Tables.{IsNoTable, LeavesTable};
 
 use crate::connections::WtConnection;
 use crate::connections::beside::{put, put_beside, room_of};
 use crate::connections::events::{WtEvent, event_of, within};
 use crate::connections::streams::WtStream;
+use crate::connections::table::table_of;
 use crate::fields::WtField;
-use crate::status::{BUFFER_TOO_SMALL, INVALID, MEMORY, OK, UNSUPPORTED};
+use crate::status::{BUFFER_TOO_SMALL, INVALID, MEMORY, OK};
 use std::alloc::Global;
-use wtp_webtransport::connection::Connection;
-use wtp_webtransport::event::{Event, Received};
+use wtp_webtransport::event::Event;
 use wtp_webtransport::fields::Fields;
-use wtp_webtransport::stream::Stream;
 
 /// Returns what is next in the bytes of a stream that follow those consumed before. `fin` is not 0
-/// if the stream ends right after them. `table` is the memory of QPACK's dynamic table, which this
-/// version does not have: it is empty.
+/// if the stream ends right after them. `table` is the memory of QPACK's dynamic table, which
+/// `wt_table_new` made for the connection; it is empty if the own SETTINGS allow none.
 ///
 /// - `OK`: `event` is the event. Its bytes are in `bytes`, where it says; its fields are the first
 ///   `count` of `fields`, with their texts in the first `used` bytes of `out`, or its reason or
@@ -28,9 +27,9 @@ use wtp_webtransport::stream::Stream;
 ///   cut.
 /// - `BUFFER_TOO_SMALL`: one of the arrays is shorter than `event` says. The event is the one that
 ///   the call gives where they are not.
-/// - `INVALID`: no connection has `connection`, or no stream has `stream` and the bytes held.
-/// - `UNSUPPORTED`: `table` is not empty.
-/// - `MEMORY`: allocation failed, for the bytes that are held, or for what was read.
+/// - `INVALID`: no connection has `connection`, no stream has `stream` and the bytes held, or no table
+///   is in `table`.
+/// - `MEMORY`: allocation failed, for the bytes that are held, for the table, or for what was read.
 ///
 /// Only `OK` changes anything but `event`, and only `OK` and `BUFFER_TOO_SMALL` change that.
 #[unsafe(no_mangle)]
@@ -47,44 +46,45 @@ pub extern "C" fn wt_receive(
     out: &mut [u8],
 ) -> i32
     ensures answers { (result ≡ OK) ⊎ ((result ≡ BUFFER_TOO_SMALL) ⊎ ((result ≡ INVALID)
-        ⊎ ((result ≡ UNSUPPORTED) ⊎ (result ≡ MEMORY)))) }
+        ⊎ (result ≡ MEMORY))) }
     ensures event { result ≡ OK → (o : Outcome)
-        × Gives connection.old stream.old held.old bytes.now (not (fin == 0)) o
+        × Gives connection.old stream.old held.old table.old bytes.now (not (fin == 0)) o
         × (event.new ≡ event_from connection.old.max_datagram o)
         × Leaves o connection.old connection.new stream.new held.old held.new bytes.now
-        fields.old fields.new out.old out.new event.new }
+        fields.old fields.new out.old out.new event.new
+        × LeavesTable o.2 table.old table.new }
     ensures room { result ≡ BUFFER_TOO_SMALL → (o : Outcome)
-        × Gives connection.old stream.old held.old bytes.now (not (fin == 0)) o
+        × Gives connection.old stream.old held.old table.old bytes.now (not (fin == 0)) o
         × (event.new ≡ event_from connection.old.max_datagram o)
         × ((length fields.old < event.new.count) ⊎ ((length out.old < event.new.used)
         ⊎ (length held.old < event.new.kept))) }
     ensures invalid { result ≡ INVALID → IsNoConnection connection.old
-        ⊎ IsNoStream stream.old held.old }
-    ensures unsupported { result ≡ UNSUPPORTED → table.old ≢ [] }
-    ensures supported { result ≢ UNSUPPORTED → table.old ≡ [] }
-    ensures memory { result ≡ MEMORY → (held_by stream.old held.old ≢ []) ⊎ ((o : Outcome)
-        × Gives connection.old stream.old held.old bytes.now (not (fin == 0)) o
-        × (o.1 ≡ NoMemory)) }
+        ⊎ (IsNoStream stream.old held.old ⊎ ((table.old ≢ []) × IsNoTable table.old)) }
+    ensures memory { result ≡ MEMORY → (held_by stream.old held.old ≢ []) ⊎ ((table.old ≢ [])
+        ⊎ ((o : Outcome)
+        × Gives connection.old stream.old held.old table.old bytes.now (not (fin == 0)) o
+        × (o.1 ≡ NoMemory))) }
     ensures same { result ≢ OK → (connection.new ≡ connection.old) × (stream.new ≡ stream.old)
-        × (held.new ≡ held.old) × (fields.new ≡ fields.old) × (out.new ≡ out.old) }
+        × (held.new ≡ held.old) × (table.new ≡ table.old) × (fields.new ≡ fields.old)
+        × (out.new ≡ out.old) }
     ensures event_same { result ≢ OK → result ≢ BUFFER_TOO_SMALL → event.new ≡ event.old }
-    ensures table_same { table.new ≡ table.old }
 {
-    if !table.is_empty() {
-        return UNSUPPORTED;
-    }
-    let Some(mut common) = connection.static_connection() else {
-        return INVALID;
+    let mut common = match connection.with_table(alloc, table) {
+        Ok(common) => common,
+        Err(rejection) => return rejection.answer(),
     };
     let mut state = match stream.stream(alloc, held) {
         Ok(state) => state,
         Err(rejection) => return rejection.answer(),
     };
     let mut memory = Fields::new(alloc, connection.max_fields);
-    let received = receive(&mut common, &mut state, bytes, fin != 0, &mut memory);
+    let received = common.receive(&mut state, bytes, fin != 0, &mut memory);
     if let Event::NoMemory = &received.event {
         return MEMORY;
     }
+    let Ok(stored) = table_of(alloc, &common) else {
+        return MEMORY;
+    };
     let consumed = received.consumed;
     let given = within(received.event, connection.max_datagram);
     let (after, left) = WtStream::within(&state, connection.max_datagram);
@@ -94,24 +94,8 @@ pub extern "C" fn wt_receive(
     }
     put_beside(&given, fields, out);
     put(left, held);
+    put(stored.as_slice(), table);
     connection.set(&common);
     *stream = after;
     OK
-}
-
-// Returns what is next on a stream of a connection without a dynamic table.
-#[tactic(auto, using(wtp_webtransport::proofs::TableLemmas::call_alone))]
-fn receive<'a>(
-    connection: &mut Connection,
-    stream: &mut Stream,
-    bytes: &'a [u8],
-    fin: bool,
-    fields: &mut Fields,
-) -> Received<'a>
-    requires { without_table connection.old ≡ connection.old }
-    ensures received { Receives fields.old.limit connection.old stream.old bytes.now fin
-        (result.consumed, told_of result.event, connection.new, stream.new) }
-    ensures fields { fields.new ≡ fields.old }
-{
-    connection.receive(stream, bytes, fin, fields)
 }

@@ -11,7 +11,7 @@ returns-then-answer-ne-OK-clause-room c = λ is.
     c.gather-kept.ensures.size c.gather-kept.ensures.held (λ m. c.fill-taken.ensures.size m ∙ ap (λ n. min (length c.args.chunk.now) (n - c.gather-kept.result)) c.gather-kept.auto.room) c.fill-taken.ensures.bytes c.read_from-bytes.ensures.chunk c.read_from-bytes.ensures.array in
     let whole : (c.fill-taken.result == length c.args.chunk.now) ≡ reads_all c.args.hold.now c.args.room.now c.args.chunk.now = whole_is (held_of c.args.hold.now c.args.room.now) c.args.chunk.now c.gather-kept.result c.fill-taken.result (length c.args.room.now) c.gather-kept.ensures.size c.gather-kept.ensures.within c.fill-taken.ensures.none (λ m. c.fill-taken.ensures.size m ∙ ap (λ n. min (length c.args.chunk.now) (n - c.gather-kept.result)) c.gather-kept.auto.room) in
     let last : not (c.last_of-last.result == 0) ≡ (is_ended c.args.hold.now c.args.fin && reads_all c.args.hold.now c.args.room.now c.args.chunk.now) = c.last_of-last.ensures ∙ ap (λ b. b && (c.fill-taken.result == length c.args.chunk.now)) c.is_ended-ended.ensures ∙ ap (λ b. is_ended c.args.hold.now c.args.fin && b) whole in
-    (e.0, gives_same c.args.connection.now c.args.stream.now c.args.held.now c.read_from-bytes.result.now (read_by c.args.hold.now c.args.room.now c.args.chunk.now) (not (c.last_of-last.result == 0)) (is_ended c.args.hold.now c.args.fin && reads_all c.args.hold.now c.args.room.now c.args.chunk.now) e.0 read last e.1, e.2, e.3)
+    (e.0, gives_same c.args.connection.now c.args.stream.now c.args.held.now c.args.table.now c.read_from-bytes.result.now (read_by c.args.hold.now c.args.room.now c.args.chunk.now) (not (c.last_of-last.result == 0)) (is_ended c.args.hold.now c.args.fin && reads_all c.args.hold.now c.args.room.now c.args.chunk.now) e.0 read last e.1, e.2, e.3)
 
 pub returns-then-answer-ne-OK-clause-memory : goal.returns-then-answer-ne-OK-clause-memory
 returns-then-answer-ne-OK-clause-memory c = λ is.
@@ -20,17 +20,17 @@ returns-then-answer-ne-OK-clause-memory c = λ is.
     c.gather-kept.ensures.size c.gather-kept.ensures.held (λ m. c.fill-taken.ensures.size m ∙ ap (λ n. min (length c.args.chunk.now) (n - c.gather-kept.result)) c.gather-kept.auto.room) c.fill-taken.ensures.bytes c.read_from-bytes.ensures.chunk c.read_from-bytes.ensures.array in
     let whole : (c.fill-taken.result == length c.args.chunk.now) ≡ reads_all c.args.hold.now c.args.room.now c.args.chunk.now = whole_is (held_of c.args.hold.now c.args.room.now) c.args.chunk.now c.gather-kept.result c.fill-taken.result (length c.args.room.now) c.gather-kept.ensures.size c.gather-kept.ensures.within c.fill-taken.ensures.none (λ m. c.fill-taken.ensures.size m ∙ ap (λ n. min (length c.args.chunk.now) (n - c.gather-kept.result)) c.gather-kept.auto.room) in
     let last : not (c.last_of-last.result == 0) ≡ (is_ended c.args.hold.now c.args.fin && reads_all c.args.hold.now c.args.room.now c.args.chunk.now) = c.last_of-last.ensures ∙ ap (λ b. b && (c.fill-taken.result == length c.args.chunk.now)) c.is_ended-ended.ensures ∙ ap (λ b. is_ended c.args.hold.now c.args.fin && b) whole in
-    memory_same c.args.connection.now c.args.stream.now c.args.held.now c.read_from-bytes.result.now (read_by c.args.hold.now c.args.room.now c.args.chunk.now) (not (c.last_of-last.result == 0)) (is_ended c.args.hold.now c.args.fin && reads_all c.args.hold.now c.args.room.now c.args.chunk.now) read last e
+    memory_same c.args.connection.now c.args.stream.now c.args.held.now c.args.table.now c.read_from-bytes.result.now (read_by c.args.hold.now c.args.room.now c.args.chunk.now) (not (c.last_of-last.result == 0)) (is_ended c.args.hold.now c.args.fin && reads_all c.args.hold.now c.args.room.now c.args.chunk.now) read last e
 
 pub settle-requires-clause-of_chunk : goal.settle-requires-clause-of_chunk
 settle-requires-clause-of_chunk c = λ none.
     let e = c.wt_receive-answer.ensures.event (is_ok c.wt_receive-answer.result c.wt_receive-answer.ensures.answers c.if-answer-ne-OK.false) in
-    consumed_of_chunk c.wt_receive-answer.new.event.consumed c.read_from-bytes.result.now c.args.chunk.now (consumed_within c.args.connection.now c.args.stream.now c.args.held.now c.read_from-bytes.result.now (not (c.last_of-last.result == 0)) e.0 c.wt_receive-answer.new.event e.1 e.2) (c.read_from-bytes.ensures.chunk none)
+    consumed_of_chunk c.wt_receive-answer.new.event.consumed c.read_from-bytes.result.now c.args.chunk.now (consumed_within c.args.connection.now c.args.stream.now c.args.held.now c.args.table.now c.read_from-bytes.result.now (not (c.last_of-last.result == 0)) e.0 c.wt_receive-answer.new.event e.1 e.2) (c.read_from-bytes.ensures.chunk none)
 
 pub settle-requires-clause-of_array : goal.settle-requires-clause-of_array
 settle-requires-clause-of_array c = λ some.
     let e = c.wt_receive-answer.ensures.event (is_ok c.wt_receive-answer.result c.wt_receive-answer.ensures.answers c.if-answer-ne-OK.false) in
-    consumed_of_array c.wt_receive-answer.new.event.consumed (c.gather-kept.result + c.fill-taken.result) c.read_from-bytes.result.now c.fill-taken.new.room (consumed_within c.args.connection.now c.args.stream.now c.args.held.now c.read_from-bytes.result.now (not (c.last_of-last.result == 0)) e.0 c.wt_receive-answer.new.event e.1 e.2) (c.read_from-bytes.ensures.array some)
+    consumed_of_array c.wt_receive-answer.new.event.consumed (c.gather-kept.result + c.fill-taken.result) c.read_from-bytes.result.now c.fill-taken.new.room (consumed_within c.args.connection.now c.args.stream.now c.args.held.now c.args.table.now c.read_from-bytes.result.now (not (c.last_of-last.result == 0)) e.0 c.wt_receive-answer.new.event e.1 e.2) (c.read_from-bytes.ensures.array some)
 
 pub returns-clause-event : goal.returns-clause-event
 returns-clause-event c = λ _.
@@ -40,10 +40,11 @@ returns-clause-event c = λ _.
     let whole : (c.fill-taken.result == length c.args.chunk.now) ≡ reads_all c.args.hold.now c.args.room.now c.args.chunk.now = whole_is (held_of c.args.hold.now c.args.room.now) c.args.chunk.now c.gather-kept.result c.fill-taken.result (length c.args.room.now) c.gather-kept.ensures.size c.gather-kept.ensures.within c.fill-taken.ensures.none (λ m. c.fill-taken.ensures.size m ∙ ap (λ n. min (length c.args.chunk.now) (n - c.gather-kept.result)) c.gather-kept.auto.room) in
     let last : not (c.last_of-last.result == 0) ≡ (is_ended c.args.hold.now c.args.fin && reads_all c.args.hold.now c.args.room.now c.args.chunk.now) = c.last_of-last.ensures ∙ ap (λ b. b && (c.fill-taken.result == length c.args.chunk.now)) c.is_ended-ended.ensures ∙ ap (λ b. is_ended c.args.hold.now c.args.fin && b) whole in (
       e.0,
-      gives_same c.args.connection.now c.args.stream.now c.args.held.now c.read_from-bytes.result.now (read_by c.args.hold.now c.args.room.now c.args.chunk.now) (not (c.last_of-last.result == 0)) (is_ended c.args.hold.now c.args.fin && reads_all c.args.hold.now c.args.room.now c.args.chunk.now) e.0 read last e.1,
+      gives_same c.args.connection.now c.args.stream.now c.args.held.now c.args.table.now c.read_from-bytes.result.now (read_by c.args.hold.now c.args.room.now c.args.chunk.now) (not (c.last_of-last.result == 0)) (is_ended c.args.hold.now c.args.fin && reads_all c.args.hold.now c.args.room.now c.args.chunk.now) e.0 read last e.1,
       c.settle.ensures.event ∙ ap (λ b. event_in b c.wt_receive-answer.new.event) whole ∙ ap (event_in (reads_all c.args.hold.now c.args.room.now c.args.chunk.now)) e.2,
       leaves_same e.0 c.args.connection.now c.wt_receive-answer.new.connection c.wt_receive-answer.new.stream c.args.held.now c.wt_receive-answer.new.held c.read_from-bytes.result.now (read_by c.args.hold.now c.args.room.now c.args.chunk.now)
           c.args.fields.now c.wt_receive-answer.new.fields c.args.out.now c.wt_receive-answer.new.out c.wt_receive-answer.new.event (event_from c.args.connection.now.max_datagram e.0) read e.2 e.3,
+      e.4,
     )
 
 pub returns-clause-holds : goal.returns-clause-holds
