@@ -79,12 +79,12 @@ EVENT_SESSION_REQUESTED, EVENT_SESSION_READY, EVENT_REJECTED = 9, 10, 11
 EVENT_SESSION_CLOSED, EVENT_SESSION_LOST, EVENT_DATAGRAM, EVENT_DRAINING = 12, 13, 14, 15
 EVENT_SKIPPED, EVENT_DATA, EVENT_STREAM_DATA, EVENT_TOO_LARGE = 16, 17, 18, 19
 EVENT_MALFORMED, EVENT_STREAM_ERROR, EVENT_CONNECTION_ERROR = 20, 21, 22
-EVENT_RESET, EVENT_END = 23, 24
+EVENT_RESET, EVENT_END, EVENT_INSERTED = 23, 24, 26
 
 PURPOSE_CONTROL, PURPOSE_ENCODER, PURPOSE_DECODER = 0, 2, 3
 PURPOSE_SESSION, PURPOSE_MESSAGE, PURPOSE_IGNORED = 4, 6, 8
 HEADERS_REQUEST, HEADERS_INTERIM, HEADERS_RESPONSE, HEADERS_TRAILERS = 0, 1, 2, 3
-WAITS_NOTHING, WAITS_SESSION, WAITS_SETTINGS, WAITS_ANSWER = 0, 1, 2, 3
+WAITS_NOTHING, WAITS_SESSION, WAITS_SETTINGS, WAITS_ANSWER, WAITS_TABLE = 0, 1, 2, 3, 4
 KNOWN_COMING, KNOWN_OPEN, KNOWN_OVER, KNOWN_REFUSED, KNOWN_OTHER = 0, 1, 2, 3, 4
 KNOWN_IMPOSSIBLE = 5
 DATAGRAM_DELIVER, DATAGRAM_EARLY, DATAGRAM_DROP, DATAGRAM_END_STREAM = 0, 1, 2, 3
@@ -298,6 +298,13 @@ ARGUMENTS = {
     "wt_stream_of_session": [c_uint64, STREAM],
     "wt_receive": [*RECEIVES, *GIVES],
     "wt_receive_pushed": [*RECEIVES, HOLD, *BYTES, *GIVES],
+    "wt_table_size": [c_uint64],
+    "wt_table_new": [c_uint64, *BYTES],
+    "wt_table_insert_count": [*BYTES, U64],
+    "wt_table_acknowledge": [*BYTES, c_uint64, *OUT],
+    "wt_table_increment": [*BYTES, *OUT],
+    "wt_table_cancel": [*BYTES, c_uint64, *OUT],
+    "wt_too_many_blocked": [CONNECTION, EVENT],
     "wt_stream_answer": [STREAM, c_uint32],
     "wt_session_known": [CONNECTION, c_uint64, STREAM, c_size_t, U32],
     "wt_stream_join": [CONNECTION, STREAM, c_uint32, EVENT],
@@ -340,6 +347,7 @@ ARGUMENTS = {
 RESULTS = {
     "wt_version": c_uint32,
     "wt_varint_size": c_size_t,
+    "wt_table_size": c_size_t,
     "wt_application_code_to_http3": c_uint64,
 }
 
