@@ -162,6 +162,12 @@ table_fits None (Some f) due dues old bytes has keeps stored = absurd (cc keeps)
 table_fits (Some d) None due dues old bytes has keeps stored = absurd keeps
 table_fits (Some d) (Some f) due dues old bytes has keeps stored = omega (arith, stored.2, has.room, keeps.limit)
 
+-- without a table nothing is put
+pub none_put : (old bytes new : List ℕ) → old ≡ [] → length bytes ≤ length old → new ≡ bytes ++ drop (length bytes) old → new ≡ old
+none_put [] [] new e fits put = put
+none_put [] (b ∷ bytes) new e fits put = absurd (omega (arith, fits))
+none_put (a ∷ old) bytes new e fits put = absurd (cc e)
+
 -- memory is needed for a table alone
 pub table_there : (x y : Option Decoder) (due : Option ℕ) (old : List ℕ) → HasTableBy x due old → KeepsLimits x y → y ≢ None → old ≢ []
 table_there None y due old has keeps some = λ e. some keeps

@@ -82,6 +82,7 @@ pub extern "C" fn wt_receive_pushed(
     ensures not_taken { result ≢ OK → hold.new.taken ≡ 0 }
     ensures hold_valid { IsHold hold.old (length room.old) → IsHold hold.new (length room.old) }
     ensures event_same { result ≢ OK → result ≢ BUFFER_TOO_SMALL → event.new ≡ event.old }
+    ensures without { table.old ≡ [] → table.new ≡ table.old }
 {
     hold.taken = 0;
     if !hold.is_valid(room.len()) {

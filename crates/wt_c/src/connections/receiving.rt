@@ -68,6 +68,7 @@ pub extern "C" fn wt_receive(
         × (held.new ≡ held.old) × (table.new ≡ table.old) × (fields.new ≡ fields.old)
         × (out.new ≡ out.old) }
     ensures event_same { result ≢ OK → result ≢ BUFFER_TOO_SMALL → event.new ≡ event.old }
+    ensures without { table.old ≡ [] → table.new ≡ table.old }
 {
     let mut common = match connection.with_table(alloc, table) {
         Ok(common) => common,
