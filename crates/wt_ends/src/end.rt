@@ -2,16 +2,20 @@
 //! finds goes to an application.
 use crate::network::Network;
 use crate::quic::{Happened, Incoming, Outgoing};
+use crate::tables::Tables;
 use std::alloc::Global;
 use std::collections::VecDeque;
 use wtp_connection::connection::datagrams::DatagramFor;
+use wtp_connection::stream::Purpose;
 use wtp_core::error::Code;
+use wtp_core::varint::VarInt;
+use wtp_fields::fields::FieldList;
 use wtp_frames::endpoint::{Endpoint, Side};
 use wtp_streams::error::Error;
 use wtp_streams::h3::H3Connection;
 use wtp_streams::h3::refused::Refused;
 use wtp_streams::limits::Limits;
-use wtp_webtransport::event::Event;
+use wtp_webtransport::event::{Event, Waits};
 use wtp_wire::settings::Settings;
 
 /// The most turns of a loop.
@@ -23,6 +27,7 @@ pub struct Link {
     pub alloc: Global,
     pub connection: H3Connection,
     pub outgoing: Outgoing,
+    pub tables: Tables,
     /// Open sessions whose streams were closed here, to be reported to the application.
     lost: VecDeque<u64>,
 }
@@ -55,27 +60,15 @@ pub struct End<A: Application + Drop> {
 }
 
 impl<A: Application + Drop> End<A> {
-    /// Creates an end, which begins with its control stream.
+    /// Creates an end with the limits of [`Limits::new`], which begins with its control stream.
     pub fn new(alloc: Global, side: Side, app: A) -> Result<Self, Error> {
-        let mut endpoint = Endpoint::new(side);
-        endpoint.webtransport = true;
-        endpoint.datagrams = true;
-        let mut outgoing = Outgoing::new(alloc, side);
-        let mut connection = H3Connection::new(alloc, endpoint, true, Limits::new());
-        let settings = Settings::builder(alloc)
-            .enable_connect_protocol()?
-            .enable_h3_datagrams()?
-            .enable_webtransport()?
-            .build();
-        let control = outgoing.open_unidirectional();
-        connection.settings(&settings, outgoing.stream(control)?)?;
+        End::with_limits(alloc, side, Limits::new(), app)
+    }
+
+    /// Creates an end with these limits.
+    pub fn with_limits(alloc: Global, side: Side, limits: Limits, app: A) -> Result<Self, Error> {
         Ok(End {
-            link: Link {
-                alloc,
-                connection,
-                outgoing,
-                lost: VecDeque::new(alloc),
-            },
+            link: Link::new(alloc, side, limits)?,
             incoming: Incoming::new(alloc, side),
             app,
         })
@@ -89,7 +82,7 @@ impl<A: Application + Drop> End<A> {
             };
             self.app.reported(&happened)?;
             match happened {
-                Happened::Opened(id) => self.link.connection.accept(id)?,
+                Happened::Opened(id) => self.link.accept(id)?,
                 Happened::Readable(id) => self.read(id)?,
                 Happened::Reset(id, _) => self.reset(id)?,
                 Happened::Stopped(id, code) => self.stop(id, code)?,
@@ -104,6 +97,7 @@ impl<A: Application + Drop> End<A> {
     /// Reads a stream until it needs more bytes, or waits.
     fn read(&mut self, id: u64) -> Result<(), Error> {
         for _turn in 0..TURNS {
+            self.read_acknowledgments(id)?;
             let bytes = self.incoming.bytes(id);
             let fin = self.incoming.is_ended(id);
             let Some(received) = self.link.connection.receive(id, bytes, fin) else {
@@ -112,12 +106,24 @@ impl<A: Application + Drop> End<A> {
             };
             let consumed = received.consumed;
             let is_last = matches!(received.event, Event::More | Event::Waits(_));
+            self.link.note(id, &received.event)?;
             let handled = self.app.handle(&mut self.link, id, received.event);
             self.incoming.consume(id, consumed);
             self.link.settle(id, handled)?;
             if is_last {
                 return Ok(());
             }
+        }
+        Ok(())
+    }
+
+    /// Passes what came on the decoder stream of the peer to the encoder, if this is that stream.
+    fn read_acknowledgments(&mut self, id: u64) -> Result<(), Error> {
+        if self.link.tables.peer_decoder_stream == Some(id) {
+            let bytes = self.incoming.bytes(id);
+            let len = bytes.len();
+            self.link.tables.read_decoder_stream(bytes)?;
+            self.incoming.consume(id, len);
         }
         Ok(())
     }
@@ -163,6 +169,7 @@ impl<A: Application + Drop> End<A> {
         let Some(event) = self.link.connection.reset(id) else {
             return Ok(());
         };
+        self.link.note(id, &event)?;
         let handled = self.app.handle(&mut self.link, id, event);
         self.link.settle(id, handled)
     }
@@ -190,6 +197,138 @@ impl<A: Application + Drop> End<A> {
             DatagramFor::EndStream => self.link.close(datagram.session, Code::H3_DATAGRAM_ERROR),
             DatagramFor::Early | DatagramFor::Discard => Ok(()),
         }
+    }
+}
+
+impl Link {
+    /// Opens the control stream of a connection, and a decoder stream if the peer may have a dynamic table.
+    fn new(alloc: Global, side: Side, limits: Limits) -> Result<Self, Error> {
+        let mut endpoint = Endpoint::new(side);
+        endpoint.webtransport = true;
+        endpoint.datagrams = true;
+        let mut outgoing = Outgoing::new(alloc, side);
+        let mut connection = H3Connection::new(alloc, endpoint, true, limits);
+        let settings = Settings::builder(alloc)
+            .enable_connect_protocol()?
+            .enable_h3_datagrams()?
+            .enable_webtransport()?
+            .qpack_max_table_capacity(VarInt::from_u32(limits.max_table))?
+            .qpack_blocked_streams(VarInt::from_u32(limits.max_blocked))?
+            .build();
+        let control = outgoing.open_unidirectional();
+        connection.settings(&settings, outgoing.stream(control)?)?;
+        let tables = Tables::new(alloc, limits, &mut outgoing)?;
+        Ok(Link {
+            alloc,
+            connection,
+            outgoing,
+            tables,
+            lost: VecDeque::new(alloc),
+        })
+    }
+
+    /// Registers a stream that the peer opened.
+    fn accept(&mut self, id: u64) -> Result<(), Error> {
+        self.connection.accept(id)?;
+        self.tables.begin(id)?;
+        Ok(())
+    }
+
+    /// Does what an event says of the tables, before it is handled.
+    fn note(&mut self, id: u64, event: &Event<'_>) -> Result<(), Error> {
+        self.acknowledge(id)?;
+        match event {
+            Event::Settings(settings, _) => {
+                self.tables.use_settings(settings, &mut self.outgoing)?;
+            }
+            Event::Opened(Purpose::Decoder) => self.tables.peer_decoder_stream = Some(id),
+            Event::Waits(Waits::Table(_)) => self.tables.wait(id, true),
+            Event::Headers(_, _) | Event::Rejected(_, _) => self.tables.wait(id, false),
+            Event::End | Event::Joined(_) => {
+                self.tables.end(id);
+            }
+            Event::Reset(_)
+            | Event::Malformed(_)
+            | Event::TooLarge(_)
+            | Event::StreamError(_)
+            | Event::SessionLost => self.cancel(id)?,
+            _ => {}
+        }
+        Ok(())
+    }
+
+    /// Tells the encoder of the peer which section was read last, on this stream, and what was inserted.
+    fn acknowledge(&mut self, id: u64) -> Result<(), Error> {
+        if let Some(decoder) = self.tables.decoder_stream {
+            let out = self.outgoing.stream(decoder)?;
+            self.connection.acknowledge(id, out)?;
+            self.connection.increment(out)?;
+        }
+        Ok(())
+    }
+
+    /// Tells the encoder of the peer that the stream of a message is read no further, unless it was read to its end.
+    pub fn cancel(&mut self, id: u64) -> Result<(), Error> {
+        if let Some(decoder) = self.tables.decoder_stream {
+            if self.tables.end(id) {
+                self.connection.cancel(id, self.outgoing.stream(decoder)?)?;
+            }
+        }
+        Ok(())
+    }
+
+    /// Reads no more of a stream.
+    pub fn abandon(&mut self, id: u64) -> Result<(), Error> {
+        self.connection.abandon(id);
+        self.cancel(id)
+    }
+}
+
+impl Link {
+    /// Sends a request, which may refer to the table of the peer.
+    pub fn request(&mut self, id: u64, list: &FieldList) -> Result<(), Error> {
+        let out = self.outgoing.stream(id)?;
+        let sent = self.connection.request_with(
+            id,
+            list,
+            &mut self.tables.encoder,
+            &mut self.tables.instructions,
+            out,
+        );
+        self.tables.send_instructions(&mut self.outgoing)?;
+        sent?;
+        self.tables.begin(id)?;
+        Ok(())
+    }
+
+    /// Sends a response, interim or final, which may refer to the table of the peer.
+    pub fn respond(&mut self, id: u64, list: &FieldList) -> Result<(), Error> {
+        let out = self.outgoing.stream(id)?;
+        let sent = self.connection.respond_with(
+            id,
+            list,
+            &mut self.tables.encoder,
+            &mut self.tables.instructions,
+            out,
+        );
+        self.tables.send_instructions(&mut self.outgoing)?;
+        sent?;
+        Ok(())
+    }
+
+    /// Sends trailers, which may refer to the table of the peer.
+    pub fn trailers(&mut self, id: u64, list: &FieldList) -> Result<(), Error> {
+        let out = self.outgoing.stream(id)?;
+        let sent = self.connection.trailers_with(
+            id,
+            list,
+            &mut self.tables.encoder,
+            &mut self.tables.instructions,
+            out,
+        );
+        self.tables.send_instructions(&mut self.outgoing)?;
+        sent?;
+        Ok(())
     }
 }
 
@@ -253,6 +392,7 @@ impl Link {
         if matches!(event, Some(Event::SessionLost)) {
             self.lost.push_back(id)?;
         }
+        self.cancel(id)?;
         self.outgoing.close(id, code)?;
         Ok(())
     }
@@ -264,7 +404,7 @@ impl Link {
         self.connection.close(session, code, reason, out)?;
         self.outgoing.end(session)?;
         self.connection.forget(session);
-        Ok(())
+        self.cancel(session)
     }
 
     /// Sends a datagram of a session.

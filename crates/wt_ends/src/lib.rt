@@ -5,3 +5,4 @@
 pub mod end;
 pub mod network;
 pub mod quic;
+pub mod tables;
