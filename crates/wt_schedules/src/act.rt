@@ -68,8 +68,7 @@ impl Actor {
         what: &str,
         list: &FieldList,
     ) -> Result<(), Error> {
-        let out = link.outgoing.stream(id)?;
-        link.connection.request(id, list, out)?;
+        link.request(id, list)?;
         self.note_section(id, what, list)
     }
 
@@ -175,8 +174,7 @@ impl Actor {
         status: u32,
         list: &FieldList,
     ) -> Result<(), Error> {
-        let out = link.outgoing.stream(id)?;
-        link.connection.respond(id, list, out)?;
+        link.respond(id, list)?;
         let what = format!(in self.alloc; "{what} {status}")?;
         self.note_section(id, what.as_str(), list)
     }
@@ -214,8 +212,7 @@ impl Actor {
             return Ok(());
         }
         let list = trailers(self.alloc, &mut self.random)?;
-        let out = link.outgoing.stream(job.id)?;
-        link.connection.trailers(job.id, &list, out)?;
+        link.trailers(job.id, &list)?;
         self.note_section(job.id, "trailers", &list)
     }
 
@@ -349,6 +346,7 @@ impl Actor {
         let out = link.outgoing.stream(id)?;
         link.connection.close(id, code, reason.as_str(), out)?;
         link.outgoing.end(id)?;
+        link.cancel(id)?;
         let ending = Ending::closed(self.alloc, code, reason.as_bytes())?;
         self.note_ending(id, ending)
     }
@@ -356,7 +354,7 @@ impl Actor {
     /// Closes a session by the end of its stream.
     fn end_session(&mut self, link: &mut Link, id: u64) -> Result<(), Error> {
         link.end(id)?;
-        link.connection.abandon(id);
+        link.abandon(id)?;
         let ending = Ending::closed(self.alloc, 0, &[])?;
         self.note_ending(id, ending)
     }
@@ -375,7 +373,7 @@ impl Actor {
     fn lose_session(&mut self, link: &mut Link, room: Room) -> Result<(), Error> {
         let id = room.session;
         let code = Code::H3_NO_ERROR;
-        link.connection.abandon(id);
+        link.abandon(id)?;
         if room.way != Way::Stop {
             link.outgoing.reset(id, code)?;
             self.journal.do_reset(id, code)?;

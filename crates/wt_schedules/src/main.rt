@@ -12,7 +12,7 @@ mod totals;
 
 use crate::actor::Actor;
 use crate::compare::{Difference, Side, compare};
-use crate::plan::Scale;
+use crate::plan::{Scale, limits};
 use crate::totals::Totals;
 use anyhow::{Result, bail};
 use std::alloc::Global;
@@ -71,7 +71,11 @@ fn print_streams<R: Print>(rt: &R, totals: &Totals) -> io::Result<()> {
     )?;
     println!(rt; "refused after GOAWAY or a session: {}", totals.refused)?;
     println!(rt; "GOAWAY {}, bytes {}", totals.goaways, totals.bytes)?;
-    println!(rt; "contents of 1 MiB: {}", totals.mebibytes)
+    println!(rt; "contents of 1 MiB: {}", totals.mebibytes)?;
+    println!(rt;
+        "sections that refer to a table: {}, that waited for it: {}",
+        totals.referring, totals.blocked
+    )
 }
 
 fn print_sessions<R: Print>(rt: &R, totals: &Totals) -> io::Result<()> {
@@ -93,7 +97,7 @@ fn run(alloc: Global, seed: u64, totals: &mut Totals) -> Result<()> {
     let mut network = Network::new(number.wrapping_add(2), scale.piece);
     match play(&mut client, &mut server, &mut network) {
         Ok(true) => {}
-        Ok(false) => bail!("schedule {seed} does not end"),
+        Ok(false) => bail!("schedule {seed} does not end, or an insertion was not acknowledged"),
         Err(error) => bail!("schedule {seed}: {error}"),
     }
     if let Some((from, difference)) = compare_both(&client.app, &server.app) {
@@ -102,19 +106,23 @@ fn run(alloc: Global, seed: u64, totals: &mut Totals) -> Result<()> {
     }
     totals.count(&client.app.journal);
     totals.count(&server.app.journal);
+    totals.count_sections(&client.link.tables);
+    totals.count_sections(&server.link.tables);
     Ok(())
 }
 
 /// Creates the client.
 fn client(alloc: Global, seed: u64, scale: Scale) -> Result<End<Actor>, Error> {
-    let actor = Actor::client(alloc, seed, scale);
-    End::new(alloc, endpoint::Side::Client, actor)
+    let mut actor = Actor::client(alloc, seed, scale);
+    let limits = limits(&mut actor.random);
+    End::with_limits(alloc, endpoint::Side::Client, limits, actor)
 }
 
 /// Creates the server.
 fn server(alloc: Global, seed: u64, scale: Scale) -> Result<End<Actor>, Error> {
-    let actor = Actor::server(alloc, seed, scale);
-    End::new(alloc, endpoint::Side::Server, actor)
+    let mut actor = Actor::server(alloc, seed, scale);
+    let limits = limits(&mut actor.random);
+    End::with_limits(alloc, endpoint::Side::Server, limits, actor)
 }
 
 /// Compares both directions. Returns what differs, and from which end it came.
@@ -138,7 +146,7 @@ fn compare_both(client: &Actor, server: &Actor) -> Option<(&'static str, Differe
     }
 }
 
-/// Plays a schedule. Returns whether it ends.
+/// Plays a schedule. Returns whether it ends, and each end then knows that the other one read all of its insertions.
 fn play(
     client: &mut End<Actor>,
     server: &mut End<Actor>,
@@ -146,7 +154,8 @@ fn play(
 ) -> Result<bool, Error> {
     for _turn in 0..TURNS {
         if turn(client, server, network)? {
-            return Ok(true);
+            let is_settled = client.link.tables.is_settled();
+            return Ok(is_settled && server.link.tables.is_settled());
         }
     }
     Ok(false)

@@ -7,6 +7,7 @@ use wtp_fields::fields::FieldList;
 use wtp_fields::headers::Headers;
 use wtp_fields::session::UrlParseError;
 use wtp_streams::error::Error;
+use wtp_streams::limits::Limits;
 
 /// How many bytes the largest content has.
 pub const MEBIBYTE: usize = 1 << 20;
@@ -227,6 +228,29 @@ pub fn application_code(number: u32) -> Code {
     Code::new(application_codes::to_http3(number))
 }
 
+/// Chooses the limits of an end: how large a dynamic table its peer may have, and how many streams may wait for it.
+pub fn limits(random: &mut Random) -> Limits {
+    let mut limits = Limits::new();
+    limits.max_table = capacity(random);
+    limits.max_blocked = match random.below(4) {
+        0 => 0,
+        1 => 1,
+        2 => 16,
+        _ => 100,
+    };
+    limits
+}
+
+/// Chooses the capacity of a dynamic table in bytes: none, or 32 to 4,096.
+fn capacity(random: &mut Random) -> u32 {
+    let more = match random.below(4) {
+        0 => return 0,
+        1 => random.below(300),
+        _ => random.below(4_065),
+    };
+    u32::try_from(more).unwrap_or(0).saturating_add(32)
+}
+
 fn name(number: usize) -> &'static str {
     match number {
         0 => "accept",
@@ -242,11 +266,21 @@ fn name(number: usize) -> &'static str {
 pub fn add_fields(alloc: Global, random: &mut Random, list: &mut FieldList) -> Result<(), Error> {
     for _field in 0..random.below(7) {
         let name = name(random.below(8));
-        let len = random.below(60);
-        let value = letters(alloc, random, len)?;
+        let value = value(alloc, random)?;
         list.push(name.as_bytes(), value.as_bytes())?;
     }
     Ok(())
+}
+
+/// Chooses the value of a field: a new one, or one of a few that come again.
+fn value(alloc: Global, random: &mut Random) -> Result<String, AllocError> {
+    if random.one_in(2) {
+        let len = random.below(60);
+        return letters(alloc, random, len);
+    }
+    let mut again = Random::new(random.below(8) as u64);
+    let len = again.below(60);
+    letters(alloc, &mut again, len)
 }
 
 /// Adds the length of the content.

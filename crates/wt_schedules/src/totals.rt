@@ -2,6 +2,7 @@
 use crate::compare::size_of;
 use crate::journal::{Half, Journal, Kind, Left, Session};
 use crate::plan::MEBIBYTE;
+use wt_ends::tables::Tables;
 
 /// How often something happened.
 #[derive(Clone, Copy)]
@@ -24,6 +25,9 @@ pub struct Totals {
     pub dropped: usize,
     pub mebibytes: usize,
     pub bytes: usize,
+    /// Field sections that refer to a dynamic table, and those that waited for it.
+    pub referring: usize,
+    pub blocked: usize,
 }
 
 impl Totals {
@@ -45,6 +49,8 @@ impl Totals {
             dropped: 0,
             mebibytes: 0,
             bytes: 0,
+            referring: 0,
+            blocked: 0,
         }
     }
 
@@ -61,6 +67,12 @@ impl Totals {
         self.datagrams = self.datagrams.saturating_add(journal.came.len());
         let dropped = journal.arrived.saturating_sub(journal.came.len());
         self.dropped = self.dropped.saturating_add(dropped);
+    }
+
+    /// Counts the field sections of an end.
+    pub fn count_sections(&mut self, tables: &Tables) {
+        self.referring = self.referring.saturating_add(tables.referring);
+        self.blocked = self.blocked.saturating_add(tables.blocked);
     }
 
     fn count_half(&mut self, half: &Half) {
