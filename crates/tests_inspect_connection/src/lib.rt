@@ -5,6 +5,8 @@
 #[cfg(test)]
 mod lists;
 #[cfg(test)]
+mod pieces;
+#[cfg(test)]
 mod purposes;
 #[cfg(test)]
 mod same;

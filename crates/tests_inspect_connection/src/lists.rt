@@ -5,9 +5,12 @@ use std::process::Abort;
 use wt_inspect_connection::list::{Channel, ListError, Sender, read_list};
 
 /// A text, how many entries it has, or why it is no list.
-static COUNTS: [(&str, Result<usize, ListError>); 22] = [
+static COUNTS: [(&str, Result<usize, ListError>); 25] = [
     ("", Err(ListError::Empty)),
     ("\n\n", Err(ListError::Empty)),
+    ("\r\n\r", Err(ListError::Empty)),
+    ("0 client a\r\n\r\n4 server b\r", Ok(2)),
+    ("0 client \r\n", Err(ListError::Line(1))),
     ("0 client a", Ok(1)),
     ("0 client a\n", Ok(1)),
     ("\n0 client a\n\n4 server b b\n", Ok(2)),

@@ -1,3 +1,4 @@
 pub mod Lists
 pub mod Purposes
 pub mod Parts
+pub mod Pieces

@@ -1,7 +1,8 @@
 -- The list of what was recorded of a connection: a line for each direction of a stream, and for each
 -- datagram.
-use Rattle.std.specs.Prelude.{◌≡◌, ℕ, ◌+◌, ◌<◌, ◌^◌, ◌/◌, ◌%◌, ◌==◌, ◌&&◌, ◌||◌, ◌⊎◌, Bool, true, false}
-use Rattle.std.specs.Prelude.{List, [], ◌∷◌, ◌++◌, zero, suc, length, codes}
+use Rattle.std.specs.Prelude.{◌≡◌, ℕ, ◌+◌, ◌-◌, ◌<◌, ◌^◌, ◌/◌, ◌%◌, ◌==◌, ◌&&◌, ◌||◌, ◌⊎◌, Bool, true, false}
+use Rattle.std.specs.Prelude.{List, [], ◌∷◌, ◌++◌, zero, suc, length, take, slice_index, codes}
+use Rattle.std.specs.Prelude.{if◌then◌else◌}
 use Rattle.std.specs.List.{list_any, before_first, after_first, position_or_len}
 use Rattle.std.specs.Str.Parse.{IsNumeral, digits_value}
 use Rattle.wt_inspect_connection.specs.declared.list.Sender.{Sender}
@@ -65,9 +66,15 @@ first_word = before_first is_blank
 abbrev pub more_words : List ℕ → List ℕ
 more_words = after_first is_blank
 
--- the first line without its end, and the text after it
+-- a line without the carriage return at its end, if it has one there
+abbrev pub without_return : List ℕ → List ℕ
+without_return line =
+    if slice_index line (length line - 1) == 13 then take (length line - 1) line else line
+
+-- the first line without its end, which is a line feed, or a carriage return and a line feed; and the
+-- text after it
 abbrev pub first_line : List ℕ → List ℕ
-first_line = before_first is_line_end
+first_line text = without_return (before_first is_line_end text)
 
 abbrev pub more_lines : List ℕ → List ℕ
 more_lines = after_first is_line_end

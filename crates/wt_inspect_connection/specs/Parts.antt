@@ -1,7 +1,7 @@
 -- The parts of a connection, and where they are shown: the control streams, the QPACK streams, the
 -- sessions, each with its request, its streams and its datagrams, the other requests by their IDs,
 -- and the rest.
-use Rattle.std.specs.Prelude.{ℕ, ◌*◌, ◌^◌, Bool, nat_lt, if◌then◌else◌, List, Option, Some, None}
+use Rattle.std.specs.Prelude.{ℕ, ◌*◌, ◌^◌, ◌==◌, Bool, true, false, nat_lt, if◌then◌else◌, List, Option, Some, None}
 use Rattle.wt_inspect_connection.specs.declared.part.Group.{Group}
 use Rattle.wt_inspect_connection.specs.declared.part.Group.TheVariants as group-is
 use Rattle.wt_inspect_connection.specs.declared.part.Role.{Role}
@@ -31,3 +31,12 @@ abbrev pub group_by_quarter : Option (ℕ × List ℕ) → Group
 group_by_quarter None = group-is.Other
 group_by_quarter (Some (quarter, rest)) =
     if nat_lt quarter (2 ^ 60) then group-is.Session (4 * quarter) else group-is.Other
+
+-- both are the same
+abbrev pub is_same_group : Group → Group → Bool
+is_same_group group-is.Control group-is.Control = true
+is_same_group group-is.Qpack group-is.Qpack = true
+is_same_group group-is.Other group-is.Other = true
+is_same_group (group-is.Session one) (group-is.Session other) = one == other
+is_same_group (group-is.Request one) (group-is.Request other) = one == other
+is_same_group one other = false

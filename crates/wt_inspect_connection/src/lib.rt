@@ -8,4 +8,5 @@
 
 pub mod list;
 pub mod part;
+pub mod piece;
 pub mod purpose;

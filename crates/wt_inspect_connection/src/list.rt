@@ -5,7 +5,7 @@ ghost use Rattle.wt_inspect_connection.specs.Lists.{AddsLine, FailsAt, HasBlank,
 ghost use Rattle.wt_inspect_connection.specs.Lists.{IsList, IsSender, ListFails, first_line, first_word};
 ghost use Rattle.wt_inspect_connection.specs.Lists.{is_bidirectional, is_same};
 ghost use Rattle.wt_inspect_connection.specs.Lists.{is_same_sender, is_same_stream, may_send};
-ghost use Rattle.wt_inspect_connection.specs.Lists.{more_lines, more_words};
+ghost use Rattle.wt_inspect_connection.specs.Lists.{more_lines, more_words, without_return};
 ghost use Rattle.wt_inspect_connection.specs.declared.list.Channel.{Channel as ChannelValue};
 ghost use Rattle.wt_inspect_connection.specs.declared.list.Entry.{Entry as EntryValue};
 ghost use Rattle.wt_inspect_connection.specs.declared.list.Sender.{Sender as SenderValue};
@@ -90,7 +90,7 @@ impl Sender {
 /// Reads a list: a line `STREAM DIRECTION FILE` for each direction of a stream, with one blank
 /// between the words, and a line for each datagram. STREAM is the ID of a stream in decimal digits,
 /// or `datagrams`; DIRECTION is the end that sent the bytes, `client` or `server`; FILE is the rest
-/// of the line. Empty lines are ignored.
+/// of the line. Empty lines are ignored, and so is a carriage return at the end of a line.
 ///
 /// # Errors
 ///
@@ -130,8 +130,19 @@ fn split_line(text: &str) -> (&str, &str)
     ensures shorter { length result.1.now < length text.now }
 {
     match text.split_once('\n') {
-        Some(parts) => parts,
-        None => (text, ""),
+        Some((line, rest)) => (without_return(line), rest),
+        None => (without_return(text), ""),
+    }
+}
+
+/// Returns a line without the carriage return at its end, if it has one there.
+fn without_return(line: &str) -> &str
+    ensures { result.now ≡ without_return line.now }
+{
+    if line.ends_with('\r') {
+        &line[..line.len() - 1]
+    } else {
+        line
     }
 }
 
@@ -275,7 +286,7 @@ fn is_same_stream(one: Channel, other: Channel) -> bool
 }
 
 /// Returns whether both are the same end.
-fn is_same_sender(one: Sender, other: Sender) -> bool
+pub(crate) fn is_same_sender(one: Sender, other: Sender) -> bool
     ensures { result ≡ is_same_sender one other }
 {
     match (one, other) {

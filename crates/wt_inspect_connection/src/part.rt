@@ -2,7 +2,7 @@
 ghost use Rattle.std.specs.List.Sorted.{IsPermutation, IsSorted};
 ghost use Rattle.std.specs.Prelude.{◌≡◌, IfOk};
 ghost use Rattle.wtp_core.specs.Varint.{number_at};
-ghost use Rattle.wt_inspect_connection.specs.Parts.{group_by_quarter, group_of, role_of};
+ghost use Rattle.wt_inspect_connection.specs.Parts.{group_by_quarter, group_of, is_same_group, role_of};
 
 use crate::list::Sender;
 use crate::purpose::Purpose;
@@ -88,6 +88,20 @@ pub fn group_of_datagram(bytes: &[u8]) -> Group
             Group::Session(4 * quarter.into_inner())
         }
         _ => Group::Other,
+    }
+}
+
+/// Returns whether both are the same.
+pub fn is_same_group(one: Group, other: Group) -> bool
+    ensures { result ≡ is_same_group one other }
+{
+    match (one, other) {
+        (Group::Control, Group::Control)
+        | (Group::Qpack, Group::Qpack)
+        | (Group::Other, Group::Other) => true,
+        (Group::Session(one), Group::Session(other))
+        | (Group::Request(one), Group::Request(other)) => one == other,
+        _ => false,
     }
 }
 

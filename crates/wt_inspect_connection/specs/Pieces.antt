@@ -1,0 +1,106 @@
+-- What was recorded of a connection: the entries of a list, and the bytes of their files.
+use Rattle.std.specs.Prelude.{ℕ, ◌==◌, ◌&&◌, Bool, true, false, if◌then◌else◌}
+use Rattle.std.specs.Prelude.{List, [], ◌∷◌, Option, Some, None}
+use Rattle.wtp_core.specs.Varint.{number_at}
+use Rattle.wt_inspect_connection.specs.Lists.{has_opened, is_same_sender}
+use Rattle.wt_inspect_connection.specs.Parts.{group_by_quarter, group_of, role_of}
+use Rattle.wt_inspect_connection.specs.Purposes.{purpose_of}
+use Rattle.wt_inspect_connection.specs.declared.list.Channel.{Channel}
+use Rattle.wt_inspect_connection.specs.declared.list.Channel.TheVariants as channel-is
+use Rattle.wt_inspect_connection.specs.declared.list.Sender.{Sender}
+use Rattle.wt_inspect_connection.specs.declared.part.Group.{Group}
+use Rattle.wt_inspect_connection.specs.declared.part.Group.TheVariants as group-is
+use Rattle.wt_inspect_connection.specs.declared.part.Part.{Part}
+use Rattle.wt_inspect_connection.specs.declared.part.Role.TheVariants as role-is
+use Rattle.wt_inspect_connection.specs.declared.piece.Piece.{Piece}
+use Rattle.wt_inspect_connection.specs.declared.purpose.Purpose.{Purpose}
+use Rattle.wt_inspect_connection.specs.declared.purpose.Purpose.TheVariants as purpose-is
+
+-- this is what this end sent there, and the end opened that stream
+abbrev pub opens_on : ℕ → Sender → Channel → Bool
+opens_on id sender (channel-is.Stream other) = other == id && has_opened sender id
+opens_on id sender channel-is.Datagram = false
+
+abbrev pub is_opening : ℕ → Piece → Bool
+is_opening id piece = opens_on id piece.entry.sender piece.entry.channel
+
+-- what the end that opened a stream sent on it; no bytes, if it was not recorded
+abbrev pub opening_bytes : ℕ → List Piece → List ℕ
+opening_bytes id [] = []
+opening_bytes id (piece ∷ pieces) =
+    if is_opening id piece then piece.bytes.items else opening_bytes id pieces
+
+-- what a stream of a connection is for
+abbrev pub purpose_in : List Piece → ℕ → Purpose
+purpose_in pieces id = purpose_of id (opening_bytes id pieces)
+
+-- both are the same, and a control stream or one of QPACK
+abbrev pub is_same_critical : Purpose → Purpose → Bool
+is_same_critical purpose-is.Control purpose-is.Control = true
+is_same_critical purpose-is.Encoder purpose-is.Encoder = true
+is_same_critical purpose-is.Decoder purpose-is.Decoder = true
+is_same_critical one other = false
+
+-- this end sent these bytes on its stream for this
+abbrev pub is_sent_for : Sender → Purpose → List ℕ → Sender → Channel → Bool
+is_sent_for sender purpose bytes by (channel-is.Stream id) =
+    is_same_sender by sender && is_same_critical (purpose_of id bytes) purpose
+is_sent_for sender purpose bytes by channel-is.Datagram = false
+
+abbrev pub is_for : Sender → Purpose → Piece → Bool
+is_for sender purpose piece =
+    is_sent_for sender purpose piece.bytes.items piece.entry.sender piece.entry.channel
+
+-- what an end sent on its stream for this, a control stream or one of QPACK, if it was recorded
+abbrev pub stream_for : Sender → Purpose → List Piece → Option (List ℕ)
+stream_for sender purpose [] = None
+stream_for sender purpose (piece ∷ pieces) =
+    if is_for sender purpose piece then Some piece.bytes.items
+    else stream_for sender purpose pieces
+
+abbrev pub session_in_purpose : Purpose → Option ℕ
+session_in_purpose (purpose-is.Session id) = Some id
+session_in_purpose other = None
+
+abbrev pub session_in_group : Group → Option ℕ
+session_in_group (group-is.Session id) = Some id
+session_in_group other = None
+
+-- the ID of the session that bytes on a channel are of, if what they begin with says so
+abbrev pub session_on : List Piece → List ℕ → Channel → Option ℕ
+session_on pieces bytes (channel-is.Stream id) = session_in_purpose (purpose_in pieces id)
+session_on pieces bytes channel-is.Datagram = session_in_group (group_by_quarter (number_at bytes))
+
+abbrev pub session_of : List Piece → Piece → Option ℕ
+session_of pieces piece = session_on pieces piece.bytes.items piece.entry.channel
+
+-- the ID, if there is one, and then these
+abbrev pub with_id : Option ℕ → List ℕ → List ℕ
+with_id None ids = ids
+with_id (Some id) ids = id ∷ ids
+
+-- the IDs of the sessions that these pieces of a connection are of
+abbrev pub session_ids : List Piece → List Piece → List ℕ
+session_ids all [] = []
+session_ids all (piece ∷ pieces) = with_id (session_of all piece) (session_ids all pieces)
+
+-- where bytes that were sent on a channel, which have this place in the list, are shown
+abbrev pub part_on : List Piece → ℕ → List ℕ → Bool → Sender → Channel → Part
+part_on pieces index bytes opens sender (channel-is.Stream id) = record {
+  group = group_of id opens (purpose_in pieces id);
+  role = role_of (purpose_in pieces id);
+  id = id;
+  sender = sender;
+  index = index;
+}
+part_on pieces index bytes opens sender channel-is.Datagram = record {
+  group = group_by_quarter (number_at bytes);
+  role = role-is.Datagram;
+  id = 0;
+  sender = sender;
+  index = index;
+}
+
+abbrev pub part_of : List Piece → ℕ → Piece → Bool → Part
+part_of pieces index piece opens =
+    part_on pieces index piece.bytes.items opens piece.entry.sender piece.entry.channel
