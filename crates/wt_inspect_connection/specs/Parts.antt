@@ -39,4 +39,4 @@ is_same_group group-is.Qpack group-is.Qpack = true
 is_same_group group-is.Other group-is.Other = true
 is_same_group (group-is.Session one) (group-is.Session other) = one == other
 is_same_group (group-is.Request one) (group-is.Request other) = one == other
-is_same_group one other = false
+is_same_group _ _ = false

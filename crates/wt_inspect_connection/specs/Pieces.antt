@@ -19,7 +19,7 @@ use Rattle.wt_inspect_connection.specs.declared.purpose.Purpose.TheVariants as p
 -- this is what this end sent there, and the end opened that stream
 abbrev pub opens_on : ℕ → Sender → Channel → Bool
 opens_on id sender (channel-is.Stream other) = other == id && has_opened sender id
-opens_on id sender channel-is.Datagram = false
+opens_on id _ channel-is.Datagram = false
 
 abbrev pub is_opening : ℕ → Piece → Bool
 is_opening id piece = opens_on id piece.entry.sender piece.entry.channel
@@ -39,13 +39,13 @@ abbrev pub is_same_critical : Purpose → Purpose → Bool
 is_same_critical purpose-is.Control purpose-is.Control = true
 is_same_critical purpose-is.Encoder purpose-is.Encoder = true
 is_same_critical purpose-is.Decoder purpose-is.Decoder = true
-is_same_critical one other = false
+is_same_critical _ _ = false
 
 -- this end sent these bytes on its stream for this
 abbrev pub is_sent_for : Sender → Purpose → List ℕ → Sender → Channel → Bool
 is_sent_for sender purpose bytes by (channel-is.Stream id) =
     is_same_sender by sender && is_same_critical (purpose_of id bytes) purpose
-is_sent_for sender purpose bytes by channel-is.Datagram = false
+is_sent_for _ purpose bytes by channel-is.Datagram = false
 
 abbrev pub is_for : Sender → Purpose → Piece → Bool
 is_for sender purpose piece =
@@ -53,18 +53,18 @@ is_for sender purpose piece =
 
 -- what an end sent on its stream for this, a control stream or one of QPACK, if it was recorded
 abbrev pub stream_for : Sender → Purpose → List Piece → Option (List ℕ)
-stream_for sender purpose [] = None
+stream_for _ _ [] = None
 stream_for sender purpose (piece ∷ pieces) =
     if is_for sender purpose piece then Some piece.bytes.items
     else stream_for sender purpose pieces
 
 abbrev pub session_in_purpose : Purpose → Option ℕ
 session_in_purpose (purpose-is.Session id) = Some id
-session_in_purpose other = None
+session_in_purpose _ = None
 
 abbrev pub session_in_group : Group → Option ℕ
 session_in_group (group-is.Session id) = Some id
-session_in_group other = None
+session_in_group _ = None
 
 -- the ID of the session that bytes on a channel are of, if what they begin with says so
 abbrev pub session_on : List Piece → List ℕ → Channel → Option ℕ

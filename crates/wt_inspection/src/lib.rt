@@ -23,6 +23,7 @@ mod settings;
 
 pub use insertions::{Insertions, instructions_in};
 pub use items::{Inspecting, inspect, inspect_with};
+pub use message::request_opens;
 pub use reading::Recorded;
 pub use wt_inspection_model::item;
 pub use wt_inspection_model::item::{Content, End, Inspection, Item};

@@ -15,6 +15,7 @@ use crate::capsules::CapsuleWalk;
 use crate::message::judge::Judge;
 use crate::message::lines::warning_of_line;
 use crate::message::pseudo::{Pseudo, warning_of_pseudo};
+pub use crate::message::sessions::request_opens;
 use crate::message::sessions::{accepts, connects, is_interim, opens_session};
 use crate::past::Past;
 use crate::reading::{Next, Phase, Reading, add_warning};

@@ -3,13 +3,15 @@ ghost use Rattle.std.specs.Prelude.{[], ◌+◌, ◌-◌, ◌≤◌, IfOk, lengt
 ghost use Rattle.wt_inspection_views.specs.JsonLines.{AreJsonLines, in_object, object_lines};
 ghost use Rattle.wt_inspection_views.specs.Objects.{AddsLines, AddsMembers, IsAt};
 
+mod head;
 mod object;
 mod parts;
 
 use crate::split_warnings;
 use crate::text::shown_of;
-pub use object::Lines;
+pub use head::{PartHead, add_part};
 use object::Object;
+pub use object::{Lines, Origin};
 use parts::{add_capsule, add_capsules, add_instruction, add_section, add_settings, add_signal};
 use std::alloc::{AllocError, Global};
 use wt_inspection_model::item::{

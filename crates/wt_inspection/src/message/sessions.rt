@@ -111,9 +111,9 @@ fn starts_with_two(value: &[u8]) -> bool
     }
 }
 
-/// Returns whether a request is an extended CONNECT with capsules, or a CONNECT whose section cannot
-/// be read up to `:protocol`.
-fn request_opens(section: &FieldSection) -> bool
+/// Returns whether a request, with this header section, is an extended CONNECT with capsules, or a
+/// CONNECT whose section cannot be read up to `:protocol`. Then DATA frames contain capsules.
+pub fn request_opens(section: &FieldSection) -> bool
     ensures { result ≡ request_opens section.now.fault section.now.lines.items }
 {
     match section.fault {

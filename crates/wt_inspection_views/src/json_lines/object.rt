@@ -6,6 +6,7 @@ ghost use Rattle.json.specs.Token.{Token};
 ghost use Rattle.wt_inspection_views.specs.Escaped.{hex_byte};
 ghost use Rattle.wt_inspection_views.specs.JsonLines.{has_unseen, is_late_byte, is_unseen};
 
+use super::head::add_origin;
 use crate::characters::is_invisible;
 use crate::escaped::add_hex_byte;
 use crate::latch::Latch;
@@ -19,11 +20,24 @@ const INITIAL_CAPACITY: usize = 256;
 /// The largest number that each reader of JSON has exactly: 2^53 - 1 (RFC 8259, section 6).
 const LARGEST_NUMBER: u64 = 0x1f_ffff_ffff_ffff;
 
+/// What lines are about, of a connection: the members that each line begins with.
+#[derive(Clone, Copy)]
+pub struct Origin {
+    /// The name of the first member: what the number counts.
+    pub name: &'static str,
+    /// The number, as the ID of a stream.
+    pub number: u64,
+    /// The end that sent it, which is the member `from`.
+    pub from: &'static str,
+}
+
 /// Lines of JSON. A failed allocation is recorded, and [`take`](Lines::take) and
 /// [`into_bytes`](Lines::into_bytes) report it, so what appends lines returns nothing.
 #[derive(Drop)]
 pub struct Lines {
     alloc: Global,
+    /// What the lines are about, if they are of a connection.
+    origin: Option<Origin>,
     text: Vec<u8>,
     /// Room for an object, which is empty between objects.
     room: Vec<u8>,
@@ -35,13 +49,23 @@ impl Lines {
     ghost use Rattle.wt_inspection_views.specs.Objects.{AddsLines, HasLines, IsAt};
 
     /// Creates an empty list of lines.
-    #[tactic(auto, unfolding(crate::specs::Objects::HasLines))]
     pub fn new(alloc: Global) -> Self
+        ensures lines { HasLines 0 result }
+        ensures whole { result.is_whole ≡ true }
+    {
+        Lines::about(alloc, None)
+    }
+
+    /// Creates an empty list of lines. Each line begins with the members of its origin, if there is
+    /// one.
+    #[tactic(auto, unfolding(crate::specs::Objects::HasLines))]
+    pub fn about(alloc: Global, origin: Option<Origin>) -> Self
         ensures lines { HasLines 0 result }
         ensures whole { result.is_whole ≡ true }
     {
         Lines {
             alloc,
+            origin,
             text: Vec::new(alloc),
             room: Vec::new(alloc),
             is_whole: Latch::new(),
@@ -62,12 +86,23 @@ impl Lines {
         ensures none { HasLines 0 self.new }
         ensures whole { self.new.is_whole ≡ true }
     {
-        mem::replace(self, Lines::new(self.alloc)).into_bytes()
+        mem::replace(self, Lines::about(self.alloc, self.origin)).into_bytes()
     }
 
-    /// Begins the object of the next line.
-    #[tactic(auto, unfolding(crate::specs::Objects::HasLines))]
+    /// Begins the object of the next line, with the members of the origin.
     pub(super) fn begin(&mut self) -> Object
+        ensures object { IsAt (in_object []) result }
+        ensures lines { (n : ℕ) → HasLines n self.old → HasLines n self.new }
+    {
+        let origin = self.origin;
+        let mut object = self.begin_empty();
+        add_origin(&mut object, origin);
+        object
+    }
+
+    /// Begins the object of the next line, without members.
+    #[tactic(auto, unfolding(crate::specs::Objects::HasLines))]
+    fn begin_empty(&mut self) -> Object
         ensures object { IsAt (in_object []) result }
         ensures lines { (n : ℕ) → HasLines n self.old → HasLines n self.new }
     {
