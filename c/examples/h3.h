@@ -1,7 +1,8 @@
 /* A connection of HTTP/3 and WebTransport, for a QUIC stack that gives the bytes of a stream once:
    it keeps the streams with the bytes that wait, lets streams join their sessions, does what the
-   events require of QUIC, and passes them on. Copy it into your program, with fields.h. client.c is
-   a small program over it, and examples/server-c a server and a client over ngtcp2.
+   events require of QUIC, and passes them on. Copy it into your program, with fields.h and
+   h3_table.h. client.c is a small program over it, and examples/server-c a server and a client over
+   ngtcp2.
 
    The program defines the functions of "What QUIC does" and on_event, and calls those of "What QUIC
    says". It has the memory of each h3_connection and h3_stream, which begin as zeros and may be the
@@ -13,7 +14,14 @@
 #include <stdio.h>
 #include <stdlib.h>
 
+/* The capacity of QPACK's dynamic table for what is received, in bytes: 0, if the program does not define
+   it, for none. */
+#ifndef H3_TABLE
+#define H3_TABLE 0
+#endif
+
 enum {
+  H3_BLOCKED = 16, /* streams that may wait for entries of the table */
   H3_WINDOW = 1 << 18, /* QUIC's window of a stream: the most bytes of it that are not consumed */
   H3_MAX_FIELDS = 1 << 14, /* of a decoded field section: the own SETTINGS announce it */
   H3_MAX_SECTION = 1 << 14, /* of an encoded one: it is whole before it is read, so it is shorter
@@ -28,6 +36,9 @@ typedef struct h3_connection {
   wt_connection wt;
   bool server;
   h3_stream *streams; /* all of them, from the first one on */
+  h3_stream *own_decoder; /* the own decoder stream of QPACK, or null */
+  uint64_t inserted; /* entries that the peer inserted into the table */
+  uint8_t table[WT_TABLE_SIZE(H3_TABLE)];
   void *user; /* the program's */
 } h3_connection;
 
@@ -44,7 +55,7 @@ struct h3_stream {
   uint8_t *room; /* of the hold, while it holds something */
   uint8_t held[H3_MAX_DATAGRAM]; /* of a capsule that is cut */
   uint32_t waits; /* one of WT_WAITS_.. */
-  uint64_t awaited; /* the session that it waits for */
+  uint64_t awaited; /* the session that it waits for, or the number of insertions */
   void *user; /* the program's */
   uint64_t content; /* the program's */
 };
@@ -84,7 +95,7 @@ void quic_send_datagram(h3_connection *c, const uint8_t *bytes, size_t length);
 /* Closes the connection with an error code; a second time does nothing. */
 void quic_close(h3_connection *c, uint64_t code);
 
-/* ---- Ends ---- */
+/* ---- What the library answers ---- */
 
 static inline void h3_act(h3_stream *s, const h3_event *e);
 
@@ -94,8 +105,13 @@ static inline bool h3_ok(h3_connection *c, int answer) {
   return answer == WT_OK;
 }
 
+#include "h3_table.h"
+
+/* ---- Ends of streams ---- */
+
 /* Drops the bytes that are held: no event consumes them any more. */
 static inline void h3_drop(h3_stream *s) {
+  h3_tell_dropped(s);
   quic_consume(s, s->hold.end - s->hold.start);
   s->hold = (wt_hold){0};
   s->waits = WT_WAITS_NOTHING;
@@ -135,24 +151,43 @@ static inline void h3_send_settings(h3_connection *c, const wt_setting *settings
     quic_send(quic_open(c, false), bytes, size, false);
 }
 
+/* Sends the fields of a message. Returns whether they may be sent. */
+static inline bool h3_send_fields(h3_stream *s, const field_list *f) {
+  uint8_t bytes[1200];
+  size_t size;
+  uint32_t why;
+  if (wt_sending_headers(&s->sending, f->list, f->count, f->texts, f->used, bytes, sizeof bytes,
+                         &size, &why) != WT_OK)
+    return false;
+  quic_send(s, bytes, size, false);
+  return true;
+}
+
+/* Sends content of a message. Returns whether it may be sent. */
+static inline bool h3_send_content(h3_stream *s, const void *content, size_t length) {
+  uint8_t head[16];
+  size_t size;
+  uint32_t why;
+  if (length == 0) return true;
+  if (wt_sending_data(&s->sending, length, head, sizeof head, &size, &why) != WT_OK ||
+      wt_sending_sent(&s->sending, length, &why) != WT_OK)
+    return false;
+  quic_send(s, head, size, false);
+  quic_send(s, content, length, false);
+  return true;
+}
+
 /* Sends fields and content of a message, and ends it if fin is set. Returns whether it may be sent:
    the stream is ended if it may not. */
 static inline bool h3_send_message(h3_stream *s, const field_list *f, const void *content,
                                    size_t length, bool fin) {
-  uint8_t bytes[1200];
-  size_t size, more = 0;
   uint32_t why;
-  if (wt_sending_headers(&s->sending, f->list, f->count, f->texts, f->used, bytes, sizeof bytes,
-                         &size, &why) != WT_OK ||
-      (length > 0 && (wt_sending_data(&s->sending, length, bytes + size, sizeof bytes - size, &more,
-                                      &why) != WT_OK ||
-                      wt_sending_sent(&s->sending, length, &why) != WT_OK)) ||
+  if (!h3_send_fields(s, f) || !h3_send_content(s, content, length) ||
       (fin && wt_sending_finish(&s->sending, &why) != WT_OK)) {
     h3_end_stream(s, WT_H3_INTERNAL_ERROR);
     return false;
   }
-  quic_send(s, bytes, size + more, fin && length == 0);
-  if (length > 0) quic_send(s, content, length, fin);
+  if (fin) quic_send(s, NULL, 0, true);
   return true;
 }
 
@@ -284,7 +319,9 @@ static inline void h3_act(h3_stream *s, const h3_event *e) {
   case WT_EVENT_WAITS:
     s->waits = e->wt.detail;
     s->awaited = e->wt.number;
+    if (s->waits == WT_WAITS_TABLE) h3_count_blocked(s->c);
     return;
+  case WT_EVENT_INSERTED: return;
   case WT_EVENT_JOINS: h3_join(s, e->wt.number); return;
   case WT_EVENT_CONNECTION_ERROR: quic_close(s->c, e->wt.number); return;
   case WT_EVENT_OPENED:
@@ -315,12 +352,14 @@ static inline void h3_act(h3_stream *s, const h3_event *e) {
 
 /* ---- What QUIC says: the program calls it ---- */
 
-/* Begins a connection, whose own SETTINGS allow sessions, datagrams and fields of H3_MAX_FIELDS. */
+/* Begins a connection, whose own SETTINGS allow sessions, datagrams, fields of H3_MAX_FIELDS, and, if
+   that is not 0, a table of H3_TABLE with H3_BLOCKED streams. */
 static inline void h3_begin(h3_connection *c, bool server) {
   wt_endpoint endpoint = {server,          1,  1, server, H3_MAX_SECTION, H3_MAX_FIELDS,
                           H3_MAX_DATAGRAM, {0}};
   c->server = server;
   h3_ok(c, wt_connection_new(WT_ABI, &endpoint, &c->wt));
+  h3_ok(c, wt_table_new(H3_TABLE, c->table, sizeof c->table));
 }
 
 /* Adds a stream, which is zeros; QUIC says its ID now or later. When QUIC and the program need it
@@ -354,10 +393,14 @@ static inline void h3_receive(h3_stream *s, const uint8_t *bytes, size_t length,
   bool pauses;
   s->waits = WT_WAITS_NOTHING;
   do {
-    if (!h3_ok(s->c, wt_receive_pushed(&s->c->wt, &s->wt, s->held, sizeof s->held, NULL, 0,
-                                       &s->hold, s->room, s->room ? H3_WINDOW : 0, bytes, length,
-                                       fin, &e.wt, fields, H3_MAX_FIELDS / 32, out, sizeof out)))
+    if (!h3_ok(s->c,
+               wt_receive_pushed(&s->c->wt, &s->wt, s->held, sizeof s->held,
+                                 h3_uses_table(s) ? s->c->table : NULL,
+                                 h3_uses_table(s) ? sizeof s->c->table : 0, &s->hold, s->room,
+                                 s->room ? H3_WINDOW : 0, bytes, length, fin, &e.wt, fields,
+                                 H3_MAX_FIELDS / 32, out, sizeof out)))
       return;
+    h3_tell_read(s, &e);
     bool is_content = e.wt.kind == WT_EVENT_DATA || e.wt.kind == WT_EVENT_STREAM_DATA;
     quic_consume(s, e.wt.consumed - (is_content ? e.wt.length : 0));
     e.bytes = (s->hold.in_array ? s->room : bytes) + e.wt.offset;
@@ -393,8 +436,9 @@ static inline void h3_was_reset(h3_stream *s, uint64_t code) {
 static inline void h3_was_stopped(h3_stream *s, bool closed) {
   h3_event e = {0};
   uint64_t code;
-  if (s->own && !s->bidirectional && s->session == H3_NONE) { /* the control stream */
-    if (wt_stopped(&s->c->wt, WT_PURPOSE_CONTROL, &code) == WT_ERROR) quic_close(s->c, code);
+  if (s->own && !s->bidirectional && s->session == H3_NONE) { /* of control or QPACK */
+    uint32_t purpose = s == s->c->own_decoder ? WT_PURPOSE_DECODER : WT_PURPOSE_CONTROL;
+    if (wt_stopped(&s->c->wt, purpose, &code) == WT_ERROR) quic_close(s->c, code);
   } else if (closed) h3_abandon(s);
   else if (h3_ok(s->c, wt_stream_stop(&s->c->wt, &s->wt, &e.wt))) h3_act(s, &e);
 }
@@ -419,7 +463,9 @@ static inline void h3_settle(h3_connection *c) {
   do {
     woken = false;
     for (h3_stream *s = c->streams; s; s = s->next) {
-      if (s->waits == WT_WAITS_NOTHING) continue;
+      if (s->waits == WT_WAITS_NOTHING ||
+          (s->waits == WT_WAITS_TABLE && s->awaited > s->c->inserted))
+        continue;
       if (s->waits == WT_WAITS_SESSION) h3_join(s, s->awaited);
       h3_receive(s, (const uint8_t *)"", 0, false);
       woken |= s->waits == WT_WAITS_NOTHING;

@@ -10,6 +10,7 @@ from enum import IntEnum
 from typing import Any, Callable, Iterator
 
 import wtransport_c as c
+from table import Table
 from wtransport import Fields, check, library
 
 
@@ -43,13 +44,16 @@ class Event:
 @dataclass(frozen=True)
 class Limits:
     """In bytes: the largest encoded and decoded field sections that are read, the longest datagram
-    of a capsule, and what is held of a stream that waits for its session, or for something else."""
+    of a capsule, what is held of a stream that waits for its session, or for something else, and
+    the capacity of QPACK's dynamic table. `max_blocked` streams may wait for the table."""
 
     max_section: int
     max_fields: int
     max_datagram: int
     max_early: int
     max_waiting: int
+    table: int
+    max_blocked: int
 
 
 class Connection:
@@ -57,6 +61,7 @@ class Connection:
 
     def __init__(self, limits: Limits) -> None:
         self.words, self.limits = c.Connection(), limits
+        self.table = Table(limits.table)
         self.streams: dict[int, Stream] = {}
         self.over: dict[int, Known] = {}  # of streams that are over: what is known of their IDs
         sizes = limits.max_section, limits.max_fields, limits.max_datagram
@@ -67,7 +72,7 @@ class Connection:
         """Begins a stream that the peer opened; None if it is over, or is not the peer's."""
         if stream_id % 2 == 1 or stream_id in self.over:
             return None
-        stream = self.streams[stream_id] = Stream(self)
+        stream = self.streams[stream_id] = Stream(self, stream_id)
         check(library.wt_stream_accept(self.words, stream_id, stream.words))
         return stream
 
@@ -82,6 +87,14 @@ class Connection:
         if stream_id in self.streams:
             self.over[stream_id] = self.known(stream_id)
             del self.streams[stream_id]
+
+    def count_blocked(self) -> Iterator[Event]:
+        """The error of the connection if too many streams wait for the table."""
+        waiting = sum(stream.waits == Waits.TABLE for stream in self.streams.values())
+        if waiting > self.limits.max_blocked:
+            event = c.Event()
+            check(library.wt_too_many_blocked(self.words, event))
+            yield _event_of(event)
 
     def known(self, session: int) -> Known:
         """What is known of a session."""
@@ -112,10 +125,12 @@ class Connection:
 
 class Stream:
     """The peer's half of a stream: its state, and the bytes that are held of it. `waits` is what it
-    waits for, and `session` the session if that is one."""
+    waits for, and `session` the session if that is one. `id` is None for a stream of a session,
+    which needs no dynamic table."""
 
-    def __init__(self, connection: Connection) -> None:
+    def __init__(self, connection: Connection, stream_id: int | None = None) -> None:
         self.connection, self.words, self.hold = connection, c.Stream(), c.Hold()
+        self.id = stream_id
         self.waits, self.session = Waits.NOTHING, 0
         self._room = create_string_buffer(0)  # has the bytes that are held
         self._capsule = create_string_buffer(0)  # has those of a capsule that is cut
@@ -145,6 +160,8 @@ class Stream:
             yield self._join(event.number) if event.kind == EventKind.JOINS else event
         waits = event.kind == EventKind.WAITS
         self.waits, self.session = (Waits(event.detail), event.number) if waits else (0, 0)
+        if self.waits == Waits.TABLE:
+            yield from self.connection.count_blocked()
 
     def answer(self, status: int) -> None:
         """Says that a CONNECT request is answered with this status."""
@@ -163,16 +180,19 @@ class Stream:
         return self._change(library.wt_stream_abandon, drops=True)
 
     def _next(self, chunk: bytes, end: bool) -> Event:
-        limits, event = self.connection.limits, c.Event()
+        limits, table, event = self.connection.limits, self.connection.table, c.Event()
         fields, texts = _arrays(limits)
+        room = (None, 0) if self.id is None else (table.room, len(table.room))
         check(
             library.wt_receive_pushed(
-                *(self.connection.words, self.words, self._capsule, len(self._capsule), None, 0),
+                *(self.connection.words, self.words, self._capsule, len(self._capsule), *room),
                 *(self.hold, self._room, len(self._room), chunk, len(chunk), end),
                 *(event, fields, len(fields), texts, len(texts)),
             )
         )
         self._capsule_held = event.held
+        if self.id is not None:
+            table.was_read(self.id, event.number if event.kind == EventKind.INSERTED else None)
         if event.kind == EventKind.SESSION_REQUESTED:
             self._capsule = create_string_buffer(max(1028, limits.max_datagram))
         return _event_of(event, self._room if self.hold.in_array else chunk, fields, texts)
@@ -199,7 +219,11 @@ class Stream:
         event = c.Event()
         check(call(self.connection.words, self.words, *arguments, event))
         self._capsule_held = event.held
+        if event.kind == EventKind.JOINED:
+            self.id = None
         if drops:
+            if self.id is not None and self.id % 4 < 2 and not self.is_over:
+                self.connection.table.was_dropped(self.id)
             self.hold = c.Hold()
         return _event_of(event)
 

@@ -19,13 +19,22 @@ from application import Application
 from connection import DatagramUse, Event, EventKind as Kind, HeadersKind, Purpose
 from sessions import Session, Stream
 
-LIMITS = wt.Limits(4096, 16384, max_datagram=1200, max_early=4111, max_waiting=65536)
+LIMITS = wt.Limits(
+    *(4096, 16384),
+    max_datagram=1200,
+    max_early=4111,
+    max_waiting=65536,
+    table=4096,
+    max_blocked=16,
+)
 EARLY_DATAGRAMS = 16  # of sessions that are to come
 SETTINGS = [
     (c.SETTING_MAX_FIELD_SECTION_SIZE, LIMITS.max_fields),
     (c.SETTING_ENABLE_CONNECT_PROTOCOL, 1),
     (c.SETTING_H3_DATAGRAM, 1),
     (c.SETTING_ENABLE_WEBTRANSPORT, 1),
+    (c.SETTING_QPACK_MAX_TABLE_CAPACITY, LIMITS.table),
+    (c.SETTING_QPACK_BLOCKED_STREAMS, LIMITS.max_blocked),
     (0x21 + 0x1F * 1000, 7),  # reserved for exercise
 ]
 ENDS_NO_WAIT = (Kind.MORE, Kind.WAITS, Kind.DATA, Kind.STREAM_DATA, Kind.SKIPPED)
@@ -34,7 +43,8 @@ sender.install()
 
 
 class Connection:
-    """A client's connection, with the own control stream. `handle` takes each event of aioquic."""
+    """A client's connection, with the own control stream, and that of QPACK's decoder once it is
+    needed. `handle` takes each event of aioquic."""
 
     def __init__(self, quic: QuicConnection, application: Application) -> None:
         self.quic, self.application, self.state = quic, application, wt.Connection(LIMITS)
@@ -42,6 +52,7 @@ class Connection:
         self.sessions: dict[int, Session] = {}
         self.early: deque[tuple[int, bytes]] = deque(maxlen=EARLY_DATAGRAMS)
         self.has_changed = self.is_closed = False
+        self.decoder: int | None = None
         self.control = quic.get_next_available_stream_id(is_unidirectional=True)
         head = wtransport.write_stream_header(c.STREAM_CONTROL)
         head += wtransport.write_settings(SETTINGS) + wtransport.write_frame(0x21, b"grease")
@@ -58,6 +69,8 @@ class Connection:
                 stream.was_stopped(event.error_code)
             case events.StopSendingReceived(stream_id=self.control):
                 self.act(None, self.state.was_stopped(Purpose.CONTROL))
+            case events.StopSendingReceived(stream_id=self.decoder):
+                self.act(None, self.state.was_stopped(Purpose.DECODER))
             case events.DatagramFrameReceived():
                 self.act(None, self.state.datagram(event.data))
             case events.ConnectionTerminated():
@@ -70,6 +83,7 @@ class Connection:
                 self._read(stream)
             for _ in range(len(self.early)):
                 self._deliver(*self.early.popleft())
+        self._tell_encoder()
 
     def act(self, stream: Stream | None, event: Event, code: int = c.H3_REQUEST_CANCELLED) -> None:
         """Does what an event requires. `code` is that of a reset; not all events have a stream."""
@@ -121,6 +135,15 @@ class Connection:
             self.act(stream, event)
         if stream.state.is_over:
             stream.end(receiving=True)
+
+    def _tell_encoder(self) -> None:
+        """Sends what is due on the own decoder stream, which is opened for it."""
+        told, self.state.table.told = self.state.table.told, b""
+        if told and self.decoder is None:
+            self.decoder = self.quic.get_next_available_stream_id(is_unidirectional=True)
+            told = wtransport.write_stream_header(c.STREAM_QPACK_DECODER) + told
+        if told:
+            self.quic.send_stream_data(self.decoder, told)
 
     def _deliver(self, session: int, payload: bytes) -> None:
         """Does with a datagram what is known of its session says."""

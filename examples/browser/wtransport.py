@@ -27,7 +27,7 @@ def check(answer: int) -> None:
         raise ValueError(f"a call of the library returned {answer}")
 
 
-def _written(call: Callable[..., int], *arguments: Any) -> bytes:
+def written(call: Callable[..., int], *arguments: Any) -> bytes:
     """The bytes that a call writes, which is made again if it needs more room."""
     room, answer, used = 64, c.BUFFER_TOO_SMALL, c_size_t()
     while answer == c.BUFFER_TOO_SMALL:
@@ -44,7 +44,7 @@ def _written(call: Callable[..., int], *arguments: Any) -> bytes:
 def code_name(code: int) -> str:
     """The name of an error code, or its number if the library has no name for it."""
     try:
-        return _written(library.wt_code_name, code).decode()
+        return written(library.wt_code_name, code).decode()
     except ValueError:
         return hex(code)
 
@@ -85,27 +85,27 @@ def read_settings(payload: bytes) -> dict[int, int]:
 
 def write_stream_header(kind: int, session: int = 0) -> bytes:
     """The header of a unidirectional stream."""
-    return _written(library.wt_stream_header_write, c.StreamHeader(kind, session))
+    return written(library.wt_stream_header_write, c.StreamHeader(kind, session))
 
 
 def write_session_frame(session: int) -> bytes:
     """The header of a session's bidirectional stream."""
-    return _written(library.wt_session_frame_write, session)
+    return written(library.wt_session_frame_write, session)
 
 
 def write_datagram(session: int, payload: bytes) -> bytes:
     """The QUIC datagram of a session's payload."""
-    return _written(library.wt_datagram_write, session, payload, len(payload))
+    return written(library.wt_datagram_write, session, payload, len(payload))
 
 
 def write_frame(kind: int, payload: bytes) -> bytes:
     """A frame, such as one of a reserved type."""
-    return _written(library.wt_frame_write, kind, payload, len(payload))
+    return written(library.wt_frame_write, kind, payload, len(payload))
 
 
 def write_data(content: bytes) -> bytes:
     """A DATA frame."""
-    head = _written(library.wt_frame_write_head, c.FRAME_DATA, len(content))
+    head = written(library.wt_frame_write_head, c.FRAME_DATA, len(content))
     return head + content
 
 
@@ -113,7 +113,7 @@ def write_settings(settings: Iterable[tuple[int, int]]) -> bytes:
     """The SETTINGS frame of (identifier, value) pairs."""
     pairs = list(settings)
     array = (c.Setting * len(pairs))(*pairs)
-    return write_frame(c.FRAME_SETTINGS, _written(library.wt_settings_write, array, len(pairs)))
+    return write_frame(c.FRAME_SETTINGS, written(library.wt_settings_write, array, len(pairs)))
 
 
 def write_response(status: int, pairs: Fields = ()) -> bytes:
@@ -124,10 +124,10 @@ def write_response(status: int, pairs: Fields = ()) -> bytes:
         field.name_offset, field.name_length = at, len(name)
         field.value_offset, field.value_length = at + len(name), len(value)
     call = library.wt_response_write
-    return _written(call, status, fields, len(pairs), texts, len(texts))
+    return written(call, status, fields, len(pairs), texts, len(texts))
 
 
 def write_close(code: int, reason: str) -> bytes:
     """The DATA frame with the capsule that closes a session."""
     text = reason.encode()
-    return write_data(_written(library.wt_close_write, code, text, len(text)))
+    return write_data(written(library.wt_close_write, code, text, len(text)))

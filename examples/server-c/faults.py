@@ -73,7 +73,8 @@ ROWS = [
     Row("a push stream of a client", UNI, b"\x01\x00", 0x103),
     Row("settings of 4097 bytes", CONTROL, number(0x04) + number(4097), 0x107),
     # RFC 9204, sections 4.3 and 4.4
-    Row("a table's capacity above that which was allowed", UNI, b"\x02\x3f\x01", 0x201),
+    Row("a table's capacity above that which was allowed", UNI, b"\x02\x3f\xe2\x1f", 0x201),
+    Row("an entry of 33 bytes in a table of 32", UNI, b"\x02\x3f\x01\x41a\x00", 0x201),
     Row("a duplicate of no entry", UNI, b"\x02\x00", 0x201),
     Row("an acknowledgment of no section", UNI, b"\x03\x80", 0x202),
     Row("an increment by 0", UNI, b"\x03\x00", 0x202),
@@ -208,6 +209,33 @@ async def reads_long_frames(port):
         return client.stream(stream).data[-13:]
 
 
+# A table of 4096 bytes with the entry :authority = 127.0.0.1, and a GET for / with it (RFC 9204,
+# sections 3.2.2, 4.3 and 4.5).
+INSERTION = b"\x02\x3f\xe1\x1f\xc0\x09127.0.0.1"
+WITH_ENTRY = frame(0x01, b"\x02\x00\xd1\xd7\xc1\x80")
+MAY_WAIT = 16
+
+
+async def answers_blocked(port):
+    """Requests that wait for an entry, as many as may: whether one was answered before it came, and
+    whether all are answered then."""
+    async with client_of(port) as client:
+        asked = [client.open(WITH_ENTRY, end=True) for _ in range(MAY_WAIT)]
+        await asyncio.sleep(0.2)
+        early = any(client.stream(one).data for one in asked)
+        client.open(INSERTION, one_way=True)
+        return early, await client.until(lambda: all(client.stream(one).is_ended for one in asked))
+
+
+async def blocks_too_many(port):
+    """One request more waits than may: the code of the connection."""
+    async with client_of(port) as client:
+        for _ in range(MAY_WAIT + 1):
+            client.open(WITH_ENTRY, end=True)
+        await client.until(lambda: client.closed_by is not None)
+        return client.closed_by
+
+
 class Report:
     """Counts what was checked."""
 
@@ -240,6 +268,8 @@ async def main(port):
         report.check("a control stream that is reset", await resets_control(port), 0x104)
         report.check("a control stream that is stopped", await stops_control(port), 0x104)
         report.check("an echo that is stopped", await stops_echo(port), (0x10C, True))
+        report.check("requests that wait for an entry", await answers_blocked(port), (False, True))
+        report.check("too many that wait for an entry", await blocks_too_many(port), 0x200)
         report.check("431", await refuses_large_fields(port), (True, True))
         report.check("a POST in one frame", await reads_long_frames(port), b"100000 bytes\n")
         saw = await faults.endless_frame(port)

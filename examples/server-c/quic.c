@@ -122,8 +122,10 @@ void quic_send_settings(quic_connection *c) {
                                         {WT_SETTING_ENABLE_CONNECT_PROTOCOL, 1},
                                         {WT_SETTING_H3_DATAGRAM, 1},
                                         {WT_SETTING_ENABLE_WEBTRANSPORT, 1},
-                                        {WT_SETTING_WEBTRANSPORT_MAX_SESSIONS, 100}};
-  h3_send_settings(&c->h3, settings, 5);
+                                        {WT_SETTING_WEBTRANSPORT_MAX_SESSIONS, 100},
+                                        {WT_SETTING_QPACK_MAX_TABLE_CAPACITY, H3_TABLE},
+                                        {WT_SETTING_QPACK_BLOCKED_STREAMS, H3_BLOCKED}};
+  h3_send_settings(&c->h3, settings, 7);
 }
 
 void quic_close(h3_connection *h3, uint64_t code) {

@@ -6,6 +6,7 @@
    stream that ended may be gone. */
 #ifndef QUIC_H
 #define QUIC_H
+#define H3_TABLE 4096
 #include "h3.h"
 #include <gnutls/gnutls.h>
 #include <netinet/in.h>

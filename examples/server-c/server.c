@@ -18,6 +18,7 @@ static char page[PAGE];
 static size_t page_size;
 static volatile bool done;
 static unsigned long sessions, closed, streams, datagrams, resets;
+static uint64_t entries; /* of QPACK's tables */
 
 static bool stop(void) { return done; }
 static void on_signal(int number) { (void)number, done = true; }
@@ -133,7 +134,10 @@ void on_event(h3_stream *s, const h3_event *e) {
   }
 }
 
-void on_gone(quic_connection *c, uint64_t code) { (void)c, (void)code; }
+void on_gone(quic_connection *c, uint64_t code) {
+  (void)code;
+  entries += c->h3.inserted;
+}
 
 int main(int count, char **arguments) {
   FILE *file = count == 6 ? fopen(arguments[5], "rb") : NULL;
@@ -147,7 +151,8 @@ int main(int count, char **arguments) {
   printf("listening on 127.0.0.1:%d\n", quic_begin(atoi(arguments[1]), arguments[3], arguments[4]));
   fflush(stdout);
   quic_run(atof(arguments[2]), stop);
-  printf("%lu sessions, %lu closed, %lu streams, %lu datagrams, %lu resets\n", sessions, closed,
-         streams, datagrams, resets);
+  printf("%lu sessions, %lu closed, %lu streams, %lu datagrams, %lu resets, %" PRIu64
+         " entries of tables\n",
+         sessions, closed, streams, datagrams, resets, entries);
   return 0;
 }
