@@ -1,9 +1,8 @@
 -- DATA frames, trailers and the end of messages, as the other end receives them.
-use Rattle.std.proofs.Common.{◌≡◌, ℕ, ◌+◌, ◌==◌, ◌^◌, ◌<◌, ◌≤◌, Bool, true, false, cond, ltb, List, [], ◌∷◌, ◌++◌, length, Result, Ok, Err, refl, sym, ap, subst, ◌∙◌, arith, length-append}
+use Rattle.std.proofs.Common.{◌≡◌, ℕ, ◌+◌, ◌==◌, ◌^◌, ◌<◌, ◌≤◌, Bool, true, false, cond, ltb, List, [], ◌∷◌, ◌++◌, length, Option, Result, Ok, Err, refl, sym, ap, subst, ◌∙◌, arith, length-append}
 use Rattle.std.proofs.lemmas.Bool.{ltb-false, ltb-true, eqb-false, le-ltb}
 use Rattle.std.proofs.lemmas.List.{append-nil}
 use Rattle.wtp_qpack.specs.Field.{Field}
-use Rattle.wtp_qpack.specs.FieldSection.{section_of}
 use Rattle.wtp_frames.specs.declared.endpoint.Endpoint.{Endpoint}
 use Rattle.wtp_frames.specs.declared.fault.Fault.{Fault as StreamFault}
 use Rattle.wtp_frames.specs.declared.reader.Place.{Place as Reading}
@@ -21,7 +20,7 @@ use Rattle.wtp_connection.specs.Streams.{Ended, StreamRun, rests, all_given, of_
 use Rattle.wtp_connection.specs.First.{first_seen, first_found, at_end}
 use Rattle.wtp_messages.specs.declared.malformed.Malformed.{Malformed}
 use Rattle.wtp_messages.specs.declared.message.Message.{Message}
-use Rattle.wtp_messages.specs.declared.message.Section.TheVariants as section
+use Rattle.wtp_messages.specs.declared.message.Section.TheVariants as found
 use Rattle.wtp_messages.specs.Content.{fits}
 use Rattle.wtp_messages.specs.Message.{end_of}
 use Rattle.wtp_sending.specs.declared.error.SendError.{SendError}
@@ -30,7 +29,8 @@ use Rattle.wtp_sending.specs.declared.message.Place.{Place}
 use Rattle.wtp_sending.specs.declared.message.Place.TheVariants as sent
 use Rattle.wtp_sending.specs.declared.message.Sending.{Sending}
 use Rattle.wtp_messages.specs.declared.malformed.Malformed.TheVariants.{ContentTooLong}
-use Rattle.wtp_sending.specs.Message.{headers_wire, data_head, SendsTrailers, with_content, counts, with_data, data_at, after_data, by_rule, end_at, after_end}
+use Rattle.wtp_sending.specs.Encoded.{SendsTrailersAs}
+use Rattle.wtp_sending.specs.Message.{data_head, with_content, counts, with_data, data_at, after_data, by_rule, end_at, after_end}
 use Rattle.wtp_sending.specs.Sent.{SentBytes, Leads, reads_data}
 use Rattle.wtp_sending.proofs.SentLemmas.{ok_then, ok_else}
 use Rattle.wtp_webtransport.specs.declared.connection.Connection.{Connection}
@@ -44,7 +44,8 @@ use Rattle.wtp_webtransport.specs.Streams.{with_frames, with_part, due_by}
 use Rattle.wtp_webtransport.specs.Receiving.{Outcome, Receives, counted, EndBy, ends_by, last}
 use Rattle.wtp_webtransport.proofs.CallLemmas.{goes_of}
 use Rattle.wtp_pairs.specs.Reads.{IsGoing}
-use Rattle.wtp_pairs.specs.Messages.{IsBehind, IsInContent, AgreesAt, IsFor, Agrees, IsWithin, IsSectionRead, IsPieceOf, IsDataRead, IsContentRead, IsMessage, WithContent, WithTrailers}
+use Rattle.wtp_pairs.specs.Encoded.{noted_in, IsReadable, IsEncodedRead}
+use Rattle.wtp_pairs.specs.Messages.{IsBehind, IsInContent, AgreesAt, IsFor, Agrees, IsPieceOf, IsDataRead, IsContentRead, IsMessage, WithContent, WithTrailers}
 use Rattle.wtp_pairs.proofs.CallLemmas.{Finds, find, frames_seen}
 use Rattle.wtp_pairs.proofs.ReaderLemmas.{data_first, data_part, trailers_first, trailers_part}
 use Rattle.wtp_pairs.proofs.MessageLemmas.{AfterIt, agrees_at, level, same_message, section_reads, section_waits, section_role}
@@ -209,9 +210,9 @@ data_read limit e c old new n t going a place h =
 
 -- ---- trailers
 
-pub trailers_read : (limit : ℕ) (e : Endpoint) (c : Connection) (old new : Sending) (fields : List Field) (t : Stream) → IsGoing c → IsWithin e limit fields → Agrees e old t → SendsTrailers old fields new
-    → (u : Stream) × IsSectionRead limit c t (headers_wire fields) (Headers headers.Trailers fields) c u × Agrees e new u
-trailers_read limit e c old new fields t going within a h =
+pub trailers_read : (limit : ℕ) (e : Endpoint) (c : Connection) (old new : Sending) (section : List ℕ) (fields : List Field) (need : Option ℕ) (t : Stream) → IsGoing c → IsReadable e limit c section fields need → Agrees e old t → SendsTrailersAs section old fields new
+    → (u : Stream) × IsEncodedRead e limit c t section (Headers headers.Trailers fields) (noted_in need c) u × Agrees e new u
+trailers_read limit e c old new section fields need t going within a h =
     let at = in_content e old t a h.at in
     let m : at.message ≡ old.message = same_message at.message old.message (subst (λ (k : ℕ). IsBehind at.message k old.message) h.none at.behind) in
     let frames_is : t.frames ≡ frames.Frames (reads_data e at.interims reading.Body at.streamed 0) at.given = at.frames ∙ ap (λ (k : ℕ). frames.Frames (reads_data e at.interims reading.Body at.streamed k) at.given) h.none in
@@ -220,12 +221,12 @@ trailers_read limit e c old new fields t going within a h =
     let u : Stream = with_part (with_frames t (frames.Frames next true)) (part.Body new.message) in
     let role_is : new.role ≡ old.role = ap (λ (s : Sending). s.role) h.others in (
       u,
-      section_reads limit e c t (reads_data e at.interims reading.Body at.streamed 0) next at.given old.message new.message section.Trailers fields (Headers headers.Trailers fields) u going within a.read frames_is (AfterIt part_is)
-          (λ more. trailers_first e at.interims at.streamed (section_of fields) more h.framed within.encoded)
-          (λ x b parts some. trailers_part e at.interims at.streamed (section_of fields) x b h.framed within.encoded parts some)
+      section_reads limit e c t (reads_data e at.interims reading.Body at.streamed 0) next at.given old.message new.message found.Trailers section fields need (Headers headers.Trailers fields) u going within a.read frames_is (AfterIt part_is)
+          (λ more. trailers_first e at.interims at.streamed section more h.framed within.encoded)
+          (λ x b parts some. trailers_part e at.interims at.streamed section x b h.framed within.encoded parts some)
           h.are.comes refl (λ start end bytes. refl),
       agrees_at e new u sent.Trailers 0 new.message
-          (section_role old.message.stage old.message new.message fields section.Trailers h.are.comes ∙ a.own ∙ sym role_is)
+          (section_role old.message.stage old.message new.message fields found.Trailers h.are.comes ∙ a.own ∙ sym role_is)
           (ap (λ (s : Sending). s.place) h.others) (ap (λ (s : Sending). s.owed) h.others ∙ h.none) refl a.read
           (subst (λ (q : Rattle.wtp_messages.specs.declared.message.Role.Role). IsFor q t.asked) (sym role_is) a.asked) (
             record {

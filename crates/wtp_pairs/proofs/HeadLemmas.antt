@@ -1,7 +1,6 @@
 -- The heads of messages, as the other end receives them.
 use Rattle.std.proofs.Common.{◌≡◌, ℕ, ◌+◌, ◌<◌, ◌&&◌, Bool, true, false, cond, List, Option, Some, None, Ok, refl, sym, ap, subst, ◌∙◌, arith}
 use Rattle.wtp_qpack.specs.Field.{Field}
-use Rattle.wtp_qpack.specs.FieldSection.{section_of}
 use Rattle.wtp_frames.specs.declared.endpoint.Endpoint.{Endpoint}
 use Rattle.wtp_frames.specs.declared.endpoint.Side.TheVariants.{Client}
 use Rattle.wtp_frames.specs.declared.fault.Fault.{Fault as StreamFault}
@@ -23,7 +22,8 @@ use Rattle.wtp_messages.specs.Response.{is_success, status_of}
 use Rattle.wtp_sending.specs.declared.message.Place.{Place}
 use Rattle.wtp_sending.specs.declared.message.Place.TheVariants as sent
 use Rattle.wtp_sending.specs.declared.message.Sending.{Sending}
-use Rattle.wtp_sending.specs.Message.{headers_wire, SendsHead, IsAllowed, interims_of, is_head, after_head, after_response}
+use Rattle.wtp_sending.specs.Encoded.{SendsHeadAs}
+use Rattle.wtp_sending.specs.Message.{IsAllowed, interims_of, is_head, after_head, after_response}
 use Rattle.wtp_sending.specs.Sent.{reads_data}
 use Rattle.wtp_webtransport.specs.declared.connection.Connection.{Connection}
 use Rattle.wtp_webtransport.specs.declared.stream.Stream.{Stream}
@@ -34,10 +34,10 @@ use Rattle.wtp_webtransport.specs.Sessions.{asks_by, asks_connect, asks_session,
 use Rattle.wtp_webtransport.specs.Streams.{with_frames, with_part, with_session, connects}
 use Rattle.wtp_webtransport.specs.Receiving.{span_in, takes, taken_of, request_by, interim_by, response_in, in_connection}
 use Rattle.wtp_webtransport.specs.Calls.{Continues, course_of}
-use Rattle.wtp_qpack.specs.FieldSection.{section_of}
 use Rattle.wtp_messages.specs.Message.{SectionComes}
 use Rattle.wtp_pairs.specs.Reads.{IsGoing}
-use Rattle.wtp_pairs.specs.Messages.{AgreesAt, IsFor, Agrees, IsWithin, IsSectionRead, response_told}
+use Rattle.wtp_pairs.specs.Encoded.{noted_in, IsReadable, IsEncodedRead}
+use Rattle.wtp_pairs.specs.Messages.{AgreesAt, IsFor, Agrees, response_told}
 use Rattle.wtp_pairs.proofs.MessageLemmas.{IsAnswer, Early, Final, BeforeIt, request_found, response_comes, level, at_head, head_agrees, section_reads}
 use Rattle.wtp_pairs.proofs.ReaderLemmas.{head_first, head_part}
 
@@ -59,45 +59,45 @@ content_at e k m t = record {
 }
 
 -- the call, by what it takes
-pub taken_call : (limit : ℕ) (e : Endpoint) (c : Connection) (old new : Sending) (fields : List Field) (t u : Stream) (y : Section) (told : Told) (a : Agrees e old t) (h : SendsHead old fields new) → IsGoing c → IsWithin e limit fields → h.head.found ≡ y → course_of told ≡ Continues
+pub taken_call : (limit : ℕ) (e : Endpoint) (c : Connection) (old new : Sending) (section : List ℕ) (fields : List Field) (need : Option ℕ) (t u : Stream) (y : Section) (told : Told) (a : Agrees e old t) (h : SendsHeadAs section old fields new) → IsGoing c → IsReadable e limit c section fields need → h.head.found ≡ y → course_of told ≡ Continues
     → ((start end : ℕ) (bytes : List ℕ) → takes c (head_stream e (interims_of old.place) t) new.message fields (span_in start end bytes) (taken_of (Ok y)) ≡ (end, told, c, u))
-    → IsSectionRead limit c t (headers_wire fields) told c u
-taken_call limit e c old new fields t u y told a h going within is continues gives =
-    let at = (at_head e old fields new t a h).0 in
-    section_reads limit e c t (awaiting e (interims_of old.place)) (reads_data e (interims_of old.place) reading.Body false 0) at.given old.message new.message y fields told u going within a.read at.frames (BeforeIt at.part)
-    (λ more. head_first e (interims_of old.place) (section_of fields) more h.framed within.encoded)
-    (λ x b parts some. head_part e (interims_of old.place) (section_of fields) x b h.framed within.encoded parts some)
+    → IsEncodedRead e limit c t section told (noted_in need c) u
+taken_call limit e c old new section fields need t u y told a h going within is continues gives =
+    let at = (at_head e old section fields new t a h).0 in
+    section_reads limit e c t (awaiting e (interims_of old.place)) (reads_data e (interims_of old.place) reading.Body false 0) at.given old.message new.message y section fields need told u going within a.read at.frames (BeforeIt at.part)
+    (λ more. head_first e (interims_of old.place) section more h.framed within.encoded)
+    (λ x b parts some. head_part e (interims_of old.place) section x b h.framed within.encoded parts some)
     (subst (λ (z : Section). SectionComes old.message.stage old.message fields (Ok z) new.message) is h.head.comes) continues gives
 
 -- a request that is no CONNECT
-pub request_read : (limit : ℕ) (e : Endpoint) (c : Connection) (old new : Sending) (fields : List Field) (t : Stream) (extended : Bool) → IsGoing c → IsWithin e limit fields → Agrees e old t → old.role ≡ role.Request extended → SendsHead old fields new → is_connect fields ≡ false
-    → (u : Stream) × IsSectionRead limit c t (headers_wire fields) (Headers headers.Request fields) c u × Agrees e new u
-request_read limit e c old new fields t extended going within a is h plain =
+pub request_read : (limit : ℕ) (e : Endpoint) (c : Connection) (old new : Sending) (section : List ℕ) (fields : List Field) (need : Option ℕ) (t : Stream) (extended : Bool) → IsGoing c → IsReadable e limit c section fields need → Agrees e old t → old.role ≡ role.Request extended → SendsHeadAs section old fields new → is_connect fields ≡ false
+    → (u : Stream) × IsEncodedRead e limit c t section (Headers headers.Request fields) (noted_in need c) u × Agrees e new u
+request_read limit e c old new section fields need t extended going within a is h plain =
     let found_is = request_found old.message.stage extended old.message new.message fields h.head.found old.peer (interims_of old.place) (a.own ∙ is) h.head.comes h.head.allowed in
     let u : Stream = with_part (head_stream e (interims_of old.place) t) (part.Body new.message) in (
       u,
-      taken_call limit e c old new fields t u (found.Request (found_is.0)) (Headers headers.Request fields) a h going within (found_is.1) refl
+      taken_call limit e c old new section fields need t u (found.Request (found_is.0)) (Headers headers.Request fields) a h going within (found_is.1) refl
           (λ start end bytes. ap (λ (b : Bool). request_by (asks_by c b (asks_for_session fields)) c (head_stream e (interims_of old.place) t) new.message fields (span_in start end bytes)) plain),
-      head_agrees e old new fields t u sent.Content a h
+      head_agrees e old new section fields t u sent.Content a h
           (sym h.head.leads ∙ ap (λ (y : Section). after_head old.role (interims_of old.place) fields y) (found_is.1) ∙ ap (λ (b : Bool). cond b (sent.Connecting (asks_for_session fields)) sent.Content) plain)
           a.read refl (content_at e (interims_of old.place) new.message t),
     )
 
 -- a request for a session, which the settings of both ends allow
-pub session_read : (limit : ℕ) (e : Endpoint) (c : Connection) (old new : Sending) (fields : List Field) (t : Stream) (extended : Bool) → IsGoing c → IsWithin e limit fields → Agrees e old t → old.role ≡ role.Request extended → SendsHead old fields new → is_connect fields ≡ true → asks_for_session fields ≡ true → allows_sessions c ≡ true
-    → (u : Stream) × IsSectionRead limit c t (headers_wire fields) (SessionRequested fields) c u × Agrees e new u
-session_read limit e c old new fields t extended going within a is h connects_it asks_it allows =
+pub session_read : (limit : ℕ) (e : Endpoint) (c : Connection) (old new : Sending) (section : List ℕ) (fields : List Field) (need : Option ℕ) (t : Stream) (extended : Bool) → IsGoing c → IsReadable e limit c section fields need → Agrees e old t → old.role ≡ role.Request extended → SendsHeadAs section old fields new → is_connect fields ≡ true → asks_for_session fields ≡ true → allows_sessions c ≡ true
+    → (u : Stream) × IsEncodedRead e limit c t section (SessionRequested fields) (noted_in need c) u × Agrees e new u
+session_read limit e c old new section fields need t extended going within a is h connects_it asks_it allows =
     let found_is = request_found old.message.stage extended old.message new.message fields h.head.found old.peer (interims_of old.place) (a.own ∙ is) h.head.comes h.head.allowed in
     let u : Stream = with_session (with_part (head_stream e (interims_of old.place) t) (part.Unanswered true new.message)) in (
       u,
-      taken_call limit e c old new fields t u (found.Request (found_is.0)) (SessionRequested fields) a h going within (found_is.1) refl
+      taken_call limit e c old new section fields need t u (found.Request (found_is.0)) (SessionRequested fields) a h going within (found_is.1) refl
           (λ start end bytes.
           ap (λ (b : Bool). request_by (asks_by c b (asks_for_session fields)) c (head_stream e (interims_of old.place) t) new.message fields (span_in start end bytes)) connects_it
           ∙ ap (λ (b : Bool). request_by (asks_connect c (c.endpoint.webtransport && b)) c (head_stream e (interims_of old.place) t) new.message fields (span_in start end bytes)) asks_it
           ∙ ap (λ (b : Bool). request_by (asks_connect c (b && true)) c (head_stream e (interims_of old.place) t) new.message fields (span_in start end bytes)) (enabled_by c allows)
           ∙ ap (λ (b : Bool). request_by (asks_session b (allows_sessions c)) c (head_stream e (interims_of old.place) t) new.message fields (span_in start end bytes)) (configured_by c allows)
           ∙ ap (λ (b : Bool). request_by (asks_session true b) c (head_stream e (interims_of old.place) t) new.message fields (span_in start end bytes)) allows),
-      head_agrees e old new fields t u (sent.Connecting true) a h
+      head_agrees e old new section fields t u (sent.Connecting true) a h
           (sym h.head.leads ∙ ap (λ (y : Section). after_head old.role (interims_of old.place) fields y) (found_is.1) ∙ rw (connects_it, asks_it) refl)
           a.read refl (
             record {
@@ -127,18 +127,18 @@ session_read limit e c old new fields t extended going within a is h connects_it
     enabled_by c h = first_of c.endpoint.webtransport c.endpoint.datagrams (first_of (c.endpoint.webtransport && c.endpoint.datagrams) _ (second_of c.configured _ h))
 
 -- any other CONNECT request
-pub connect_read : (limit : ℕ) (e : Endpoint) (c : Connection) (old new : Sending) (fields : List Field) (t : Stream) (extended : Bool) → IsGoing c → IsWithin e limit fields → Agrees e old t → old.role ≡ role.Request extended → SendsHead old fields new → is_connect fields ≡ true → asks_for_session fields ≡ false
-    → (u : Stream) × IsSectionRead limit c t (headers_wire fields) (Headers headers.Request fields) c u × Agrees e new u
-connect_read limit e c old new fields t extended going within a is h connects_it asks_it =
+pub connect_read : (limit : ℕ) (e : Endpoint) (c : Connection) (old new : Sending) (section : List ℕ) (fields : List Field) (need : Option ℕ) (t : Stream) (extended : Bool) → IsGoing c → IsReadable e limit c section fields need → Agrees e old t → old.role ≡ role.Request extended → SendsHeadAs section old fields new → is_connect fields ≡ true → asks_for_session fields ≡ false
+    → (u : Stream) × IsEncodedRead e limit c t section (Headers headers.Request fields) (noted_in need c) u × Agrees e new u
+connect_read limit e c old new section fields need t extended going within a is h connects_it asks_it =
     let found_is = request_found old.message.stage extended old.message new.message fields h.head.found old.peer (interims_of old.place) (a.own ∙ is) h.head.comes h.head.allowed in
     let u : Stream = with_part (head_stream e (interims_of old.place) t) (part.Unanswered false new.message) in (
       u,
-      taken_call limit e c old new fields t u (found.Request (found_is.0)) (Headers headers.Request fields) a h going within (found_is.1) refl
+      taken_call limit e c old new section fields need t u (found.Request (found_is.0)) (Headers headers.Request fields) a h going within (found_is.1) refl
           (λ start end bytes.
           ap (λ (b : Bool). request_by (asks_by c b (asks_for_session fields)) c (head_stream e (interims_of old.place) t) new.message fields (span_in start end bytes)) connects_it
           ∙ ap (λ (b : Bool). request_by (asks_connect c (c.endpoint.webtransport && b)) c (head_stream e (interims_of old.place) t) new.message fields (span_in start end bytes)) asks_it
           ∙ ap (λ (b : Bool). request_by (asks_connect c b) c (head_stream e (interims_of old.place) t) new.message fields (span_in start end bytes)) (and_false c.endpoint.webtransport)),
-      head_agrees e old new fields t u (sent.Connecting false) a h
+      head_agrees e old new section fields t u (sent.Connecting false) a h
           (sym h.head.leads ∙ ap (λ (y : Section). after_head old.role (interims_of old.place) fields y) (found_is.1) ∙ rw (connects_it, asks_it) refl)
           a.read refl (
             record {
@@ -163,10 +163,10 @@ connect_read limit e c old new fields t extended going within a is h connects_it
 -- ---- responses
 
 -- an interim one, to a client
-pub interim_read : (limit : ℕ) (e : Endpoint) (c : Connection) (old new : Sending) (fields : List Field) (t : Stream) (asked : Asked) (status k : ℕ) → IsGoing c → IsWithin e limit fields → e.side ≡ Client → Agrees e old t → old.role ≡ role.Response asked → SendsHead old fields new → status_of fields ≡ Some status → new.place ≡ sent.Head k
-    → (u : Stream) × IsSectionRead limit c t (headers_wire fields) (Headers (headers.Interim status) fields) c u × Agrees e new u
-interim_read limit e c old new fields t a status k going within client agrees is h s head =
-    interim_by_answer limit e c old new fields t a status k going within client agrees h head
+pub interim_read : (limit : ℕ) (e : Endpoint) (c : Connection) (old new : Sending) (section : List ℕ) (fields : List Field) (need : Option ℕ) (t : Stream) (asked : Asked) (status k : ℕ) → IsGoing c → IsReadable e limit c section fields need → e.side ≡ Client → Agrees e old t → old.role ≡ role.Response asked → SendsHeadAs section old fields new → status_of fields ≡ Some status → new.place ≡ sent.Head k
+    → (u : Stream) × IsEncodedRead e limit c t section (Headers (headers.Interim status) fields) (noted_in need c) u × Agrees e new u
+interim_read limit e c old new section fields need t a status k going within client agrees is h s head =
+    interim_by_answer limit e c old new section fields need t a status k going within client agrees h head
     (response_comes old.message.stage a old.message new.message fields h.head.found old.peer (interims_of old.place) status (agrees.own ∙ is) s h.head.comes h.head.allowed)
   where
     no_head : (r : Role) (status k : ℕ) → after_response r status ≡ sent.Head k → ⊥
@@ -184,30 +184,30 @@ interim_read limit e c old new fields t a status k going within client agrees is
         by_bool false p e = cc
     no_head (role.Response asked.Other) status k e = cc
 
-    interim_by_answer : (limit : ℕ) (e : Endpoint) (c : Connection) (old new : Sending) (fields : List Field) (t : Stream) (a : Asked) (status k : ℕ) → IsGoing c → IsWithin e limit fields → e.side ≡ Client → Agrees e old t → (h : SendsHead old fields new) → new.place ≡ sent.Head k → IsAnswer status old.message new.message h.head.found
-        → (u : Stream) × IsSectionRead limit c t (headers_wire fields) (Headers (headers.Interim status) fields) c u × Agrees e new u
-    interim_by_answer limit e c old new fields t a status k going within client agrees h head (Early r f is same) =
+    interim_by_answer : (limit : ℕ) (e : Endpoint) (c : Connection) (old new : Sending) (section : List ℕ) (fields : List Field) (need : Option ℕ) (t : Stream) (a : Asked) (status k : ℕ) → IsGoing c → IsReadable e limit c section fields need → e.side ≡ Client → Agrees e old t → (h : SendsHeadAs section old fields new) → new.place ≡ sent.Head k → IsAnswer status old.message new.message h.head.found
+        → (u : Stream) × IsEncodedRead e limit c t section (Headers (headers.Interim status) fields) (noted_in need c) u × Agrees e new u
+    interim_by_answer limit e c old new section fields need t a status k going within client agrees h head (Early r f is same) =
         let n = interims_of old.place in
         let u : Stream = with_frames t (frames.Frames (awaiting e (n + 1)) true) in
         let allowed : n < 64 = subst (λ (y : Section). IsAllowed old.peer n fields y) f h.head.allowed in (
           u,
-          taken_call limit e c old new fields t u (found.Interim r) (Headers (headers.Interim status) fields) agrees h going within f refl
+          taken_call limit e c old new section fields need t u (found.Interim r) (Headers (headers.Interim status) fields) agrees h going within f refl
               (λ start end bytes.
               ap (λ (b : Bool). interim_by c (head_stream e n t) r.status fields (span_in start end bytes) (cond b (c.streams, frames.Frames (reads_data e n reading.Body false 0) true, None) (tells_open c.streams (frames.Frames (reads_data e n reading.Body false 0) true)))) going.streams
               ∙ ap (λ (x : Reader × Option StreamFault). interim_by c (head_stream e n t) r.status fields (span_in start end bytes) (by_interim c.streams true x)) (one_more e n client allowed)
               ∙ ap (λ (w : ℕ). (end, Headers (headers.Interim w) fields, c, u)) is),
-          head_agrees e old new fields t u (sent.Head (n + 1)) agrees h
+          head_agrees e old new section fields t u (sent.Head (n + 1)) agrees h
               (sym h.head.leads ∙ ap (λ (y : Section). after_head old.role n fields y) f)
               agrees.read refl (
                 record {
                   given = true;
                   frames = refl;
-                  part = (at_head e old fields new t agrees h).0.part ∙ ap (λ (m : Message). part.Head m) (sym same);
+                  part = (at_head e old section fields new t agrees h).0.part ∙ ap (λ (m : Message). part.Head m) (sym same);
                 },
                 refl,
               ),
         )
-    interim_by_answer limit e c old new fields t a status k going within client agrees h head (Final r f is) =
+    interim_by_answer limit e c old new section fields need t a status k going within client agrees h head (Final r f is) =
         absurd (no_head old.role r.status k (ap (λ (y : Section). after_head old.role (interims_of old.place) fields y) (sym f) ∙ h.head.leads ∙ head))
 
 -- a final one
@@ -293,12 +293,12 @@ final_at asked.Other b e k m t = content_at e k m t
 not_interim : (k : ℕ) (place : Place) → place ≡ sent.Head k → is_head place ≡ true
 not_interim k place e = ap is_head e
 
-pub response_read : (limit : ℕ) (e : Endpoint) (c : Connection) (old new : Sending) (fields : List Field) (t : Stream) (a : Asked) (status : ℕ) → IsGoing c → IsWithin e limit fields → Agrees e old t → old.role ≡ role.Response a → SendsHead old fields new → status_of fields ≡ Some status → is_head new.place ≡ false
-    → (u : Stream) × IsSectionRead limit c t (headers_wire fields) (response_told a (is_success (Some status)) status fields) c u × Agrees e new u
-response_read limit e c old new fields t a status going within agrees is h s final =
+pub response_read : (limit : ℕ) (e : Endpoint) (c : Connection) (old new : Sending) (section : List ℕ) (fields : List Field) (need : Option ℕ) (t : Stream) (a : Asked) (status : ℕ) → IsGoing c → IsReadable e limit c section fields need → Agrees e old t → old.role ≡ role.Response a → SendsHeadAs section old fields new → status_of fields ≡ Some status → is_head new.place ≡ false
+    → (u : Stream) × IsEncodedRead e limit c t section (response_told a (is_success (Some status)) status fields) (noted_in need c) u × Agrees e new u
+response_read limit e c old new section fields need t a status going within agrees is h s final =
     by_answer (response_comes old.message.stage a old.message new.message fields h.head.found old.peer (interims_of old.place) status (agrees.own ∙ is) s h.head.comes h.head.allowed)
   where
-    by_answer : IsAnswer status old.message new.message h.head.found → (u : Stream) × IsSectionRead limit c t (headers_wire fields) (response_told a (is_success (Some status)) status fields) c u × Agrees e new u
+    by_answer : IsAnswer status old.message new.message h.head.found → (u : Stream) × IsEncodedRead e limit c t section (response_told a (is_success (Some status)) status fields) (noted_in need c) u × Agrees e new u
     by_answer (Early r f same m) =
         absurd (both (is_head new.place) (not_interim (interims_of old.place + 1) new.place (sym h.head.leads ∙ ap (λ (y : Section). after_head old.role (interims_of old.place) fields y) f)) final)
       where
@@ -310,12 +310,12 @@ response_read limit e c old new fields t a status going within agrees is h s fin
         let u : Stream = final_stream a (is_success (Some status)) t2 new.message in
         let asks : t.asked ≡ Some a = subst (λ (q : Role). IsFor q t.asked) is agrees.asked in (
           u,
-          taken_call limit e c old new fields t u (found.Response r) (response_told a (is_success (Some status)) status fields) agrees h going within f (final_continues a (is_success (Some status)) status fields)
+          taken_call limit e c old new section fields need t u (found.Response r) (response_told a (is_success (Some status)) status fields) agrees h going within f (final_continues a (is_success (Some status)) status fields)
               (λ start end bytes.
               ap (λ (w : ℕ). in_connection c (response_in t.asked (is_success (Some w)) t2 new.message w fields (span_in start end bytes))) same
               ∙ ap (λ (o : Option Asked). in_connection c (response_in o (is_success (Some status)) t2 new.message status fields (span_in start end bytes))) asks
               ∙ final_gives a (is_success (Some status)) c t2 new.message status fields start end bytes),
-          head_agrees e old new fields t u (final_place a (is_success (Some status))) agrees h
+          head_agrees e old new section fields t u (final_place a (is_success (Some status))) agrees h
               (sym h.head.leads ∙ ap (λ (y : Section). after_head old.role k fields y) f ∙ ap (λ (q : Role). after_response q r.status) is ∙ ap (λ (w : ℕ). after_response (role.Response a) w) same ∙ final_leads a status)
               (final_read a (is_success (Some status)) t2 new.message ∙ agrees.read) (final_asked a (is_success (Some status)) t2 new.message)
               (final_at a (is_success (Some status)) e k new.message t),

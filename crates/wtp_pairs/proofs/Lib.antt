@@ -4,6 +4,7 @@ pub mod ReaderLemmas
 pub mod SessionLemmas
 pub mod ControlLemmas
 pub mod SectionLemmas
+pub mod EncodedLemmas
 pub mod MessageLemmas
 pub mod HeadLemmas
 pub mod ContentLemmas

@@ -1,2 +1,3 @@
 pub mod Reads
 pub mod Messages
+pub mod Encoded

@@ -10,6 +10,11 @@ ghost use Rattle.wtp_wire.specs.Content.{SettingsOf};
 ghost use Rattle.wtp_wire.specs.Settings.{settings_wire};
 ghost use Rattle.wtp_wire.specs.Wire.{wire};
 ghost use Rattle.wtp_qpack.specs.Field.{Field};
+ghost use Rattle.wtp_fields.specs.FieldList.{list_size};
+ghost use Rattle.wtp_dynamic.specs.EncoderState.{Encoder};
+ghost use Rattle.wtp_dynamic.specs.Table.{insert_count};
+ghost use Rattle.wtp_dynamic_decoder.specs.Decoder.{Decoder};
+ghost use Rattle.wtp_dynamic_encoder.specs.Encoding.{State};
 ghost use Rattle.wtp_frames.specs.declared.endpoint.Endpoint.{Endpoint};
 ghost use Rattle.wtp_frames.specs.declared.endpoint.Side.TheVariants.{Client, Server};
 ghost use Rattle.wtp_frames.specs.Start.{control_reader};
@@ -27,6 +32,7 @@ ghost use Rattle.wtp_sending.specs.declared.message.Place.TheVariants as sent;
 ghost use Rattle.wtp_sending.specs.declared.message.Sending.{Sending};
 ghost use Rattle.wtp_sending.specs.declared.peer.Peer.{Peer};
 ghost use Rattle.wtp_sending.specs.Control.{after_settings, goaway_bytes, after_goaway};
+ghost use Rattle.wtp_sending.specs.Encoded.{IsEncoded, SendsHeadAs, SendsTrailersAs};
 ghost use Rattle.wtp_sending.specs.Message.{sending_of, headers_wire, is_head, SendsHead, SendsTrailers, after_data, after_end, opens, placed};
 ghost use Rattle.wtp_sending.specs.Session.{uni_head, bi_head, datagram_head, drain_wire, close_data};
 ghost use Rattle.wtp_webtransport.specs.declared.connection.Connection.{Connection};
@@ -39,6 +45,7 @@ ghost use Rattle.wtp_webtransport.specs.Receiving.{Outcome, Receives, last};
 ghost use Rattle.wtp_webtransport.specs.Said.{said};
 ghost use Rattle.wtp_webtransport.specs.Sessions.{allows_sessions};
 ghost use Rattle.wtp_webtransport.specs.Streams.{stream_of, request_stream, session_stream, with_streams, with_frames, with_part, answered};
+ghost use Rattle.wtp_pairs.specs.Encoded.{noted_in, need_of, needed_by, IsReadable, IsAhead, IsEncodedRead, IsUnderWay};
 ghost use Rattle.wtp_pairs.specs.Messages.{Agrees, IsWithin, IsSectionRead, IsDataRead, IsContentRead, IsSession, IsMessage, after_frame, response_told, request_opened};
 ghost use Rattle.wtp_pairs.specs.Reads.{IsGoing, IsReadAs, IsControlRead, joining_stream, after_values};
 
@@ -154,6 +161,69 @@ pub fn sections_are_received()
         → SendsTrailers old fields new
         → (u : Stream) × IsSectionRead limit c t (headers_wire fields) (Headers headers.Trailers fields) c u
         × Agrees e new u }
+{}
+
+/// HEADERS whose section an encoder wrote come with exactly their fields, as those of
+/// [`sections_are_received`], once the table of the receiver has the insertions that the section needs, and
+/// before that they wait. The receiver notes how many a section that it read needed, and is to acknowledge
+/// it; of one that needs none it notes nothing (RFC 9204, sections 2.1.2, 2.2 and 4.4.1).
+///
+/// `readable` and `ahead` say of which sections this is true: of each that is not acknowledged, as long as
+/// the table follows that of the encoder, however far both went on. The other clauses are those of
+/// [`sections_are_received`], for such sections.
+pub fn encoded_sections_are_received()
+    ensures readable { (limit stream : ℕ) (e : Endpoint) (c : Connection) (d : Decoder)
+        (fields : List Field) (old new : State) (before after section : List ℕ)
+        (encoded : IsEncoded stream fields old new before after section) (now : Encoder)
+        → c.decoder ≡ Some d → IsUnderWay stream fields old new before after section encoded now d.table
+        → needed_by stream fields old new before after section encoded ≤ insert_count d.table
+        → length section ≤ e.max_section → list_size fields ≤ limit
+        → IsReadable e limit c section fields
+        (need_of (needed_by stream fields old new before after section encoded)) }
+    ensures ahead { (stream : ℕ) (e : Endpoint) (c : Connection) (d : Decoder)
+        (fields : List Field) (old new : State) (before after section : List ℕ)
+        (encoded : IsEncoded stream fields old new before after section) (now : Encoder)
+        → c.decoder ≡ Some d → IsUnderWay stream fields old new before after section encoded now d.table
+        → insert_count d.table < needed_by stream fields old new before after section encoded
+        → length section ≤ e.max_section
+        → IsAhead e c section (needed_by stream fields old new before after section encoded) }
+    ensures request { (limit : ℕ) (e : Endpoint) (c : Connection) (old new : Sending)
+        (section : List ℕ) (fields : List Field) (need : Option ℕ) (t : Stream) (extended : Bool)
+        → IsGoing c → IsReadable e limit c section fields need → Agrees e old t
+        → old.role ≡ role.Request extended → SendsHeadAs section old fields new
+        → is_connect fields ≡ false
+        → (u : Stream) × IsEncodedRead e limit c t section (Headers headers.Request fields) (noted_in need c) u × Agrees e new u }
+    ensures session { (limit : ℕ) (e : Endpoint) (c : Connection) (old new : Sending)
+        (section : List ℕ) (fields : List Field) (need : Option ℕ) (t : Stream) (extended : Bool)
+        → IsGoing c → IsReadable e limit c section fields need → Agrees e old t
+        → old.role ≡ role.Request extended → SendsHeadAs section old fields new
+        → is_connect fields ≡ true → asks_for_session fields ≡ true → allows_sessions c ≡ true
+        → (u : Stream) × IsEncodedRead e limit c t section (SessionRequested fields)
+        (noted_in need c) u × Agrees e new u }
+    ensures connect { (limit : ℕ) (e : Endpoint) (c : Connection) (old new : Sending)
+        (section : List ℕ) (fields : List Field) (need : Option ℕ) (t : Stream) (extended : Bool)
+        → IsGoing c → IsReadable e limit c section fields need → Agrees e old t
+        → old.role ≡ role.Request extended → SendsHeadAs section old fields new
+        → is_connect fields ≡ true → asks_for_session fields ≡ false
+        → (u : Stream) × IsEncodedRead e limit c t section (Headers headers.Request fields) (noted_in need c) u × Agrees e new u }
+    ensures interim { (limit : ℕ) (e : Endpoint) (c : Connection) (old new : Sending)
+        (section : List ℕ) (fields : List Field) (need : Option ℕ) (t : Stream) (a : Asked)
+        (status k : ℕ) → IsGoing c → IsReadable e limit c section fields need → e.side ≡ Client
+        → Agrees e old t → old.role ≡ role.Response a → SendsHeadAs section old fields new
+        → status_of fields ≡ Some status → new.place ≡ sent.Head k
+        → (u : Stream) × IsEncodedRead e limit c t section (Headers (headers.Interim status) fields) (noted_in need c) u × Agrees e new u }
+    ensures response { (limit : ℕ) (e : Endpoint) (c : Connection) (old new : Sending)
+        (section : List ℕ) (fields : List Field) (need : Option ℕ) (t : Stream) (a : Asked)
+        (status : ℕ) → IsGoing c → IsReadable e limit c section fields need → Agrees e old t
+        → old.role ≡ role.Response a → SendsHeadAs section old fields new
+        → status_of fields ≡ Some status → is_head new.place ≡ false
+        → (u : Stream) × IsEncodedRead e limit c t section (response_told a (is_success (Some status)) status fields) (noted_in need c) u
+        × Agrees e new u }
+    ensures trailers { (limit : ℕ) (e : Endpoint) (c : Connection) (old new : Sending)
+        (section : List ℕ) (fields : List Field) (need : Option ℕ) (t : Stream) → IsGoing c
+        → IsReadable e limit c section fields need → Agrees e old t
+        → SendsTrailersAs section old fields new
+        → (u : Stream) × IsEncodedRead e limit c t section (Headers headers.Trailers fields) (noted_in need c) u × Agrees e new u }
 {}
 
 /// The content of a message comes byte by byte as it was sent, in pieces of at least a byte, and after the
