@@ -111,7 +111,7 @@ typedef struct wt_stream_header {
 
 /* Reads the header at the start of a stream. After that of a control stream come frames
    (WT_READ_CONTROL), after that of a WebTransport stream the application's bytes, after those of QPACK
-   the instructions for the dynamic table, which this library does not implement, and what comes after a
+   the instructions for the dynamic table, which no call of this part reads, and what comes after a
    reserved one is to be ignored.
    WT_OK: *header is the header, and *consumed its size.
    WT_MORE: there are too few bytes; *consumed is 0.

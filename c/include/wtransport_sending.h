@@ -171,6 +171,102 @@ int wt_sending_drain(const wt_sending *sending, uint8_t *out, size_t room, size_
 int wt_sending_close(wt_sending *sending, uint32_t code, const uint8_t *reason, size_t length,
                      uint8_t *out, size_t room, size_t *used, uint32_t *why);
 
+/* ---- QPACK's dynamic table (RFC 9204) ----
+
+   A peer whose SETTINGS have SETTINGS_QPACK_MAX_TABLE_CAPACITY (0x01) above 0 allows this end to
+   insert fields into a table, and to refer to them in the sections that it sends. An endpoint that
+   does so keeps an encoder in an array of its own, without pointers, one for the connection, and
+   passes it to wt_sending_headers_with and wt_sending_trailers_with in place of wt_sending_headers
+   and wt_sending_trailers, for all streams of requests.
+
+     wt_policy policy = {1024, 512, 64};
+     uint8_t encoder[WT_ENCODER_SIZE(4096, 64)];
+     wt_encoder_new(&policy, encoder, sizeof encoder);
+     ..                                                      after WT_EVENT_SETTINGS:
+     wt_encoder_limits(encoder, sizeof encoder, peer.qpack_max_table_capacity,
+                       peer.qpack_blocked_streams, instructions, sizeof instructions, &size);
+     ..
+     wt_sending_headers_with(&sending, encoder, sizeof encoder, fields, count, texts, length,
+                             instructions, sizeof instructions, &size, out, sizeof out, &used, &why);
+
+   Instructions go to the own encoder stream, which begins with its type (wt_stream_header_write, 2) and
+   is opened once there are some, in the order in which they were written. A section may refer to
+   what the instructions of its own call insert: so hand these to QUIC before the frame. On the stream
+   of which WT_EVENT_OPENED says WT_PURPOSE_DECODER, the bytes that wt_receive skips after that are the
+   peer's decoder stream: pass them to wt_encoder_receive, in their order.
+
+   Before wt_encoder_limits, and if the peer allows no table, the encoder inserts nothing: sections are
+   then written with the static table. No entry is evicted to which a section refers that the peer did
+   not acknowledge, and no section may block more streams than the peer allows (RFC 9204, sections
+   2.1.1 and 2.1.2). Which fields are inserted is by their names and by the policy: those whose values
+   an attacker could guess, as authorization and short cookies, are never indexed.
+
+   The encoder needs the same array in all calls: one that is too short for its table and its policy, or
+   that begins with other bytes than those of an encoder, is WT_INVALID. What follows the bytes of the
+   encoder in the array is not read, and stays. */
+
+/* What an encoder does by itself */
+typedef struct wt_policy {
+  uint64_t largest;        /* the size of the largest entry that is inserted: name, value and 32 bytes */
+  uint64_t reserved;       /* bytes of the table to keep available, at most half of its capacity */
+  uint64_t unacknowledged; /* sections that refer to the table and are not acknowledged: at most so many */
+} wt_policy;
+
+/* The size of the array of an encoder with a table of this capacity, in bytes. It is enough for every
+   state of the encoder. */
+#define WT_ENCODER_SIZE(capacity, unacknowledged) \
+  ((size_t)107 + (size_t)(capacity) + 24 * (size_t)(unacknowledged))
+
+/* Makes an encoder without a table. WT_INVALID: the array is shorter than WT_ENCODER_SIZE(0, u), for the
+   number u of the policy. WT_MEMORY. Only WT_OK changes the array. */
+int wt_encoder_new(const wt_policy *policy, uint8_t *encoder, size_t encoder_length);
+
+/* Sets what the SETTINGS of the peer announce, once they came: the limit of the capacity, and how many
+   streams may be blocked. The capacity is as large as the limit and the array allow: if the array has
+   n bytes, the smaller one of the limit and n - WT_ENCODER_SIZE(0, u). A limit of 2^60 or more is taken
+   as 0, no table. Writes the instruction that sets the capacity, at most 11 bytes; none if it is 0.
+   WT_OK: *used is the size, or 0. WT_BUFFER_TOO_SMALL: *used is the size, and nothing else changed.
+   WT_INVALID: the array has no encoder, or one that has a table, entries or sections: it was called
+   before. WT_MEMORY. */
+int wt_encoder_limits(uint8_t *encoder, size_t encoder_length, uint64_t limit, uint64_t blocked,
+                      uint8_t *out, size_t room, size_t *used);
+
+/* Reads the next bytes of the peer's decoder stream after its type, cut anywhere.
+   WT_OK. WT_ERROR: they break a rule; *code is WT_QPACK_DECODER_STREAM_ERROR, for the connection, and
+   nothing else changed. WT_INVALID: the array has no encoder. WT_MEMORY: nothing changed, and the same
+   bytes can be passed again. */
+int wt_encoder_receive(uint8_t *encoder, size_t encoder_length, const uint8_t *bytes, size_t length,
+                       uint64_t *code);
+
+/* Says how many sections that refer to the table are not acknowledged. WT_INVALID: the array has no
+   encoder. WT_MEMORY. */
+int wt_encoder_unacknowledged(const uint8_t *encoder, size_t encoder_length, uint64_t *count);
+
+/* Takes back sections that were written and are not sent: the oldest `count` of those that are not
+   acknowledged stay. With the number of wt_encoder_unacknowledged before a call of
+   wt_sending_headers_with, it undoes what that call noted of its section: for a frame of which no byte
+   will be sent, since its stream was reset. The instructions of the call still have to be sent.
+   WT_INVALID: the array has no encoder. WT_MEMORY. */
+int wt_encoder_take_back(uint8_t *encoder, size_t encoder_length, uint64_t count);
+
+/* Write what wt_sending_headers and wt_sending_trailers do, in a section that may refer to the table:
+   the frame to `out`, and the instructions for the own encoder stream that come before it to
+   `instructions`. They allocate.
+   WT_OK: both sizes are those of what was written; *sending and the encoder changed.
+   WT_BUFFER_TOO_SMALL: one of the two is too short; both sizes are those that are needed, and nothing
+   else changed. The other answers are those of wt_sending_headers and wt_sending_trailers: the encoder
+   stays then. WT_INVALID: also if the array has no encoder. */
+int wt_sending_headers_with(wt_sending *sending, uint8_t *encoder, size_t encoder_length,
+                            const wt_field *fields, size_t fields_length, const uint8_t *texts,
+                            size_t texts_length, uint8_t *instructions, size_t instructions_room,
+                            size_t *instructions_used, uint8_t *out, size_t room, size_t *used,
+                            uint32_t *why);
+int wt_sending_trailers_with(wt_sending *sending, uint8_t *encoder, size_t encoder_length,
+                             const wt_field *fields, size_t fields_length, const uint8_t *texts,
+                             size_t texts_length, uint8_t *instructions, size_t instructions_room,
+                             size_t *instructions_used, uint8_t *out, size_t room, size_t *used,
+                             uint32_t *why);
+
 #ifdef __cplusplus
 }
 #endif

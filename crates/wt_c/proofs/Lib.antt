@@ -17,3 +17,4 @@ pub mod PeerLemmas
 pub mod PushingLemmas
 pub mod SendingLemmas
 pub mod TableLemmas
+pub mod EncoderLemmas

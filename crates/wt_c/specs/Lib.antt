@@ -23,3 +23,4 @@ pub mod Pushing
 pub mod Sending
 pub mod SendingCalls
 pub mod Tables
+pub mod Encoders

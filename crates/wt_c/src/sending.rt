@@ -16,6 +16,8 @@ ghost use Rattle.wt_c.specs.Sending.{sending_with, HasSending, IsNoSending, allo
 ghost use Rattle.wt_c.specs.SendingCalls.{Refuses};
 
 pub mod control;
+pub mod encoded;
+pub mod encoder;
 mod lists;
 pub mod messages;
 pub mod reasons;

@@ -237,7 +237,13 @@ pub extern "C" fn wt_table_insert_count(alloc: Global, table: &[u8], count: &mut
 
 // Writes bytes to the start of `out`, and those of a table to its place. The results are those of
 // `write_bytes`.
-fn settle(said: &[u8], bytes: &[u8], table: &mut [u8], out: &mut [u8], used: &mut usize) -> i32
+pub(crate) fn settle(
+    said: &[u8],
+    bytes: &[u8],
+    table: &mut [u8],
+    out: &mut [u8],
+    used: &mut usize,
+) -> i32
     requires { length bytes.now ≤ length table.old }
     ensures answers { (result ≡ OK) ⊎ (result ≡ BUFFER_TOO_SMALL) }
     ensures said { result ≡ OK → WritesPrefix said.now out.old out.new used.new }
