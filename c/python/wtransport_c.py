@@ -216,6 +216,15 @@ class Control(ctypes.Structure):
     _fields_ = [("words", c_uint64 * 8)]
 
 
+class Policy(ctypes.Structure):
+    _fields_ = [("largest", c_uint64), ("reserved", c_uint64), ("unacknowledged", c_uint64)]
+
+
+def encoder_size(capacity, unacknowledged):
+    """WT_ENCODER_SIZE."""
+    return 107 + capacity + 24 * unacknowledged
+
+
 # The structs of the header by their names there.
 STRUCTS = {
     "wt_stream_header": StreamHeader,
@@ -234,6 +243,7 @@ STRUCTS = {
     "wt_request_budget": RequestBudget,
     "wt_sending": Sending,
     "wt_control": Control,
+    "wt_policy": Policy,
 }
 
 SIZE, U32, U64 = POINTER(c_size_t), POINTER(c_uint32), POINTER(c_uint64)
@@ -251,6 +261,8 @@ PEER, HOLD, BUDGET = POINTER(PeerSettings), POINTER(Hold), POINTER(RequestBudget
 SENDING, CONTROL = POINTER(Sending), POINTER(Control)
 # What a call that sends writes, and why it does not.
 SENDS = [*OUT, U32]
+# The message and the fields of a call that writes them with an encoder.
+ENCODES = [SENDING, *BYTES, *FIELDS, *BYTES]
 # The memory and the input of a call that reads a stream, and what it gives.
 RECEIVES = [CONNECTION, STREAM, *BYTES, *BYTES]
 GIVES = [*BYTES, c_uint8, EVENT, *FIELDS, *BYTES]
@@ -338,6 +350,13 @@ ARGUMENTS = {
     "wt_sending_datagram": [SENDING, *SENDS],
     "wt_sending_drain": [SENDING, *SENDS],
     "wt_sending_close": [SENDING, c_uint32, *BYTES, *SENDS],
+    "wt_encoder_new": [POINTER(Policy), *BYTES],
+    "wt_encoder_limits": [*BYTES, c_uint64, c_uint64, *OUT],
+    "wt_encoder_receive": [*BYTES, *BYTES, U64],
+    "wt_encoder_unacknowledged": [*BYTES, U64],
+    "wt_encoder_take_back": [*BYTES, c_uint64],
+    "wt_sending_headers_with": [*ENCODES, *OUT, *SENDS],
+    "wt_sending_trailers_with": [*ENCODES, *OUT, *SENDS],
     "wt_code_name": [c_uint64, *OUT],
     "wt_code_scope": [c_uint64],
     "wt_application_code_to_http3": [c_uint32],

@@ -372,6 +372,84 @@ static int make_table(void) {
   return wt_table_new(220, table, TABLE_SIZE);
 }
 
+/* A client whose encoder has an entry and a section that is not acknowledged. */
+enum { ENCODER_SIZE = WT_ENCODER_SIZE(220, 4) };
+
+typedef struct encoding {
+  wt_sending sending;
+  uint8_t encoder[ENCODER_SIZE];
+  uint8_t instructions[64], out[64];
+  size_t instructions_used, used;
+  uint32_t why;
+  uint64_t number;
+} encoding;
+
+static const wt_policy encoder_policy = {1024, 0, 4};
+static const char get_texts[] = ":methodGET:schemehttps:authoritywww.example.com:path/x-sum1";
+static const wt_field get_fields[] = {{0, 7, 7, 3}, {10, 7, 17, 5}, {22, 10, 32, 15}, {47, 5, 52, 1}};
+static const wt_field sum_field = {53, 5, 58, 1};
+
+static int call_headers_with(encoding *e) {
+  return wt_sending_headers_with(&e->sending, e->encoder, ENCODER_SIZE, get_fields, 4,
+                                 (const uint8_t *)get_texts, sizeof get_texts - 1, e->instructions,
+                                 64, &e->instructions_used, e->out, 64, &e->used, &e->why);
+}
+
+static int call_trailers_with(encoding *e) {
+  return wt_sending_trailers_with(&e->sending, e->encoder, ENCODER_SIZE, &sum_field, 1,
+                                  (const uint8_t *)get_texts, sizeof get_texts - 1, e->instructions,
+                                  64, &e->instructions_used, e->out, 64, &e->used, &e->why);
+}
+
+static int call_encoder_new(encoding *e) {
+  return wt_encoder_new(&encoder_policy, e->encoder, ENCODER_SIZE);
+}
+
+static int call_limits(encoding *e) {
+  return wt_encoder_limits(e->encoder, ENCODER_SIZE, 220, 1, e->out, 64, &e->used);
+}
+
+static int call_encoder_receive(encoding *e) {
+  return wt_encoder_receive(e->encoder, ENCODER_SIZE, (const uint8_t *)"\x80", 1, &e->number);
+}
+
+static int call_unacknowledged(encoding *e) {
+  return wt_encoder_unacknowledged(e->encoder, ENCODER_SIZE, &e->number);
+}
+
+static int call_take_back(encoding *e) { return wt_encoder_take_back(e->encoder, ENCODER_SIZE, 0); }
+
+/* Makes a call with allocations refused, after which nothing has changed, after so many of the calls that
+   come before it. */
+static int encoding_call(int (*call)(encoding *e), int calls) {
+  static const wt_endpoint client = {WT_SIDE_CLIENT, 0, 0, 0, 4096, 4096, 100, {0, 0, 0, 0, 0}};
+  static int (*const before[])(encoding *e) = {call_encoder_new, call_limits, call_headers_with};
+  static encoding e, same;
+  wt_connection c;
+  long k = left;
+  int answer, i;
+  left = -1;
+  memset(&e, 0, sizeof e);
+  if (wt_connection_new(WT_ABI, &client, &c) != WT_OK) return WT_INVALID;
+  if (wt_sending_request(&c, 0, &e.sending, &e.why) != WT_OK) return WT_INVALID;
+  for (i = 0; i < calls; i++)
+    if (before[i](&e) != WT_OK) return WT_INVALID;
+  same = e;
+  left = k;
+  answer = call(&e);
+  left = -1;
+  if (answer == WT_MEMORY && memcmp(&e, &same, sizeof e) != 0) return WT_INVALID;
+  return answer;
+}
+
+static int make_encoder(void) { return encoding_call(call_encoder_new, 0); }
+static int limit_encoder(void) { return encoding_call(call_limits, 1); }
+static int encode_headers(void) { return encoding_call(call_headers_with, 2); }
+static int encode_trailers(void) { return encoding_call(call_trailers_with, 3); }
+static int encoder_receive(void) { return encoding_call(call_encoder_receive, 3); }
+static int encoder_count(void) { return encoding_call(call_unacknowledged, 3); }
+static int encoder_take_back(void) { return encoding_call(call_take_back, 3); }
+
 static void refuse(const char *name, int (*call)(void)) {
   for (long k = 0; k < 200; k++) {
     int answer;
@@ -416,6 +494,13 @@ int main(void) {
   refuse("wt_table_acknowledge", tabled_acknowledge);
   refuse("wt_table_increment", tabled_increment);
   refuse("wt_table_cancel", tabled_cancel);
+  refuse("wt_encoder_new", make_encoder);
+  refuse("wt_encoder_limits", limit_encoder);
+  refuse("wt_encoder_receive", encoder_receive);
+  refuse("wt_encoder_unacknowledged", encoder_count);
+  refuse("wt_encoder_take_back", encoder_take_back);
+  refuse("wt_sending_headers_with", encode_headers);
+  refuse("wt_sending_trailers_with", encode_trailers);
   refuse("wt_sending_headers", send_headers);
   refuse("wt_sending_trailers", send_trailers);
   refuse("wt_sending_close", send_close);

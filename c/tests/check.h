@@ -46,4 +46,5 @@ void test_connection_table(void);
 void test_sending_messages(void);
 void test_sending_sessions(void);
 void test_sending_words(void);
+void test_sending_tables(void);
 #endif

@@ -35,6 +35,7 @@ int main(void) {
   test_sending_messages();
   test_sending_sessions();
   test_sending_words();
+  test_sending_tables();
   printf("%lu passed, %lu failed\n", passed, failed);
   return failed > 0;
 }
