@@ -14,18 +14,20 @@
 #include <stdio.h>
 #include <stdlib.h>
 
-/* The capacity of QPACK's dynamic table for what is received, in bytes: 0, if the program does not define
-   it, for none. */
+/* The capacity of QPACK's dynamic tables in bytes, of that for what is received, and the largest that is
+   used of the peer's for what is sent: 0, if the program does not define it, for none. */
 #ifndef H3_TABLE
 #define H3_TABLE 0
 #endif
 
 enum {
   H3_BLOCKED = 16, /* streams that may wait for entries of the table */
+  H3_SECTIONS = H3_TABLE > 0 ? 64 : 0, /* that refer to the peer's table and are not acknowledged */
   H3_WINDOW = 1 << 18, /* QUIC's window of a stream: the most bytes of it that are not consumed */
   H3_MAX_FIELDS = 1 << 14, /* of a decoded field section: the own SETTINGS announce it */
   H3_MAX_SECTION = 1 << 14, /* of an encoded one: it is whole before it is read, so it is shorter
                                than the window */
+  H3_MAX_HEAD = 1200, /* of what is written for a field_list: its texts have at most 1024 bytes */
   H3_MAX_DATAGRAM = 1100 /* each packet of QUIC has room for it */
 };
 #define H3_NONE UINT64_MAX
@@ -36,9 +38,12 @@ typedef struct h3_connection {
   wt_connection wt;
   bool server;
   h3_stream *streams; /* all of them, from the first one on */
-  h3_stream *own_decoder; /* the own decoder stream of QPACK, or null */
+  h3_stream *own_encoder, *own_decoder; /* the own streams of QPACK, or null */
   uint64_t inserted; /* entries that the peer inserted into the table */
+  uint64_t instructed; /* bytes that were sent on the own encoder stream, after its type */
+  uint64_t settled; /* sections that referred to the peer's table: it read or cancelled so many */
   uint8_t table[WT_TABLE_SIZE(H3_TABLE)];
+  uint8_t encoder[WT_ENCODER_SIZE(H3_TABLE, H3_SECTIONS)];
   void *user; /* the program's */
 } h3_connection;
 
@@ -48,6 +53,7 @@ struct h3_stream {
   uint64_t id; /* H3_NONE: QUIC did not open it yet */
   bool own, bidirectional;
   bool over; /* nothing more is read */
+  bool is_decoder; /* it is the peer's decoder stream, and the encoder reads it */
   uint64_t session; /* that it joined, or H3_NONE */
   wt_stream wt;
   wt_sending sending; /* of a request or its response */
@@ -153,12 +159,9 @@ static inline void h3_send_settings(h3_connection *c, const wt_setting *settings
 
 /* Sends the fields of a message. Returns whether they may be sent. */
 static inline bool h3_send_fields(h3_stream *s, const field_list *f) {
-  uint8_t bytes[1200];
+  uint8_t bytes[H3_MAX_HEAD];
   size_t size;
-  uint32_t why;
-  if (wt_sending_headers(&s->sending, f->list, f->count, f->texts, f->used, bytes, sizeof bytes,
-                         &size, &why) != WT_OK)
-    return false;
+  if (!h3_write_fields(s, f, bytes, &size)) return false;
   quic_send(s, bytes, size, false);
   return true;
 }
@@ -325,8 +328,10 @@ static inline void h3_act(h3_stream *s, const h3_event *e) {
   case WT_EVENT_JOINS: h3_join(s, e->wt.number); return;
   case WT_EVENT_CONNECTION_ERROR: quic_close(s->c, e->wt.number); return;
   case WT_EVENT_OPENED:
+    s->is_decoder = H3_TABLE > 0 && e->wt.detail == WT_PURPOSE_DECODER;
     if (e->wt.detail == WT_PURPOSE_IGNORED) h3_end_stream(s, WT_H3_STREAM_CREATION_ERROR);
     return;
+  case WT_EVENT_SETTINGS: h3_use_settings(s->c); break;
   case WT_EVENT_HEADERS:
     if (e->wt.detail == WT_HEADERS_REQUEST) h3_begin_response(s, e);
     break;
@@ -355,11 +360,13 @@ static inline void h3_act(h3_stream *s, const h3_event *e) {
 /* Begins a connection, whose own SETTINGS allow sessions, datagrams, fields of H3_MAX_FIELDS, and, if
    that is not 0, a table of H3_TABLE with H3_BLOCKED streams. */
 static inline void h3_begin(h3_connection *c, bool server) {
+  static const wt_policy policy = {H3_TABLE / 4, H3_TABLE / 8, H3_SECTIONS};
   wt_endpoint endpoint = {server,          1,  1, server, H3_MAX_SECTION, H3_MAX_FIELDS,
                           H3_MAX_DATAGRAM, {0}};
   c->server = server;
   h3_ok(c, wt_connection_new(WT_ABI, &endpoint, &c->wt));
   h3_ok(c, wt_table_new(H3_TABLE, c->table, sizeof c->table));
+  h3_ok(c, wt_encoder_new(&policy, c->encoder, sizeof c->encoder));
 }
 
 /* Adds a stream, which is zeros; QUIC says its ID now or later. When QUIC and the program need it
@@ -393,6 +400,10 @@ static inline void h3_receive(h3_stream *s, const uint8_t *bytes, size_t length,
   bool pauses;
   s->waits = WT_WAITS_NOTHING;
   do {
+    if (s->is_decoder) { /* of which nothing is held: only its end is read below */
+      h3_tell_encoder(s, bytes, length);
+      length = 0;
+    }
     if (!h3_ok(s->c,
                wt_receive_pushed(&s->c->wt, &s->wt, s->held, sizeof s->held,
                                  h3_uses_table(s) ? s->c->table : NULL,
@@ -437,7 +448,9 @@ static inline void h3_was_stopped(h3_stream *s, bool closed) {
   h3_event e = {0};
   uint64_t code;
   if (s->own && !s->bidirectional && s->session == H3_NONE) { /* of control or QPACK */
-    uint32_t purpose = s == s->c->own_decoder ? WT_PURPOSE_DECODER : WT_PURPOSE_CONTROL;
+    uint32_t purpose = s == s->c->own_encoder   ? WT_PURPOSE_ENCODER
+                       : s == s->c->own_decoder ? WT_PURPOSE_DECODER
+                                                : WT_PURPOSE_CONTROL;
     if (wt_stopped(&s->c->wt, purpose, &code) == WT_ERROR) quic_close(s->c, code);
   } else if (closed) h3_abandon(s);
   else if (h3_ok(s->c, wt_stream_stop(&s->c->wt, &s->wt, &e.wt))) h3_act(s, &e);

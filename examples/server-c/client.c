@@ -2,9 +2,10 @@
    in orders that the rules allow and that a network makes: streams before the CONNECT request of
    their session, SETTINGS after it, ends before the answer.
      client PORT SECONDS CERTIFICATE SESSIONS SEED [PID]
-   It prints what failed, and ends with 'N passed, M failed': a check for each session. PID is the
-   server's: then all sessions are plain, and one more check is that the server's memory after the
-   last hundred of them is that after the first. */
+   It prints what failed, and ends with 'N passed, M failed': a check for each session, and one that
+   both ends used QPACK's dynamic table of the other. PID is the server's: then all sessions are plain,
+   and one more check is that the server's memory after the last hundred of them is that after the
+   first. */
 #include "quic.h"
 #include <inttypes.h>
 
@@ -55,6 +56,7 @@ static const char *server; /* its process, whose memory is noted; or null */
 static long resident[HUNDREDS]; /* KiB */
 static int noted; /* so many of these */
 static unsigned long streams_back, resets, datagrams_sent, datagrams_back;
+static uint64_t entries, instructed, settled; /* of QPACK's tables, as h3_connection has them */
 static uint64_t random_state;
 static quic_connection *live[CONNECTIONS];
 
@@ -339,6 +341,9 @@ void on_event(h3_stream *s, const h3_event *e) {
 void on_gone(quic_connection *c, uint64_t code) {
   run *r = c->h3.user;
   if (code != WT_H3_NO_ERROR) printf("a connection ended with 0x%" PRIx64 "\n", code);
+  entries += c->h3.inserted;
+  instructed += c->h3.instructed;
+  settled += c->h3.settled;
   for (int i = 0; i < AT_ONCE; i++)
     if (r->sessions[i]) {
       fail(r->sessions[i], "its connection ended", code);
@@ -348,6 +353,14 @@ void on_gone(quic_connection *c, uint64_t code) {
     if (live[i] == c) live[i] = NULL;
   running--;
   free(r);
+}
+
+/* Prints what was done with QPACK's tables. Returns whether both ends used that of the other. */
+static bool are_tables_used(void) {
+  printf("%" PRIu64 " entries of tables, %" PRIu64 " bytes of instructions, %" PRIu64
+         " sections acknowledged\n",
+         entries, instructed, settled);
+  return entries > 0 && instructed > 0 && settled > 0;
 }
 
 int main(int count, char **arguments) {
@@ -363,6 +376,7 @@ int main(int count, char **arguments) {
   quic_run(atof(arguments[2]), step);
   failed += wanted - passed - failed;
   if (server) *(is_flat() ? &passed : &failed) += 1;
+  *(are_tables_used() ? &passed : &failed) += 1;
   printf("%lu streams came back, %lu were reset, %lu of %lu datagrams came back\n", streams_back,
          resets, datagrams_back, datagrams_sent);
   printf("%d passed, %d failed\n", passed, failed);

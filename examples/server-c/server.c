@@ -18,7 +18,7 @@ static char page[PAGE];
 static size_t page_size;
 static volatile bool done;
 static unsigned long sessions, closed, streams, datagrams, resets;
-static uint64_t entries; /* of QPACK's tables */
+static uint64_t entries, instructed, settled; /* of QPACK's tables, as h3_connection has them */
 
 static bool stop(void) { return done; }
 static void on_signal(int number) { (void)number, done = true; }
@@ -137,6 +137,8 @@ void on_event(h3_stream *s, const h3_event *e) {
 void on_gone(quic_connection *c, uint64_t code) {
   (void)code;
   entries += c->h3.inserted;
+  instructed += c->h3.instructed;
+  settled += c->h3.settled;
 }
 
 int main(int count, char **arguments) {
@@ -152,7 +154,8 @@ int main(int count, char **arguments) {
   fflush(stdout);
   quic_run(atof(arguments[2]), stop);
   printf("%lu sessions, %lu closed, %lu streams, %lu datagrams, %lu resets, %" PRIu64
-         " entries of tables\n",
-         sessions, closed, streams, datagrams, resets, entries);
+         " entries of tables, %" PRIu64 " bytes of instructions, %" PRIu64
+         " sections acknowledged\n",
+         sessions, closed, streams, datagrams, resets, entries, instructed, settled);
   return 0;
 }
