@@ -4,14 +4,15 @@ A `Connection` and its `Stream`s are words of the library. Every event is an `Ev
 """
 from __future__ import annotations
 
+from collections import Counter
 from ctypes import Array, c_uint32, c_uint64, create_string_buffer
 from dataclasses import dataclass
 from enum import IntEnum
 from typing import Any, Callable, Iterator
 
 import wtransport_c as c
-from table import Table
-from wtransport import Fields, check, library
+from table import Encoder, Table
+from wtransport import Fields, check, library, written
 
 
 def _numbers(name: str, prefix: str) -> type[IntEnum]:
@@ -26,6 +27,7 @@ HeadersKind = _numbers("HeadersKind", "HEADERS_")
 Waits = _numbers("Waits", "WAITS_")
 Known = _numbers("Known", "KNOWN_")
 DatagramUse = _numbers("DatagramUse", "DATAGRAM_")
+Asked = _numbers("Asked", "ASKED_")
 PAUSES = (EventKind.MORE, EventKind.WAITS)
 
 
@@ -45,7 +47,8 @@ class Event:
 class Limits:
     """In bytes: the largest encoded and decoded field sections that are read, the longest datagram
     of a capsule, what is held of a stream that waits for its session, or for something else, and
-    the capacity of QPACK's dynamic table. `max_blocked` streams may wait for the table."""
+    the capacity of QPACK's dynamic table, and of that of the peer at most. `max_blocked` streams
+    may wait for the table, and `max_sections` that are not acknowledged refer to the peer's."""
 
     max_section: int
     max_fields: int
@@ -54,14 +57,17 @@ class Limits:
     max_waiting: int
     table: int
     max_blocked: int
+    max_sections: int
 
 
 class Connection:
-    """A server's connection, with WebTransport and datagrams, and the streams of the peer on it."""
+    """A server's connection, with WebTransport and datagrams, and the streams of the peer on it.
+    `counts` counts what its tables of QPACK were used for."""
 
     def __init__(self, limits: Limits) -> None:
-        self.words, self.limits = c.Connection(), limits
-        self.table = Table(limits.table)
+        self.words, self.limits, self.counts = c.Connection(), limits, Counter()
+        self.table = Table(limits.table, self.counts)
+        self.encoder = Encoder(limits.table, limits.max_sections, self.counts)
         self.streams: dict[int, Stream] = {}
         self.over: dict[int, Known] = {}  # of streams that are over: what is known of their IDs
         sizes = limits.max_section, limits.max_fields, limits.max_datagram
@@ -96,6 +102,19 @@ class Connection:
             check(library.wt_too_many_blocked(self.words, event))
             yield _event_of(event)
 
+    def respond(self, stream_id: int, asked: Asked) -> Response:
+        """Begins the response to a request, by what it asks for."""
+        response, why = Response(self.encoder), c_uint32()
+        call = library.wt_sending_response
+        check(call(self.words, stream_id, asked, response.words, why))
+        return response
+
+    def use_settings(self) -> None:
+        """The SETTINGS of the peer came."""
+        peer = c.PeerSettings()
+        check(library.wt_connection_settings(self.words, peer))
+        self.encoder.use(peer)
+
     def known(self, session: int) -> Known:
         """What is known of a session."""
         known, its = c_uint32(), self.streams.get(session)
@@ -123,14 +142,36 @@ class Connection:
         return DatagramUse(library.wt_datagram_use(self.known(session)))
 
 
+class Response:
+    """What is sent on the stream of a request."""
+
+    def __init__(self, encoder: Encoder) -> None:
+        self.words, self.encoder = c.Sending(), encoder
+
+    def headers(self, status: int, fields: Fields) -> bytes:
+        """The head of the response."""
+        return self.encoder.headers(self.words, [(b":status", b"%d" % status), *fields])
+
+    def data(self, content: bytes) -> bytes:
+        """Content, which may not be empty."""
+        why = c_uint32()
+        head = written(library.wt_sending_data, self.words, len(content), after=[why])
+        check(library.wt_sending_sent(self.words, len(content), why))
+        return head + content
+
+    def finish(self) -> None:
+        """The stream ends."""
+        check(library.wt_sending_finish(self.words, c_uint32()))
+
+
 class Stream:
     """The peer's half of a stream: its state, and the bytes that are held of it. `waits` is what it
     waits for, and `session` the session if that is one. `id` is None for a stream of a session,
-    which needs no dynamic table."""
+    which needs no dynamic table. The encoder reads the decoder stream, if it `is_decoder`."""
 
     def __init__(self, connection: Connection, stream_id: int | None = None) -> None:
         self.connection, self.words, self.hold = connection, c.Stream(), c.Hold()
-        self.id = stream_id
+        self.id, self.is_decoder = stream_id, False
         self.waits, self.session = Waits.NOTHING, 0
         self._room = create_string_buffer(0)  # has the bytes that are held
         self._capsule = create_string_buffer(0)  # has those of a capsule that is cut
@@ -153,6 +194,9 @@ class Stream:
             yield self._join(self.session)
         event = Event(EventKind.SKIPPED)
         while event.kind not in PAUSES:
+            if self.is_decoder:  # nothing is held of it, and its end alone is read here
+                yield from self._tell_encoder(chunk)
+                chunk = b""
             event = self._next(chunk, end)
             chunk = chunk[self.hold.taken :]
             if event.kind in PAUSES:
@@ -193,9 +237,21 @@ class Stream:
         self._capsule_held = event.held
         if self.id is not None:
             table.was_read(self.id, event.number if event.kind == EventKind.INSERTED else None)
-        if event.kind == EventKind.SESSION_REQUESTED:
-            self._capsule = create_string_buffer(max(1028, limits.max_datagram))
+        match EventKind(event.kind):
+            case EventKind.SESSION_REQUESTED:
+                self._capsule = create_string_buffer(max(1028, limits.max_datagram))
+            case EventKind.OPENED:
+                self.is_decoder = event.detail == Purpose.DECODER
+            case EventKind.SETTINGS:
+                self.connection.use_settings()
         return _event_of(event, self._room if self.hold.in_array else chunk, fields, texts)
+
+    def _tell_encoder(self, chunk: bytes) -> Iterator[Event]:
+        """Gives the encoder bytes of the decoder stream: the error of the connection, if they have
+        one."""
+        code = self.connection.encoder.receive(chunk)
+        if code is not None:
+            yield Event(EventKind.CONNECTION_ERROR, number=code)
 
     def _keep(self, event: Event, more: int) -> Event:
         """Makes room for so many bytes beside those that are held, and ends a stream of which too

@@ -26,6 +26,7 @@ LIMITS = wt.Limits(
     max_waiting=65536,
     table=4096,
     max_blocked=16,
+    max_sections=64,
 )
 EARLY_DATAGRAMS = 16  # of sessions that are to come
 SETTINGS = [
@@ -37,14 +38,19 @@ SETTINGS = [
     (c.SETTING_QPACK_BLOCKED_STREAMS, LIMITS.max_blocked),
     (0x21 + 0x1F * 1000, 7),  # reserved for exercise
 ]
+TYPES = {
+    Purpose.CONTROL: c.STREAM_CONTROL,
+    Purpose.ENCODER: c.STREAM_QPACK_ENCODER,
+    Purpose.DECODER: c.STREAM_QPACK_DECODER,
+}
 ENDS_NO_WAIT = (Kind.MORE, Kind.WAITS, Kind.DATA, Kind.STREAM_DATA, Kind.SKIPPED)
 
 sender.install()
 
 
 class Connection:
-    """A client's connection, with the own control stream, and that of QPACK's decoder once it is
-    needed. `handle` takes each event of aioquic."""
+    """A client's connection, with the own control stream, and those of QPACK once they are needed.
+    `own` has their IDs. `handle` takes each event of aioquic."""
 
     def __init__(self, quic: QuicConnection, application: Application) -> None:
         self.quic, self.application, self.state = quic, application, wt.Connection(LIMITS)
@@ -52,11 +58,9 @@ class Connection:
         self.sessions: dict[int, Session] = {}
         self.early: deque[tuple[int, bytes]] = deque(maxlen=EARLY_DATAGRAMS)
         self.has_changed = self.is_closed = False
-        self.decoder: int | None = None
-        self.control = quic.get_next_available_stream_id(is_unidirectional=True)
-        head = wtransport.write_stream_header(c.STREAM_CONTROL)
-        head += wtransport.write_settings(SETTINGS) + wtransport.write_frame(0x21, b"grease")
-        quic.send_stream_data(self.control, head)
+        self.own: dict[Purpose, int] = {}
+        head = wtransport.write_settings(SETTINGS) + wtransport.write_frame(0x21, b"grease")
+        self._send_own(Purpose.CONTROL, head)
 
     def handle(self, event: events.QuicEvent) -> None:
         """Takes an event of aioquic, and reads the streams again whose wait it may have ended."""
@@ -67,10 +71,9 @@ class Connection:
                 stream.was_reset(event.error_code)
             case events.StopSendingReceived(stream_id=number) if stream := self._find(number):
                 stream.was_stopped(event.error_code)
-            case events.StopSendingReceived(stream_id=self.control):
-                self.act(None, self.state.was_stopped(Purpose.CONTROL))
-            case events.StopSendingReceived(stream_id=self.decoder):
-                self.act(None, self.state.was_stopped(Purpose.DECODER))
+            case events.StopSendingReceived(stream_id=number):
+                for purpose in [p for p, own in self.own.items() if own == number]:
+                    self.act(None, self.state.was_stopped(purpose))
             case events.DatagramFrameReceived():
                 self.act(None, self.state.datagram(event.data))
             case events.ConnectionTerminated():
@@ -83,7 +86,7 @@ class Connection:
                 self._read(stream)
             for _ in range(len(self.early)):
                 self._deliver(*self.early.popleft())
-        self._tell_encoder()
+        self.send_due()
 
     def act(self, stream: Stream | None, event: Event, code: int = c.H3_REQUEST_CANCELLED) -> None:
         """Does what an event requires. `code` is that of a reset; not all events have a stream."""
@@ -136,14 +139,20 @@ class Connection:
         if stream.state.is_over:
             stream.end(receiving=True)
 
-    def _tell_encoder(self) -> None:
-        """Sends what is due on the own decoder stream, which is opened for it."""
-        told, self.state.table.told = self.state.table.told, b""
-        if told and self.decoder is None:
-            self.decoder = self.quic.get_next_available_stream_id(is_unidirectional=True)
-            told = wtransport.write_stream_header(c.STREAM_QPACK_DECODER) + told
-        if told:
-            self.quic.send_stream_data(self.decoder, told)
+    def send_due(self) -> None:
+        """Sends what is due on the own streams of QPACK."""
+        state = self.state
+        for purpose, of in ((Purpose.ENCODER, state.encoder), (Purpose.DECODER, state.table)):
+            due, of.due = of.due, b""
+            if due:
+                self._send_own(purpose, due)
+
+    def _send_own(self, purpose: Purpose, data: bytes) -> None:
+        """Sends bytes on an own stream, which is opened for the first of them."""
+        if purpose not in self.own:
+            self.own[purpose] = self.quic.get_next_available_stream_id(is_unidirectional=True)
+            data = wtransport.write_stream_header(TYPES[purpose]) + data
+        self.quic.send_stream_data(self.own[purpose], data)
 
     def _deliver(self, session: int, payload: bytes) -> None:
         """Does with a datagram what is known of its session says."""

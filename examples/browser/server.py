@@ -100,10 +100,13 @@ class Log:
         else:
             self.rows.append([session.path, what, *values])
 
-    def note_held(self, connection: Connection, stream_id: int) -> None:
-        """Notes how many bytes a stream holds after an event."""
+    def note(self, connection: Connection, stream_id: int) -> None:
+        """Notes how many bytes a stream holds after an event, and what QPACK's tables were used
+        for."""
         stream = connection.state.streams.get(stream_id)
         self.most_held = max(self.most_held, stream.held if stream else 0)
+        self.counts.update(connection.state.counts)
+        connection.state.counts.clear()
 
     def summary(self, live: set[Connection]) -> dict[str, object]:
         """All of it, for JSON; `live` are the connections."""
@@ -252,7 +255,7 @@ class Protocol(QuicConnectionProtocol):
         if self.http is not None:
             self.grease.handle(event)
             self.http.handle(event)
-            self.site.log.note_held(self.http, getattr(event, "stream_id", -1))
+            self.site.log.note(self.http, getattr(event, "stream_id", -1))
             self.transmit()
             if self.http.is_closed and self.http in self.live:
                 self.live.discard(self.http)

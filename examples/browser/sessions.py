@@ -7,7 +7,7 @@ from typing import TYPE_CHECKING
 
 import wtransport
 import wtransport_c as c
-from connection import Stream as State
+from connection import Asked, Response, Stream as State
 from wtransport import Fields
 
 if TYPE_CHECKING:
@@ -15,18 +15,20 @@ if TYPE_CHECKING:
 
 DRAFT_02 = (b"sec-webtransport-http3-draft02", b"1")
 DRAFT_02_ANSWER = (b"sec-webtransport-http3-draft", b"draft02")
+ASKED = {b"HEAD": Asked.HEAD, b"CONNECT": Asked.CONNECT}  # by methods
 
 
 @dataclass(eq=False)
 class Stream:
     """A stream of a connection. `state` is that of the peer's half, if it has one, `session` the
-    session that it belongs to, and `fields` are those of a request."""
+    session that it belongs to, and `fields` are those of a request, with its `response`."""
 
     connection: Connection
     id: int
     state: State | None
     session: Session | None = None
     fields: Fields = ()
+    response: Response | None = None
 
     def __post_init__(self) -> None:
         self.is_bidirectional, self.can_receive = self.id % 4 < 2, self.state is not None
@@ -46,6 +48,18 @@ class Stream:
         if self.can_send:
             self.connection.quic.send_stream_data(self.id, data, end)
             self.end(sending=end)
+
+    def respond(
+        self, status: int, fields: Fields = (), content: bytes = b"", end: bool = True
+    ) -> None:
+        """Sends a response, after the instructions for its head, and ends it or not."""
+        if self.can_send:
+            data = self.response.headers(status, fields)
+            data += self.response.data(content) if content else b""
+            if end:
+                self.response.finish()
+            self.connection.send_due()
+            self.send(data, end)
 
     def reset(self, code: int) -> None:
         """Resets the own half with an application's code."""
@@ -82,27 +96,29 @@ class Stream:
 
     def ask(self, fields: Fields) -> None:
         """A request came, which is answered when it has ended. CONNECT is for no session here."""
-        self.fields = fields
-        if (b":method", b"CONNECT") in fields:
+        self.fields, asked = fields, ASKED.get(dict(fields)[b":method"], Asked.OTHER)
+        self.response = self.connection.state.respond(self.id, asked)
+        if asked == Asked.CONNECT:
             self.refuse(501)
 
     def ask_session(self, fields: Fields) -> None:
         """A request for a session came."""
         connection, self.fields = self.connection, fields
+        self.response = connection.state.respond(self.id, Asked.SESSION)
         session = Session(self, dict(fields)[b":path"].decode("utf-8", "replace"))
         status = connection.application.session(session, fields)
         if status != 200:
             self.refuse(status)
             return
-        answer = [DRAFT_02_ANSWER] if DRAFT_02 in fields else []
-        self.send(wtransport.write_response(status, answer))
+        self.respond(status, [DRAFT_02_ANSWER] if DRAFT_02 in fields else [], end=False)
         self.state.answer(status)
         connection.sessions[self.id] = session
         connection.application.opened(session)
 
     def refuse(self, status: int) -> None:
         """Answers a request of which no more is read."""
-        self.send(wtransport.write_response(status), True)
+        self.response = self.response or self.connection.state.respond(self.id, Asked.OTHER)
+        self.respond(status)
         self.state.answer(status)
         self._stop(c.H3_NO_ERROR)
         self.abandon()
@@ -114,8 +130,7 @@ class Stream:
         elif self.fields:
             status, fields, content = self.connection.application.request(self.fields)
             is_head = (b":method", b"HEAD") in self.fields
-            data = b"" if is_head else wtransport.write_data(content)
-            self.send(wtransport.write_response(status, fields) + data, True)
+            self.respond(status, fields, b"" if is_head else content)
 
     def was_reset(self, code: int) -> None:
         """The peer reset its half."""

@@ -6,7 +6,7 @@ is in connection.py.
 from __future__ import annotations
 
 import os
-from ctypes import c_size_t, c_uint32, c_uint64, create_string_buffer
+from ctypes import Array, c_size_t, c_uint32, c_uint64, create_string_buffer
 from pathlib import Path
 from typing import Any, Callable, Iterable, Sequence
 
@@ -27,12 +27,13 @@ def check(answer: int) -> None:
         raise ValueError(f"a call of the library returned {answer}")
 
 
-def written(call: Callable[..., int], *arguments: Any) -> bytes:
-    """The bytes that a call writes, which is made again if it needs more room."""
+def written(call: Callable[..., int], *arguments: Any, after: Sequence[Any] = ()) -> bytes:
+    """The bytes that a call writes, which is made again if it needs more room. `after`: its
+    arguments after these."""
     room, answer, used = 64, c.BUFFER_TOO_SMALL, c_size_t()
     while answer == c.BUFFER_TOO_SMALL:
         out = create_string_buffer(room)
-        answer = call(*arguments, out, room, used)
+        answer = call(*arguments, out, room, used, *after)
         room = used.value
     check(answer)
     return out.raw[: used.value]
@@ -103,12 +104,6 @@ def write_frame(kind: int, payload: bytes) -> bytes:
     return written(library.wt_frame_write, kind, payload, len(payload))
 
 
-def write_data(content: bytes) -> bytes:
-    """A DATA frame."""
-    head = written(library.wt_frame_write_head, c.FRAME_DATA, len(content))
-    return head + content
-
-
 def write_settings(settings: Iterable[tuple[int, int]]) -> bytes:
     """The SETTINGS frame of (identifier, value) pairs."""
     pairs = list(settings)
@@ -116,18 +111,17 @@ def write_settings(settings: Iterable[tuple[int, int]]) -> bytes:
     return write_frame(c.FRAME_SETTINGS, written(library.wt_settings_write, array, len(pairs)))
 
 
-def write_response(status: int, pairs: Fields = ()) -> bytes:
-    """The HEADERS frame of a response with these fields."""
+def array_of(pairs: Fields) -> tuple[Array, bytes]:
+    """The fields as the library takes them, and their texts."""
     fields, texts = (c.Field * len(pairs))(), b""
     for field, (name, value) in zip(fields, pairs):
         at, texts = len(texts), texts + name + value
         field.name_offset, field.name_length = at, len(name)
         field.value_offset, field.value_length = at + len(name), len(value)
-    call = library.wt_response_write
-    return written(call, status, fields, len(pairs), texts, len(texts))
+    return fields, texts
 
 
 def write_close(code: int, reason: str) -> bytes:
     """The DATA frame with the capsule that closes a session."""
     text = reason.encode()
-    return write_data(written(library.wt_close_write, code, text, len(text)))
+    return write_frame(c.FRAME_DATA, written(library.wt_close_write, code, text, len(text)))
