@@ -84,6 +84,8 @@ def server_rows(log: dict) -> Iterator[tuple[str, object, object]]:
     yield "statuses of denials", denials, {"/deny/404": 404, "/deny/403": 403}
     for what in ("setting", "frame", "capsule"):
         yield f"GREASE survived, {what}", log["counts"].get("reserved " + what, 0) > 0, True
+    for what in ("entries of tables", "bytes of instructions", "sections acknowledged"):
+        yield f"QPACK, {what}", log["counts"].get(what, 0) > 0, True
 
 
 @contextlib.contextmanager

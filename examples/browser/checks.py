@@ -18,6 +18,7 @@ import limits
 import load
 import loss
 import rules
+import tables
 from client import client_of, log_of, number, settle
 
 GROWTH = 512  # KiB that the server may grow by, over 900 sessions
@@ -104,6 +105,11 @@ async def check_rules(report: Report, port: int) -> None:
         report.check("rule: " + name, await action(port), wanted)
 
 
+async def check_tables(report: Report, port: int) -> None:
+    for name, action, wanted in tables.ROWS:
+        report.check("table: " + name, await action(port), wanted)
+
+
 async def check_limits(report: Report, port: int) -> None:
     async with client_of(port) as bystander:
         session = await bystander.open_session(b"/echo")
@@ -156,6 +162,7 @@ def main() -> None:
     asyncio.run(check_limits(report, port))
     asyncio.run(check_faults(report, port, frames))
     asyncio.run(check_rules(report, port))
+    asyncio.run(check_tables(report, port))
     check_rest(report, port, os.path.join(out, "server.log"))
     if report.left_out:
         print(f"{report.left_out} left out, neither passed nor failed")

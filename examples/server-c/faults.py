@@ -13,6 +13,7 @@ import sys
 
 sys.path.insert(0, os.path.join(os.path.dirname(os.path.abspath(__file__)), "..", "browser"))
 import faults  # noqa: E402
+import tables  # noqa: E402
 from client import (  # noqa: E402
     client_of,
     close_capsule,
@@ -270,6 +271,8 @@ async def main(port):
         report.check("an echo that is stopped", await stops_echo(port), (0x10C, True))
         report.check("requests that wait for an entry", await answers_blocked(port), (False, True))
         report.check("too many that wait for an entry", await blocks_too_many(port), 0x200)
+        for name, action, wanted in tables.ROWS:
+            report.check(f"table: {name}", await action(port), wanted)
         report.check("431", await refuses_large_fields(port), (True, True))
         report.check("a POST in one frame", await reads_long_frames(port), b"100000 bytes\n")
         saw = await faults.endless_frame(port)
