@@ -14,8 +14,8 @@
 #include <stdio.h>
 #include <stdlib.h>
 
-/* The capacity of QPACK's dynamic tables in bytes, of that for what is received, and the largest that is
-   used of the peer's for what is sent: 0, if the program does not define it, for none. */
+/* The capacity of QPACK's dynamic table for what is received, in bytes, and the largest that is used
+   of the peer's for what is sent: 0, if the program does not define it, for none. */
 #ifndef H3_TABLE
 #define H3_TABLE 0
 #endif

@@ -1,6 +1,6 @@
 /* QPACK's dynamic tables, for h3.h, which includes it: that for what a connection receives, and the
-   peer's for what it sends. They are used if the program defines H3_TABLE, in bytes, before it includes
-   h3.h, and sends SETTINGS with H3_TABLE and H3_BLOCKED. */
+   peer's for what it sends. They are used if the program defines H3_TABLE before it includes h3.h,
+   and sends SETTINGS with H3_TABLE and H3_BLOCKED. */
 #ifndef H3_TABLE_H
 #define H3_TABLE_H
 

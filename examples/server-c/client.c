@@ -3,9 +3,9 @@
    their session, SETTINGS after it, ends before the answer.
      client PORT SECONDS CERTIFICATE SESSIONS SEED [PID]
    It prints what failed, and ends with 'N passed, M failed': a check for each session, and one that
-   both ends used QPACK's dynamic table of the other. PID is the server's: then all sessions are plain,
-   and one more check is that the server's memory after the last hundred of them is that after the
-   first. */
+   each end used QPACK's dynamic table of the other. PID is the server's: then all sessions are
+   plain, and one more check is that the server's memory after the last hundred of them is that after
+   the first. */
 #include "quic.h"
 #include <inttypes.h>
 
@@ -355,7 +355,7 @@ void on_gone(quic_connection *c, uint64_t code) {
   free(r);
 }
 
-/* Prints what was done with QPACK's tables. Returns whether both ends used that of the other. */
+/* Prints what was done with QPACK's tables. Returns whether each end used that of the other. */
 static bool are_tables_used(void) {
   printf("%" PRIu64 " entries of tables, %" PRIu64 " bytes of instructions, %" PRIu64
          " sections acknowledged\n",
