@@ -84,9 +84,9 @@ async def unacknowledged(port: int) -> tuple[int, bytes, bytes]:
         return referring, saw[2:4], await answer(client)
 
 
-async def code(port: int, pieces: tuple[bytes, ...], last: str = "") -> int | None | bool:
-    """The code of the connection after stream 0 was answered, and a decoder stream came in these
-    pieces, and ended or was reset; None if the connection goes on."""
+async def code(port: int, pieces: tuple[bytes, ...], last: str = "") -> tuple[int | None, bool]:
+    """What becomes of a connection after stream 0 was answered, and a decoder stream came in these
+    pieces, and ended or was reset: its code, and whether its session goes on."""
     async with client_of(port, settings(4096, 16)) as client:
         session = await client.open_session(b"/echo")
         await instructions(client)
@@ -98,9 +98,9 @@ async def code(port: int, pieces: tuple[bytes, ...], last: str = "") -> int | No
             client.send(stream, b"", end=True)
         elif last == "reset":
             client.reset(stream, 0x10C)
-        if await client.until(lambda: client.closed_by is not None, 0.5):
-            return client.closed_by
-        return None if await client.echoes(session, b"still here") else False
+        echo = client.stream(client.open(number(0x41) + number(session) + b"still here", end=True))
+        await client.until(lambda: echo.is_ended or client.closed_by is not None)
+        return client.closed_by, echo.data == b"still here"
 
 
 async def cancels(port: int) -> bool:
@@ -127,7 +127,7 @@ Action = Callable[[int], Awaitable[object]]
 
 def told(name: str, *pieces: bytes, last: str = "", wanted: int | None = None) -> tuple:
     """The row of a decoder stream that came in these pieces."""
-    return name, partial(code, pieces=pieces, last=last), wanted
+    return name, partial(code, pieces=pieces, last=last), (wanted, wanted is None)
 
 
 ROWS: list[tuple[str, Action, object]] = [

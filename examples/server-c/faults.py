@@ -273,6 +273,7 @@ async def main(port):
         report.check("too many that wait for an entry", await blocks_too_many(port), 0x200)
         for name, action, wanted in tables.ROWS:
             report.check(f"table: {name}", await action(port), wanted)
+            goes_on = goes_on and await bystander.echoes(session, b"still here")
         report.check("431", await refuses_large_fields(port), (True, True))
         report.check("a POST in one frame", await reads_long_frames(port), b"100000 bytes\n")
         saw = await faults.endless_frame(port)
