@@ -50,11 +50,13 @@ static inline void h3_tell_dropped(h3_stream *s) {
   h3_tell(s->c, answer, out, size);
 }
 
-/* A stream waits for the table: not too many may. */
+/* A stream waits for the table: not too many may. One whose insertions came waits no longer, also
+   before it is read again. */
 static inline void h3_count_blocked(h3_connection *c) {
   wt_event e;
   size_t count = 0;
-  for (const h3_stream *s = c->streams; s; s = s->next) count += s->waits == WT_WAITS_TABLE;
+  for (const h3_stream *s = c->streams; s; s = s->next)
+    count += s->waits == WT_WAITS_TABLE && s->awaited > c->inserted;
   if (count > H3_BLOCKED && h3_ok(c, wt_too_many_blocked(&c->wt, &e)) &&
       e.kind == WT_EVENT_CONNECTION_ERROR)
     quic_close(c, e.number);
