@@ -1,3 +1,4 @@
 pub mod InputLemmas
 pub mod HexLemmas
 pub mod SheetLemmas
+pub mod ConnectionLemmas

@@ -1,5 +1,6 @@
 -- What the arguments of the program mean.
 use Rattle.std.specs.Prelude.{◌≡◌, ℕ, Bool, true, false, List, codes, Option, Some, None}
+use Rattle.std.specs.Str.{bytes_eq}
 use Rattle.clap.specs.Matches.{one_text}
 use Rattle.clap.specs.declared.parser.matches.Found.{Found}
 use Rattle.wt_inspection.specs.declared.reading.Recorded.{Recorded}
@@ -21,6 +22,11 @@ kind_name recorded-is.Settings = codes "settings"
 -- a name, if it is that of a kind, is the name of this one
 abbrev pub Names : Option (List ℕ) → Recorded → Type 0
 Names given found = (kind : Recorded) → given ≡ Some (kind_name kind) → found ≡ kind
+
+-- a name, if there is one, is that of a connection
+abbrev pub names_connection : Option (List ℕ) → Bool
+names_connection (Some name) = bytes_eq name (codes "connection")
+names_connection None = false
 
 -- the format of the output, by the flags for JSON and HTML
 abbrev pub output_of : Bool → Bool → Output

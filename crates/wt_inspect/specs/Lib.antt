@@ -6,3 +6,5 @@ pub mod CommandLine
 pub mod Sheets
 pub mod Shown
 pub mod Showings
+pub mod Connections
+pub mod ConnectionShown

@@ -1,5 +1,5 @@
 -- Lines of text or of JSON, some of which are not written yet.
-use Rattle.std.specs.Prelude.{◌≡◌, ℕ, ◌+◌, Bool, List, ◌++◌, length, sum_by, Option}
+use Rattle.std.specs.Prelude.{◌≡◌, ℕ, ◌+◌, Bool, true, false, List, ◌++◌, length, sum_by, Option}
 use Rattle.std.specs.Io.KnownBytes.{Appends}
 use Rattle.wt_inspection.specs.Results.{Item, Warning}
 use Rattle.wt_inspection_views.specs.Escaped.{AreLines, line_count}
@@ -27,6 +27,11 @@ abbrev pub AreLinesOf : Output → ℕ → List ℕ → Type 0
 AreLinesOf output-is.Text n text = AreLines text × (line_count text ≡ n)
 AreLinesOf output-is.Json n text = AreJsonLines n text
 AreLinesOf output-is.Html n text = ⊥
+
+-- a format of lines: text or JSON
+abbrev pub is_lines : Output → Bool
+is_lines output-is.Html = false
+is_lines other = true
 
 -- the sheet has n lines in this format, unless an allocation failed
 abbrev pub HasSheet : Output → ℕ → Sheet → Type 0

@@ -4,6 +4,8 @@ use Rattle.std.specs.List.{list_any}
 use Rattle.wt_inspection.specs.Results.{End, Warning, has_fault, is_hint}
 use Rattle.wtp_dynamic.specs.declared.error.EncoderStreamError.{EncoderStreamError}
 use Rattle.wtp_dynamic.specs.declared.error.EncoderStreamError.TheVariants as stream-is
+use Rattle.wt_inspect_connection.specs.declared.list.ListError.{ListError}
+use Rattle.wt_inspect_connection.specs.declared.list.ListError.TheVariants as error-is
 use Rattle.wt_inspect.specs.declared.failure.Failure.{Failure}
 use Rattle.wt_inspect.specs.declared.failure.Failure.TheVariants as failure-is
 
@@ -12,9 +14,15 @@ abbrev pub encoder_failure : EncoderStreamError → Failure
 encoder_failure stream-is.Memory = failure-is.Memory
 encoder_failure fault = failure-is.Encoder fault
 
+-- what an error of a list is
+abbrev pub list_failure : ListError → Failure
+list_failure error-is.Memory = failure-is.Memory
+list_failure error = failure-is.List error
+
 -- of a failure
 abbrev pub failure_status : Failure → ℕ
 failure_status failure-is.Arguments = 1
+failure_status failure-is.NotOfConnection = 1
 failure_status failure-is.Memory = 4
 failure_status failure-is.Closed = 141
 failure_status other = 3

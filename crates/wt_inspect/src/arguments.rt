@@ -1,7 +1,7 @@
 //! Parses the arguments.
 ghost use Rattle.std.specs.Prelude.{◌≡◌, ◌<◌, ◌^◌, ℕ, Bool, None, Some, codes, option_map};
 ghost use Rattle.clap.specs.Matches.{first_value, found_of, one_text};
-ghost use Rattle.wt_inspect.specs.CommandLine.{IsFlag, Names, output_of};
+ghost use Rattle.wt_inspect.specs.CommandLine.{IsFlag, Names, names_connection, output_of};
 
 use clap::{Arg, ArgAction, ArgMatches, Command, Error, value_parser};
 use std::alloc::Global;
@@ -27,6 +27,7 @@ KIND says what the bytes are, from the first one on, in one direction of one str
   capsules  the content of the DATA frames of a session
   section   an encoded field section, which is the payload of a HEADERS frame
   settings  the payload of a SETTINGS frame
+  connection  a list of what was recorded of a connection: a line STREAM DIRECTION FILE for each
 The other direction of a WebTransport stream is the application's bytes alone, so it has no KIND.
 
 What is written: a line for each item, with its place in bytes, what it is, and mostly its size;
@@ -59,7 +60,7 @@ Exit status: 0 the bytes were shown, 1 wrong arguments, 2 the bytes have a fault
 a warning), 3 input or output failed, 4 out of memory.";
 
 /// The names of the kinds of recordings.
-static KINDS: [&str; 8] = [
+static KINDS: [&str; 9] = [
     "bi",
     "response",
     "session-response",
@@ -68,6 +69,7 @@ static KINDS: [&str; 8] = [
     "capsules",
     "section",
     "settings",
+    "connection",
 ];
 
 /// The format of the output.
@@ -86,6 +88,8 @@ pub enum Output {
 pub struct Arguments<'a> {
     /// The kind of recording.
     pub recorded: Recorded,
+    /// Whether the input is the list of a connection.
+    pub is_connection: bool,
     /// The name of the kind.
     pub kind: &'a str,
     /// The format of the output.
@@ -174,6 +178,8 @@ fn add_table<'a>(alloc: Global, command: Command<'a>) -> Result<Command<'a>, Err
 /// Returns the parsed arguments.
 pub fn read_arguments<'a>(matches: &ArgMatches<'a>) -> Arguments<'a>
     ensures recorded { Names (first_value (found_of matches.now) (codes "kind")) result.recorded }
+    ensures connection { result.is_connection
+        ≡ names_connection (first_value (found_of matches.now) (codes "kind")) }
     ensures output { (json : Bool) × (html : Bool)
         × IsFlag (found_of matches.now) (codes "json") json
         × IsFlag (found_of matches.now) (codes "html") html
@@ -192,6 +198,7 @@ pub fn read_arguments<'a>(matches: &ArgMatches<'a>) -> Arguments<'a>
 {
     Arguments {
         recorded: recorded_of(matches.get_str("kind")),
+        is_connection: is_connection(matches.get_str("kind")),
         kind: matches.get_str("kind").unwrap_or(""),
         output: output_of(matches.get_flag("json"), matches.get_flag("html")),
         is_hex: matches.get_flag("hex"),
@@ -220,8 +227,18 @@ fn recorded_of(name: Option<&str>) -> Recorded
     }
 }
 
+/// Returns whether this is the name of a connection.
+fn is_connection(name: Option<&str>) -> bool
+    ensures { result ≡ names_connection (option_map (λ text. text.now) name.entry) }
+{
+    match name {
+        Some("connection") => true,
+        _ => false,
+    }
+}
+
 /// Returns the largest capacity of the dynamic table. The parser accepts none above the largest.
-fn capacity_of(given: Option<u64>) -> u64
+pub fn capacity_of(given: Option<u64>) -> u64
     ensures below { result < 2 ^ 60 }
     ensures given { (n : ℕ) → given ≡ Some n → n < 2 ^ 60 → result ≡ n }
     ensures default { given ≡ None → result ≡ 4096 }

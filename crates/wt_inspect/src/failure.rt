@@ -3,6 +3,7 @@ ghost use Rattle.std.specs.Prelude.{◌≡◌};
 ghost use Rattle.wt_inspect.specs.Statuses.{failure_status, is_silent};
 
 use std::alloc::AllocError;
+use wt_inspect_connection::list::ListError;
 use wtp_dynamic::error::EncoderStreamError;
 
 /// Why the program failed.
@@ -23,6 +24,15 @@ pub enum Failure {
     /// The input is not hexadecimal text.
     #[error("the input is not hexadecimal text: pairs of digits, blanks, line ends and 0x alone")]
     NotHex,
+    /// The list of a connection is not UTF-8.
+    #[error("the list is not UTF-8")]
+    NotText,
+    /// The text is no list of a connection.
+    #[error("{0}")]
+    List(ListError),
+    /// The arguments have what is not for a connection.
+    #[error("--html and --encoder are not for a connection, whose list names the encoder streams")]
+    NotOfConnection,
     /// The encoder stream has a fault.
     #[error("the encoder stream has a fault: {0} (QPACK_ENCODER_STREAM_ERROR, 0x201)")]
     Encoder(EncoderStreamError),
@@ -43,7 +53,7 @@ impl Failure {
         ensures { result ≡ failure_status self }
     {
         match self {
-            Failure::Arguments => 1,
+            Failure::Arguments | Failure::NotOfConnection => 1,
             Failure::Memory => 4,
             Failure::Closed => 141,
             _ => 3,
@@ -70,6 +80,19 @@ impl From<EncoderStreamError> for Failure {
         match fault {
             EncoderStreamError::Memory => Failure::Memory,
             _ => Failure::Encoder(fault),
+        }
+    }
+}
+
+impl From<ListError> for Failure {
+    ghost use Rattle.wt_inspect.specs.Statuses.{list_failure};
+
+    ghost from_gives = { λ error failure. failure ≡ list_failure error };
+
+    fn from(error: ListError) -> Self {
+        match error {
+            ListError::Memory => Failure::Memory,
+            _ => Failure::List(error),
         }
     }
 }

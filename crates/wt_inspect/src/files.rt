@@ -6,6 +6,14 @@ use std::fs;
 use std::io::Write;
 use wt_inspection_views::escaped::add_escaped;
 
+/// Reads a file, or standard input if `file` is `None` or `-`.
+pub fn read_bytes(rt: &HostRuntime, alloc: Global, file: Option<&str>) -> Result<Vec<u8>, Failure> {
+    match file {
+        None | Some("-") => read_all(alloc, &mut rt.stdin()),
+        Some(path) => read_file(rt, alloc, path),
+    }
+}
+
 /// Reads a file.
 ///
 /// # Errors
@@ -24,8 +32,9 @@ pub fn read_file(rt: &HostRuntime, alloc: Global, path: &str) -> Result<Vec<u8>,
     }
 }
 
-/// Writes why a file could not be read, unless memory is missing.
-fn name_failure(rt: &HostRuntime, path: &str, failure: Failure) -> Failure {
+/// Writes why a file could not be read, with its name, unless memory is missing. Returns the failure
+/// that is left: [`Failure::Named`], or [`Failure::Memory`].
+pub fn name_failure(rt: &HostRuntime, path: &str, failure: Failure) -> Failure {
     match failure {
         Failure::Memory => Failure::Memory,
         failure => {

@@ -4,6 +4,7 @@
 ghost use Rattle.std.specs.Prelude.{◌≡◌, ◌≤◌, ◌<◌, ◌^◌, ◌⊎◌, IfOk};
 
 mod arguments;
+mod connection;
 mod failure;
 mod files;
 mod input;
@@ -11,9 +12,10 @@ mod sheet;
 mod showing;
 
 use crate::arguments::{Arguments, command, read_arguments};
+use crate::connection::show_connection;
 use crate::failure::Failure;
-use crate::files::read_file;
-use crate::input::{read_all, read_hex};
+use crate::files::read_bytes;
+use crate::input::read_hex;
 use crate::showing::show;
 use std::alloc::Global;
 use std::env;
@@ -50,11 +52,24 @@ fn run_words<'a>(rt: &HostRuntime, words: &'a [String]) -> Result<u8, Failure>
 {
     let command = command(rt.alloc()).map_err(|_| Failure::Memory)?;
     match command.try_get_matches_from(words) {
-        Ok(matches) => show_input(rt, &read_arguments(&matches)),
+        Ok(matches) => show_named(rt, &read_arguments(&matches)),
         Err(error) => {
             error.print(rt).map_err(|_| Failure::Output)?;
             Ok(if error.use_stderr() { 1 } else { 0 })
         }
+    }
+}
+
+/// Shows the connection or the input that the arguments name. Returns the exit status: 0, or 2 if it
+/// contains an error.
+fn show_named(rt: &HostRuntime, arguments: &Arguments<'_>) -> Result<u8, Failure>
+    requires { arguments.now.capacity < 2 ^ 60 }
+    ensures { IfOk result (λ status. (status ≡ 0) ⊎ (status ≡ 2)) }
+{
+    if arguments.is_connection {
+        show_connection(rt, arguments)
+    } else {
+        show_input(rt, arguments)
     }
 }
 
@@ -113,13 +128,5 @@ fn read_encoder(
     match file {
         Some(path) => Ok(Some(read_bytes(rt, alloc, Some(path))?)),
         None => Ok(None),
-    }
-}
-
-/// Reads a file, or standard input if `file` is `None` or `-`.
-fn read_bytes(rt: &HostRuntime, alloc: Global, file: Option<&str>) -> Result<Vec<u8>, Failure> {
-    match file {
-        None | Some("-") => read_all(alloc, &mut rt.stdin()),
-        Some(path) => read_file(rt, alloc, path),
     }
 }

@@ -7,6 +7,7 @@ ghost use Rattle.wt_inspect.specs.declared.arguments.Output.TheVariants.{Json as
 use std::alloc::{AllocError, Global};
 use wt_inspection::item::Warning;
 use wt_inspection::{End, Item};
+use wt_inspection_views::json_lines::Origin;
 use wt_inspection_views::{json_lines, text};
 
 /// Lines of text or of JSON. A failed allocation is recorded, and [`take`](Sheet::take) reports it.
@@ -31,6 +32,13 @@ impl Sheet {
         ensures { HasSheet JsonOutput 0 result }
     {
         Sheet::Json(json_lines::Lines::new(alloc))
+    }
+
+    /// Creates a sheet of JSON without lines. Each line begins with the members of `origin`.
+    pub fn about(alloc: Global, origin: Origin) -> Self
+        ensures { HasSheet JsonOutput 0 result }
+    {
+        Sheet::Json(json_lines::Lines::about(alloc, Some(origin)))
     }
 
     /// Returns the length of the lines, in bytes.

@@ -109,7 +109,7 @@ fn show_page<W: Write>(
 
 /// Writes the items of these bytes as lines, which are added to an empty sheet. Returns the exit
 /// status.
-fn show_lines<W: Write>(
+pub(crate) fn show_lines<W: Write>(
     alloc: Global,
     arguments: &Arguments<'_>,
     sent: Option<&Insertions<'_>>,
@@ -217,7 +217,7 @@ fn write_piece<W: Write>(sheet: &mut Sheet, output: &mut W) -> Result<(), Failur
 }
 
 /// Writes all lines of a sheet and leaves none.
-fn write_all_of<W: Write>(sheet: &mut Sheet, output: &mut W) -> Result<(), Failure>
+pub(crate) fn write_all_of<W: Write>(sheet: &mut Sheet, output: &mut W) -> Result<(), Failure>
     ensures some { IfOk result (λ _. WritesSome (W.contents output.old) (W.contents output.new)
         sheet.old sheet.new) }
     ensures all { IfOk result (λ _. WritesAll (W.contents output.old) (W.contents output.new)
@@ -229,7 +229,7 @@ fn write_all_of<W: Write>(sheet: &mut Sheet, output: &mut W) -> Result<(), Failu
 }
 
 /// Writes bytes.
-fn write<W: Write>(output: &mut W, text: &[u8]) -> Result<(), Failure>
+pub(crate) fn write<W: Write>(output: &mut W, text: &[u8]) -> Result<(), Failure>
     ensures writes { IfOk result (λ _. Appends (W.contents output.old) (W.contents output.new)
         text.now) }
     ensures fails { IfErr result StopsShowing }
@@ -241,7 +241,7 @@ fn write<W: Write>(output: &mut W, text: &[u8]) -> Result<(), Failure>
 }
 
 /// Makes sure that all bytes are written.
-fn flush<W: Write>(output: &mut W) -> Result<(), Failure>
+pub(crate) fn flush<W: Write>(output: &mut W) -> Result<(), Failure>
     ensures writes { Keeps (W.contents output.old) (W.contents output.new) }
     ensures fails { IfErr result StopsShowing }
 {
