@@ -62,12 +62,12 @@ class Sending:
     def end(self, count, left):
         """Returns how it ends after so many bytes, if so many are left out, and the faults."""
         size = max(self.sizes, default=None)
+        rest = f", {left} after a hole left out" if left else ""
         if self.reset is not None:
             words = f"reset with code {self.reset:#x}"
-            return f"{words} at {size} bytes" if count != size else words, []
+            return (f"{words} at {size} bytes" if count != size else words) + rest, []
         if left or (size is not None and count < size):
-            words = f"bytes are missing at {count}"
-            words += f", {left} after them left out" if left else ""
+            words = f"bytes are missing at {count}" + rest
             return words, [words]
         return "open" if size is None else "ended", []
 
@@ -154,7 +154,7 @@ class Connection:
             elif packet.number not in self.seen[side, packet.space]:
                 self.seen[side, packet.space].add(packet.number)
                 self.add_frames(side, packet, datagram.number)
-        if datagram.is_malformed:
+        if datagram.is_malformed and datagram.number not in dict(self.stopped):
             self.stopped.append((datagram.number, "tshark calls it malformed"))
 
     def add_frames(self, side, packet, at):
