@@ -77,8 +77,9 @@ class Packet:
 @dataclass
 class Datagram:
     """A UDP datagram: the number of its frame in the capture, its addresses, its bytes, whether the
-    capture has it whole, the number of its connection in tshark, its QUIC packets, whether tshark
-    calls something in it malformed, and whether it is of a protocol that is not QUIC."""
+    capture has it whole, the number of its connection in tshark, its QUIC packets and whether one
+    more is a Retry, whether tshark calls something in it malformed, and whether it is of a protocol
+    that is not QUIC."""
 
     number: int
     source: tuple
@@ -87,6 +88,7 @@ class Datagram:
     is_whole: bool
     connection: int = None
     packets: list = field(default_factory=list)
+    has_retry: bool = False
     is_malformed: bool = False
     is_other: bool = False
 
@@ -162,6 +164,7 @@ def datagram_of(layers):
         information = quic.get("QUIC Connection information")
         if information and datagram.connection is None:
             datagram.connection = information.number("quic.connection.number")
+        datagram.has_retry |= quic.get("quic.retry_token") is not None
         if packet := packet_of(quic):
             datagram.packets.append(packet)
     return datagram

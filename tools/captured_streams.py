@@ -111,7 +111,7 @@ class Connection:
     were captured."""
 
     def __init__(self, number):
-        self.number, self.packets = number, 0
+        self.number = number
         self.addresses = {"client": [], "server": []}
         self.random = None  # of the ClientHello, in hexadecimal digits
         self.streams = defaultdict(Sending)  # by stream and sender
@@ -120,6 +120,8 @@ class Connection:
         self.seen = defaultdict(set)  # by sender and space: the packet numbers
         self.acked = defaultdict(list)  # by sender and space: ranges that the other end has
         self.unread = {}  # by sender
+        self.frames = []  # of the capture
+        self.retried = []  # those up to the first Retry, and later ones with a Retry
         self.stopped = []  # frame of the capture, and why the rest of its packet is not read
 
     def side_of(self, datagram):
@@ -145,7 +147,9 @@ class Connection:
     def add(self, datagram):
         """Adds a datagram."""
         side = self.side_of(datagram)
-        self.packets += 1
+        self.frames.append(datagram.number)
+        if datagram.has_retry:
+            self.retried += [datagram.number] if self.retried else self.frames
         for packet in datagram.packets:
             if side is None or not packet.frames:
                 unread = self.unread.setdefault(side, Unread(datagram.number))

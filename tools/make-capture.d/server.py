@@ -1,11 +1,12 @@
 """A server of HTTP/3 and WebTransport on 127.0.0.1, over aioquic, that logs its bytes.
 
-    server.py PORT CERT KEY SECONDS FOLDER
+    server.py PORT CERT KEY SECONDS FOLDER [retry]
 
 It answers each request with a line of text, and prints 'answered'. In a session, each stream and
 datagram comes back, a unidirectional stream on one of the server; once the session ends, it prints
 'closed'. The server ends after SECONDS, or on SIGTERM. FOLDER gets a file server-N.json for each
-connection, numbered from 0, when it or the server ends.
+connection, numbered from 0, when it or the server ends. With 'retry', it answers the first packet
+of a client with a Retry (RFC 9000, section 8.1.2).
 """
 
 from __future__ import annotations
@@ -93,7 +94,10 @@ async def main() -> None:
     )
     configuration.load_cert_chain(certificate, key)
     server = await serve(
-        "127.0.0.1", int(port), configuration=configuration, create_protocol=Server
+        *("127.0.0.1", int(port)),
+        configuration=configuration,
+        create_protocol=Server,
+        retry="retry" in sys.argv[6:],
     )
     done = asyncio.Event()
     asyncio.get_running_loop().add_signal_handler(signal.SIGTERM, done.set)
