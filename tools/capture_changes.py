@@ -80,6 +80,17 @@ class Capture:
         records.insert(later, records.pop(at))
         return self.content(records)
 
+    def with_icmp(self, at):
+        """With a message of ICMP after a packet: that its port cannot be reached (RFC 792)."""
+        records = list(self.records)
+        seconds, fraction, data = records[at]
+        head = bytearray(data[: ETHERNET + IP])
+        body = struct.pack(">BBHI", 3, 3, 0, 0) + data[ETHERNET : ETHERNET + 548]
+        struct.pack_into(">H", head, ETHERNET + 2, IP + len(body))
+        head[ETHERNET + 9] = 1
+        records.insert(at + 1, (seconds, fraction, bytes(head) + body))
+        return self.content(records)
+
     def dropped(self, *places):
         """Without these packets."""
         kept = [record for at, record in enumerate(self.records) if at not in places]

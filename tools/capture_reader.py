@@ -21,8 +21,14 @@ TYPES = {
     "quic.long.packet_type_v2": {1: "Initial", 2: APPLICATION, 3: "Handshake"},
 }
 LAYERS = "frame ip ipv6 udp quic"
+# Messages of ICMP repeat the packets that they are about.
+PACKETS = "udp and not icmp and not icmpv6"
 # What tshark writes whatever the file is.
 USUAL = "Running as user"
+
+
+class Incomplete(Exception):
+    """A frame ends early."""
 
 
 class Tree(list):
@@ -45,6 +51,15 @@ class Tree(list):
         """Returns the first value of a name as a number, or None."""
         value = self.get(name)
         return None if value is None else int(value, 0)
+
+    def need(self, name):
+        """Returns the first value of a name as a number.
+
+        Raises Incomplete if there is none."""
+        value = self.number(name)
+        if value is None:
+            raise Incomplete
+        return value
 
     def numbers(self, name):
         """Returns the values of a name as numbers."""
@@ -108,7 +123,7 @@ class Reading:
         """Returns the command. HTTP/3 is not read, so that no fault in it ends a packet early, and
         names are not looked up."""
         command = ["tshark", "-n", "-r", self.capture, "-o", f"tls.keylog_file:{self.keys}"]
-        return [*command, "--disable-protocol", "http3", "-Y", "udp", "-T", "json", "-J", LAYERS]
+        return [*command, "--disable-protocol", "http3", "-Y", PACKETS, "-T", "json", "-J", LAYERS]
 
     def datagrams(self):
         """Yields the datagrams. tshark has a folder of its own for settings, so those of the user
@@ -144,8 +159,7 @@ def trees_in(lines):
 
 
 def datagram_of(layers):
-    """Returns the datagram of a packet of the capture. In one of ICMP, the first headers are its
-    own, and there is no QUIC."""
+    """Returns the datagram of a packet of the capture, by the layers that tshark shows."""
     frame, udp = layers.get("frame"), layers.get("udp")
     ip = layers.get("ip") or layers.get("ipv6") or Tree()
     family = "ip" if layers.get("ip") else "ipv6"

@@ -4,13 +4,14 @@ from bisect import bisect_left
 from collections import defaultdict
 from dataclasses import dataclass, field
 
-from capture_reader import APPLICATION
+from capture_reader import APPLICATION, Incomplete
 
 SIDES = ("client", "server")
 OTHER = {"client": "server", "server": "client"}
 # The types of frames (RFC 9000, section 19; RFC 9221, section 4).
 ACK, RESET_STREAM, STREAM, CLOSE, DATAGRAM = (2, 3), 4, range(8, 16), (28, 29), (48, 49)
-FIN = 1
+FIN, LEN, OFF = 1, 2, 4
+DATAGRAM_WITH_LENGTH = 49
 CLIENT_HELLO = "1"  # RFC 8446, section 4
 # The types of unidirectional streams that stay open: the control stream and those of QPACK (RFC
 # 9114, section 6.2.1; RFC 9204, section 4.2).
@@ -162,39 +163,56 @@ class Connection:
             self.stopped.append((datagram.number, "tshark calls it malformed"))
 
     def add_frames(self, side, packet, at):
-        """Adds the frames of a packet, up to the first of a type that tshark does not know: it does
-        not know where the next one begins."""
+        """Adds the frames of a packet, up to the first that ends early or is of a type that tshark
+        does not know: it does not know where the next one begins."""
         for frame in packet.frames:
-            if frame.find("quic.ft.unknown") is not None:
-                kind = frame.number("quic.frame_type")
-                self.stopped.append((at, f"tshark does not know QUIC frames of type {kind:#x}"))
+            try:
+                kind = frame.need("quic.frame_type")
+                if frame.find("quic.ft.unknown") is not None:
+                    why = f"tshark does not know QUIC frames of type {kind:#x}"
+                    self.stopped.append((at, why))
+                    return
+                self.add_frame(side, packet.space, kind, frame)
+            except Incomplete:
+                self.stopped.append((at, f"a QUIC frame of type {kind:#x} ends early"))
                 return
-            self.add_frame(side, packet.space, frame)
 
-    def add_frame(self, side, space, frame):
-        kind = frame.number("quic.frame_type")
+    def add_frame(self, side, space, kind, frame):
         if kind in ACK:
             self.acked[OTHER[side], space] += acknowledged(frame)
         elif kind in STREAM:
             self.add_piece(side, kind, frame)
         elif kind == RESET_STREAM:
-            sending = self.streams[frame.number("quic.rsts.stream_id"), side]
-            sending.reset = frame.number("quic.rsts.application_error_code")
-            sending.sizes.add(frame.number("quic.rsts.final_size"))
+            self.add_reset(side, frame)
         elif kind in DATAGRAM:
-            self.datagrams.append((side, frame.content("quic.dg")))
+            self.add_datagram(side, kind, frame)
         elif kind in CLOSE:
             self.closes.append(f"{side} {close_words(frame)}")
         elif side == "client" and frame.find("tls.handshake.type") == CLIENT_HELLO:
             self.random = frame.find("tls.handshake.random").replace(":", "")
 
+    def add_reset(self, side, frame):
+        size = frame.need("quic.rsts.final_size")  # the last part of the frame
+        sending = self.streams[frame.need("quic.rsts.stream_id"), side]
+        sending.reset = frame.need("quic.rsts.application_error_code")
+        sending.sizes.add(size)
+
     def add_piece(self, side, kind, frame):
-        sending = self.streams[frame.number("quic.stream.stream_id"), side]
-        at = frame.number("quic.stream.offset") or 0
+        stream = frame.need("quic.stream.stream_id")
+        at = frame.need("quic.stream.offset") if kind & OFF else 0
         data = frame.content("quic.stream_data")
+        if kind & LEN and frame.need("quic.stream.length") != len(data):
+            raise Incomplete
+        sending = self.streams[stream, side]
         sending.pieces.append((at, data))
         if kind & FIN:
             sending.sizes.add(at + len(data))
+
+    def add_datagram(self, side, kind, frame):
+        data = frame.content("quic.dg")
+        if kind == DATAGRAM_WITH_LENGTH and frame.need("quic.dg.length") != len(data):
+            raise Incomplete
+        self.datagrams.append((side, data))
 
     def lost(self, side):
         """Returns the ranges of numbers of packets that the other end has and the capture has not,
@@ -205,8 +223,8 @@ class Connection:
 
 def acknowledged(frame):
     """Returns the ranges of an ACK frame (RFC 9000, section 19.3.1)."""
-    largest = frame.number("quic.ack.largest_acknowledged")
-    start = largest - frame.number("quic.ack.first_ack_range")
+    largest = frame.need("quic.ack.largest_acknowledged")
+    start = largest - frame.need("quic.ack.first_ack_range")
     ranges = [(start, largest + 1)]
     gaps, lengths = frame.numbers("quic.ack.gap"), frame.numbers("quic.ack.ack_range")
     for gap, length in zip(gaps, lengths):
@@ -220,6 +238,6 @@ def close_words(frame):
     """Returns the code and the reason of a CONNECTION_CLOSE frame."""
     code, whose = frame.number("quic.cc.error_code.app"), "application"
     if code is None:
-        code, whose = frame.number("quic.cc.error_code"), "transport"
+        code, whose = frame.need("quic.cc.error_code"), "transport"
     reason = frame.get("quic.cc.reason_phrase")
     return f"with code {code:#x} of the {whose}" + (f", {reason!r}" if reason else "")

@@ -22,6 +22,7 @@ def stream(number, at, data, fin=False):
         ("quic.frame_type", hex(0x0E | fin)),
         ("quic.stream.stream_id", str(number)),
         ("quic.stream.offset", str(at)),
+        ("quic.stream.length", str(len(data))),
         ("quic.stream_data", data.hex(":")),
     )
 
@@ -108,7 +109,7 @@ class PacketsTest(unittest.TestCase):
         datagram = tree(("quic.frame_type", "48"), ("quic.dg", "61:62"))
         self.add(7, datagram)
         self.add(7, datagram)
-        self.add(8, datagram, tree(("quic.frame_type", "49")))
+        self.add(8, datagram, tree(("quic.frame_type", "49"), ("quic.dg.length", "0")))
         self.assertEqual(self.connection.datagrams, [("client", b"ab")] * 2 + [("client", b"")])
 
     def test_unknown_frame(self):
@@ -119,6 +120,23 @@ class PacketsTest(unittest.TestCase):
         self.assertEqual(self.half(0)[0], b"a")
         why = "tshark does not know QUIC frames of type 0x24"
         self.assertEqual(self.connection.stopped, [(1, why)])
+
+    def test_frames_that_end_early(self):
+        whole = stream(0, 0, b"a")
+        reset = tree(("quic.frame_type", "4"), ("quic.rsts.stream_id", "4"))
+        for kind, frame in (
+            ("0xe", tree(*[pair for pair in whole if pair[0] != "quic.stream_data"])),
+            ("0xe", tree(*whole[:2])),
+            ("0x4", reset),
+            ("0x2", tree(("quic.frame_type", "2"))),
+            ("0x1c", tree(("quic.frame_type", "28"))),
+            ("0x31", tree(("quic.frame_type", "49"), ("quic.dg.length", "9"))),
+        ):
+            self.setUp()
+            self.add(0, frame, whole)
+            words = f"a QUIC frame of type {kind} ends early"
+            self.assertEqual(self.connection.stopped, [(1, words)])
+            self.assertEqual((self.connection.streams, self.connection.datagrams), ({}, []))
 
     def test_malformed(self):
         self.add(0, stream(0, 0, b"a"), is_malformed=True)
