@@ -370,8 +370,8 @@ static inline void h3_begin(h3_connection *c, bool server) {
 }
 
 /* Adds a stream, which is zeros; QUIC says its ID now or later. When QUIC and the program need it
-   no more, the program takes it from the list and frees its room. A client keeps its requests for
-   sessions as long as the connection. */
+   no more, and not h3_ends_later, the program takes it from the list and frees its room. A client
+   keeps its requests for sessions as long as the connection. */
 static inline void h3_add(h3_connection *c, h3_stream *s, bool own, bool bidirectional) {
   h3_stream **at = &c->streams;
   s->c = c;
@@ -443,10 +443,17 @@ static inline void h3_was_reset(h3_stream *s, uint64_t code) {
   h3_act(s, &e);
 }
 
+/* Whether the stream waits for the table with all that the peer sent on it: h3_settle reads it later,
+   also if both halves are closed. */
+static inline bool h3_ends_later(const h3_stream *s) {
+  return s->waits == WT_WAITS_TABLE && s->hold.fin;
+}
+
 /* The peer stopped the own half of a stream, or both halves are closed and QUIC forgets it. */
 static inline void h3_was_stopped(h3_stream *s, bool closed) {
   h3_event e = {0};
   uint64_t code;
+  if (closed && h3_ends_later(s)) return;
   if (s->own && !s->bidirectional && s->session == H3_NONE) { /* of control or QPACK */
     uint32_t purpose = s == s->c->own_encoder   ? WT_PURPOSE_ENCODER
                        : s == s->c->own_decoder ? WT_PURPOSE_DECODER

@@ -224,7 +224,7 @@ static bool go_on(session *of_it) {
     of_it->reset = NULL;
     h3_close(of_it->s, (uint32_t)of_it->number, "done");
   }
-  return ((quic_stream *)of_it->s)->closed;
+  return quic_is_closed((quic_stream *)of_it->s);
 }
 
 static void finish(session *of_it) {

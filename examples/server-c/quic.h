@@ -71,6 +71,9 @@ quic_connection *quic_connect(int port);
 /* Sends the SETTINGS of a connection with late_settings. */
 void quic_send_settings(quic_connection *c);
 
+/* Whether QUIC closed both halves of a stream, and all of it was read. */
+bool quic_is_closed(const quic_stream *s);
+
 /* Lets the peer send as many bytes more when what was sent on the stream is acknowledged. */
 void quic_consume_later(h3_stream *s, size_t length);
 

@@ -97,9 +97,11 @@ static void free_stream(quic_stream *s) {
   free(s);
 }
 
+bool quic_is_closed(const quic_stream *s) { return s->closed && !h3_ends_later(&s->h3); }
+
 /* (Version 0.12 of ngtcp2 does not close a unidirectional stream of the peer by itself.) */
 static bool is_gone(const quic_stream *s) {
-  return (s->closed && !s->kept) || (s->h3.over && !s->h3.own && !s->h3.bidirectional);
+  return (quic_is_closed(s) && !s->kept) || (s->h3.over && !s->h3.own && !s->h3.bidirectional);
 }
 
 /* Opens a stream that waits for that, if the peer allows it. */
