@@ -191,9 +191,10 @@ int wt_sending_close(wt_sending *sending, uint32_t code, const uint8_t *reason, 
 
    Instructions go to the own encoder stream, which begins with its type (wt_stream_header_write, 2) and
    is opened once there are some, in the order in which they were written. A section may refer to
-   what the instructions of its own call insert: so hand these to QUIC before the frame. On the stream
-   of which WT_EVENT_OPENED says WT_PURPOSE_DECODER, the bytes that wt_receive skips after that are the
-   peer's decoder stream: pass them to wt_encoder_receive, in their order.
+   what the instructions of its own call insert: so hand these to QUIC before the frame. Where
+   WT_EVENT_OPENED says WT_PURPOSE_DECODER, the bytes after those that it consumed are the peer's decoder
+   stream: pass them to wt_encoder_receive, in their order, and credit them. wt_receive, which would
+   refuse acknowledgments, is called for the end of that stream alone, without bytes.
 
    Before wt_encoder_limits, and if the peer allows no table, the encoder inserts nothing: sections are
    then written with the static table. No entry is evicted to which a section refers that the peer did
