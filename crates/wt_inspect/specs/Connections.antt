@@ -1,6 +1,6 @@
 -- What is known of a recorded connection as a whole, and what its pieces are read as.
 use Rattle.std.specs.Prelude.{◌≡◌, ◌≢◌, ℕ, suc, ◌==◌, ◌<◌, ◌^◌, ◌⊎◌, Bool, true, false, not, if◌then◌else◌}
-use Rattle.std.specs.Prelude.{List, [], ◌∷◌, ◌++◌, length, Option, Some, None}
+use Rattle.std.specs.Prelude.{List, [], ◌∷◌, ◌++◌, Option, Some, None}
 use Rattle.std.specs.List.{list_any}
 use Rattle.wtp_dynamic.specs.Stream.{Breaks}
 use Rattle.wtp_dynamic.specs.Table.{Table as Entries, empty_table}
@@ -15,7 +15,6 @@ use Rattle.wt_inspection.specs.declared.reading.Recorded.{Recorded}
 use Rattle.wt_inspection.specs.declared.reading.Recorded.TheVariants as recorded-is
 use Rattle.wt_inspection_model.specs.declared.item.Content.{Content}
 use Rattle.wt_inspection_model.specs.declared.item.Content.TheVariants as content-is
-use Rattle.wt_inspection_model.specs.declared.item.FrameItem.{FrameItem}
 use Rattle.wt_inspection_model.specs.declared.item.Parts.{Parts}
 use Rattle.wt_inspection_model.specs.declared.item.Parts.TheVariants as parts-is
 use Rattle.wt_inspection_model.specs.declared.item.settings.SettingLine.{SettingLine}

@@ -1,4 +1,4 @@
-use Rattle.std.proofs.Common.{◌≡◌, ◌+◌, [], arith, length, refl, subst}
+use Rattle.std.proofs.Common.{◌≡◌, ◌+◌, [], arith, refl, subst}
 use Rattle.std.specs.Prelude.{sum_by}
 use Rattle.wt_inspect.specs.ConnectionShown.{payload_items}
 use Rattle.wt_inspect.specs.Sheets.{AreLinesOf, lines_for, lines_of}
