@@ -389,6 +389,7 @@ static void connection(const uint8_t *d, size_t n) {
 }
 
 #include "schedule.h"
+#include "tables.h"
 
 int LLVMFuzzerTestOneInput(const uint8_t *data, size_t size);
 int LLVMFuzzerTestOneInput(const uint8_t *data, size_t size) {
