@@ -125,7 +125,7 @@ WHOLE = [
 ]
 PARTS = [
     ("tables-of-both-ends", REFERRING, "", 0, [SHOWN_REFERRING]),
-    ("table-too-large", TOO_SMALL, "", 2, [SHOWN_TOO_SMALL, "(post-base 0)"]),
+    ("table-too-large", TOO_SMALL, "", 2, [SHOWN_TOO_SMALL, "(dynamic post-base 0)"]),
     ("no-settings-of-the-other-end", REFERRING[1:], "", 0, ["custom-key = custom-value"]),
     ("no-session", OTHERS, "--open", 2, [SHOWN_OTHERS, "stream 10", "H3_ID_ERROR", "stream 14"]),
     ("no-request", NO_REQUEST, "", 0, ["== request 0\n-- stream 0 from the server, response: {0}"]),
