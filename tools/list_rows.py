@@ -7,19 +7,26 @@ docs/INSPECTOR.md and of the RFCs.
 """
 
 from inspect_rows import CLOSE, GET, INSERTIONS, OK, SESSION, SETTINGS
+from message_bytes import OF_CLIENT, OF_SERVER
 
-CONTROLS = [(2, "client", SETTINGS), (3, "server", SETTINGS)]
+CONTROLS = [(2, "client", OF_CLIENT), (3, "server", OF_SERVER)]
 SHOWN_CONTROLS = """\
 == control streams
 -- stream 2 from the client, control: {0}
 0     stream             control, type 0x0
-1     SETTINGS           0 bytes
-3     end
+1     SETTINGS           7 bytes
+        SETTINGS_H3_DATAGRAM (0x33) = 1
+        SETTINGS_ENABLE_WEBTRANSPORT (0x2b603742) = 1
+10    end
 -- stream 3 from the server, control: {1}
 0     stream             control, type 0x0
-1     SETTINGS           0 bytes
-3     end
+1     SETTINGS           9 bytes
+        SETTINGS_H3_DATAGRAM (0x33) = 1
+        SETTINGS_ENABLE_WEBTRANSPORT (0x2b603742) = 1
+        SETTINGS_ENABLE_CONNECT_PROTOCOL (0x8) = 1
+12    end
 """
+NO_ERROR = "== verdicts\nno error\n"
 # A drain capsule in a DATA frame, streams of the session 0 with some bytes, and a datagram of it.
 DRAIN = "0005800078ae00"
 STREAM, ONE_WAY, DATAGRAM = "4041006869", "40540078", "0064"
@@ -76,6 +83,8 @@ SHOWN_SESSION = SHOWN_CONTROLS + """\
         :authority = a
         :path = /
 54    end
+== verdicts
+the server would end the session: stream 0: the session was closed with code 7, "bye"
 """
 # Settings that allow a table of 220 bytes, and one of 219.
 TABLE_220, TABLE_219 = "0004030140dc", "0004030140db"
@@ -116,12 +125,14 @@ SHOWN_TOO_SMALL = (
 OTHERS = [(10, "client", "405401"), (14, "client", "2178"), (1, "server", "2100")]
 SHOWN_OTHERS = "== other streams and datagrams\n-- stream 1 from the server, other: {2}\n"
 NO_REQUEST = [(0, "server", OK), (3, "server", SETTINGS)]
+# A setting without a name, twice.
+REPEATED = [(2, "client", "00040a80ffd2770180ffd27702")]
 ONLY_DATAGRAM = [("datagrams", "client", "0164"), (4, "server", OK + DRAIN)]
 
 # What is shown in whole, and what has parts.
 WHOLE = [
     ("session", WHOLE_SESSION, "", 0, SHOWN_SESSION),
-    ("controls-are-open", CONTROLS, "--strict", 0, SHOWN_CONTROLS),
+    ("controls-are-open", CONTROLS, "--strict", 0, SHOWN_CONTROLS + NO_ERROR),
 ]
 PARTS = [
     ("tables-of-both-ends", REFERRING, "", 0, [SHOWN_REFERRING]),
@@ -138,8 +149,9 @@ PARTS = [
     ),
     ("ended", [(0, "client", GET + "000561")], "", 2, ["fault ", "H3_FRAME_ERROR (0x106)"]),
     ("open", [(0, "client", GET + "000561")], "--open", 0, ["cut ", "at least 4 bytes missing"]),
-    ("warning", [(0, "client", "000161")], "", 0, ["DATA comes before HEADERS"]),
-    ("strict-warning", [(0, "client", "000161")], "--strict", 2, ["DATA comes before HEADERS"]),
+    ("warning", REPEATED, "", 0, ["a setting is repeated", "no error"]),
+    ("strict-warning", REPEATED, "--strict", 2, ["a setting is repeated"]),
+    ("verdict", [(0, "client", "000161")], "", 2, ["DATA comes before HEADERS", "would close"]),
     (
         "a-fault-beside-others",
         [(0, "client", "0200"), *CONTROLS],

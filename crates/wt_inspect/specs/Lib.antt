@@ -8,3 +8,4 @@ pub mod Shown
 pub mod Showings
 pub mod Connections
 pub mod ConnectionShown
+pub mod VerdictsShown

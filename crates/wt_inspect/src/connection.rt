@@ -15,6 +15,7 @@ mod kinds;
 mod pieces;
 mod sessions;
 mod tables;
+mod verdicts;
 
 use crate::arguments::{Arguments, Output};
 use crate::failure::Failure;
@@ -28,6 +29,7 @@ use sessions::{is_session, parts_in, sessions_in};
 use std::alloc::Global;
 use std::io::Write;
 use tables::{Table, read_table};
+use verdicts::show_verdicts;
 use wt_inspect_connection::list::{Channel, Sender};
 use wt_inspect_connection::part::{Group, Part, is_same_group};
 use wt_inspect_connection::piece::{Piece, purpose_in};
@@ -35,8 +37,8 @@ use wt_inspect_connection::purpose::Purpose;
 use wt_inspection::{Content, End, Item, Recorded};
 use wtp_dynamic::error::EncoderStreamError;
 
-/// Shows the connection whose list the arguments name. Returns the exit status: 0, or 2 if something
-/// of it contains an error.
+/// Shows the connection whose list the arguments name, and what each end would have said of the other.
+/// Returns the exit status: 0, or 2 if something of it contains an error.
 ///
 /// # Errors
 ///
@@ -52,7 +54,9 @@ pub fn show_connection(rt: &HostRuntime, arguments: &Arguments<'_>) -> Result<u8
     let text = read_bytes(rt, alloc, arguments.file)?;
     let entries = read_entries(rt, alloc, arguments.file, text.as_slice())?;
     let pieces = read_pieces(rt, alloc, arguments, entries.as_slice())?;
-    show_pieces(alloc, arguments, pieces.as_slice(), &mut rt.stdout())
+    let shown = show_pieces(alloc, arguments, pieces.as_slice(), &mut rt.stdout())?;
+    let judged = show_verdicts(alloc, arguments, pieces.as_slice(), &mut rt.stdout())?;
+    Ok(worse(shown, judged))
 }
 
 /// Returns whether the arguments have something that is not for a connection.

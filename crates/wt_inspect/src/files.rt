@@ -53,7 +53,12 @@ fn say(rt: &HostRuntime, path: &str, reason: Result<String, AllocError>) {
 
 /// Returns the displayed form of a name.
 pub fn shown_name(alloc: Global, path: &str) -> Result<String, AllocError> {
-    let mut name = String::new(alloc);
-    add_escaped(&mut name, path.as_bytes())?;
-    Ok(name)
+    shown_bytes(alloc, path.as_bytes())
+}
+
+/// Returns the displayed form of bytes.
+pub fn shown_bytes(alloc: Global, bytes: &[u8]) -> Result<String, AllocError> {
+    let mut shown = String::new(alloc);
+    add_escaped(&mut shown, bytes)?;
+    Ok(shown)
 }

@@ -6,6 +6,7 @@ ghost use Rattle.wt_inspection_views.specs.Objects.{AddsLines, AddsMembers, IsAt
 mod head;
 mod object;
 mod parts;
+mod verdict;
 
 use crate::split_warnings;
 use crate::text::shown_of;
@@ -14,6 +15,7 @@ use object::Object;
 pub use object::{Lines, Origin};
 use parts::{add_capsule, add_capsules, add_instruction, add_section, add_settings, add_signal};
 use std::alloc::{AllocError, Global};
+pub use verdict::{VerdictLine, add_verdict};
 use wt_inspection_model::item::{
     CapsuleItem, Content, Cut, DatagramHead, End, Fault, FieldSection, FrameItem, Inspection, Item,
     Parts, SettingLine, StreamHead, Warning,

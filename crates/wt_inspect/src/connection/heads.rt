@@ -190,7 +190,7 @@ fn fault_words(alloc: Global, fault: EncoderStreamError) -> Result<String, Alloc
 }
 
 /// Returns the name of an end.
-fn sender_name(sender: Sender) -> &'static str {
+pub(super) fn sender_name(sender: Sender) -> &'static str {
     match sender {
         Sender::Client => "client",
         Sender::Server => "server",

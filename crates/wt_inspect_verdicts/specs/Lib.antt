@@ -1,0 +1,4 @@
+pub mod Findings
+pub mod Players
+pub mod Streams
+pub mod Turns

@@ -1,0 +1,76 @@
+//! What was found so far.
+ghost use Rattle.wt_inspect_verdicts.specs.Findings.{AreFound};
+
+use crate::verdict::{Finding, Place, Verdict, finding_of};
+use std::alloc::{AllocError, Global};
+use wtp_webtransport::event::Event;
+
+/// What was found so far: nothing more, once an error ended the connection.
+#[derive(Drop)]
+pub(crate) struct Findings {
+    alloc: Global,
+    verdicts: Vec<Verdict>,
+    /// Whether an error ended the connection.
+    is_over: bool,
+    ghost found: { AreFound is_over verdicts.items },
+}
+
+impl Findings {
+    ghost use Rattle.std.specs.Prelude.{◌≡◌, false};
+    ghost use Rattle.wt_inspect_verdicts.specs.Findings.{EndOnce, is_end};
+
+    /// Creates no findings.
+    pub(crate) fn new(alloc: Global) -> Self {
+        Findings {
+            alloc,
+            verdicts: Vec::new(alloc),
+            is_over: false,
+        }
+    }
+
+    /// Returns whether an error ended the connection.
+    pub(crate) fn is_over(&self) -> bool
+        ensures { result ≡ self.now.is_over }
+    {
+        self.is_over
+    }
+
+    /// Notes what an event says of the peer.
+    ///
+    /// Returns [`AllocError`] if allocation fails.
+    pub(crate) fn note(&mut self, place: Place, event: &Event<'_>) -> Result<(), AllocError> {
+        match finding_of(self.alloc, event)? {
+            Some(finding) => self.find(place, finding),
+            None => Ok(()),
+        }
+    }
+
+    /// Notes what was found, unless an error ended the connection before.
+    ///
+    /// Returns [`AllocError`] if allocation fails.
+    pub(crate) fn find(&mut self, place: Place, finding: Finding) -> Result<(), AllocError> {
+        if self.is_over {
+            return Ok(());
+        }
+        let ends = finding.ends_connection();
+        self.add(Verdict { place, finding }, ends)
+    }
+
+    /// Appends a verdict, which ends the connection or not.
+    #[tactic(auto, using(crate::proofs::FindingLemmas::found_more))]
+    fn add(&mut self, verdict: Verdict, ends: bool) -> Result<(), AllocError>
+        requires open { self.old.is_over ≡ false }
+        requires ends { ends ≡ is_end verdict }
+    {
+        self.verdicts.push(verdict)?;
+        self.is_over = ends;
+        Ok(())
+    }
+
+    /// Returns what was found.
+    pub(crate) fn into_verdicts(self) -> Vec<Verdict>
+        ensures { EndOnce result.items }
+    {
+        self.verdicts
+    }
+}

@@ -1,0 +1,105 @@
+#!/usr/bin/env -S python3 -B
+"""Tests what `wt_inspect connection` says of the rules that a connection breaks across its streams.
+
+    tools/inspect_verdicts.py [DIR]
+
+Each row of tools/verdict_rows.py is a list of recordings that are made for it. Then come the
+connections of DIR (default: tools/recordings.d), whose streams are still open: no real stack breaks a
+rule. The program is built once, without proof, or is the one named by the environment variable
+PROGRAM. Ends with a line 'N passed, M failed'.
+"""
+
+import json
+import sys
+import tempfile
+from pathlib import Path
+
+from outcomes import Outcomes
+from program_cases import TOP, Case, run_cases
+from recorded_lists import connections_of, list_of
+from verdict_rows import NOTES, ROWS
+
+MARK = "\u258c "
+# The runs in which a test put bytes there that no stack sends, and what is wrong with them: a value
+# with line feeds (RFC 9110, section 5.5), and a byte after the close of a session (webtrans, section 5).
+MADE = {
+    "pylines": [("malformed message", "server", 0, 0x10E)],
+    "pyodd": [("stream error", "server", 20, 0x10E)],
+}
+
+
+def write_list(folder, row):
+    """Writes the files of a row, and returns the list of them."""
+    lines = []
+    for number, ((stream, end), content) in enumerate(row.sent.items()):
+        path = folder / f"{row.name}-{number}.bin"
+        path.write_bytes(content)
+        lines.append(f"{stream} {end} {path}\n")
+    return "".join(lines).encode()
+
+
+def verdicts_in(case):
+    """Returns the verdicts in the lines of JSON, each as it stands in a row."""
+    found = []
+    for line in case.output.splitlines():
+        item = json.loads(line)
+        if "verdict" in item:
+            assert item["why"]
+            place = item["stream"] if "stream" in item else "datagram"
+            found.append((item["verdict"], item["by"], place, item.get("code")))
+    return found
+
+
+def text_fault(case, count):
+    """Returns what is wrong with the text of so many verdicts, after all else."""
+    *_, text = case.output.decode().rpartition(f"{MARK}== verdicts\n")
+    lines = text.splitlines()
+    if not count:
+        return None if lines == [f"{MARK}no error"] else f"the text {lines}"
+    is_right = len(lines) == count and all(" would " in line for line in lines)
+    return None if is_right else f"the text {lines}"
+
+
+def row_fault(row, as_json, as_text):
+    """Returns what is wrong with a row."""
+    found = verdicts_in(as_json)
+    if found != row.verdicts:
+        return f"wanted {row.verdicts}, found {found}; {as_json.errors}"
+    if row.status() == 2 and (as_json.status, as_text.status) != (2, 2):
+        return f"status {as_json.status} and {as_text.status}"
+    return text_fault(as_text, len(found))
+
+
+def recorded_fault(name, case):
+    """Returns what is wrong with the faults of a recorded connection."""
+    found = [one for one in verdicts_in(case) if one[0] not in NOTES]
+    wanted = MADE.get(name, [])
+    return None if found == wanted else f"wanted {wanted}, found {found}; {case.errors}"
+
+
+def main():
+    folder = Path(sys.argv[1]) if len(sys.argv) > 1 else TOP / "tools/recordings.d"
+    outcomes = Outcomes("connection")
+    with tempfile.TemporaryDirectory() as place:
+        place = Path(place)
+        place.chmod(0o755)
+        cases = {}
+        for row in ROWS:
+            content, options = write_list(place, row), row.options.split()
+            cases[row.name, "json"] = Case(row.name, content, ["connection", "--json", *options])
+            cases[row.name, "text"] = Case(f"{row.name}-text", content, ["connection", *options])
+        connections = connections_of(folder)
+        for name, entries in connections.items():
+            content = list_of(folder, entries).encode()
+            cases[name, "json"] = Case(name, content, ["connection", "--json", "--open"])
+        run_cases("wt_inspect", list(cases.values()))
+    for row in ROWS:
+        fault = row_fault(row, cases[row.name, "json"], cases[row.name, "text"])
+        outcomes.add(row.name, fault)
+    for name in connections:
+        outcomes.add(name, recorded_fault(name, cases[name, "json"]))
+    return outcomes.end()
+
+
+if __name__ == "__main__":
+    sys.exit(main())
