@@ -4,9 +4,9 @@
     tools/inspect_verdicts.py [DIR]
 
 Each row of tools/verdict_rows.py is a list of recordings that are made for it. Then come the
-connections of DIR (default: tools/recordings.d), whose streams are still open: no real stack breaks a
-rule. The program is built once, without proof, or is the one named by the environment variable
-PROGRAM. Ends with a line 'N passed, M failed'.
+connections of DIR (default: tools/recordings.d), whose streams are still open: no real stack
+breaks a rule. The program is built once, without proof, or is the one named by the environment
+variable PROGRAM. Ends with a line 'N passed, M failed'.
 """
 
 import json
@@ -21,7 +21,8 @@ from verdict_rows import NOTES, ROWS
 
 MARK = "\u258c "
 # The runs in which a test put bytes there that no stack sends, and what is wrong with them: a value
-# with line feeds (RFC 9110, section 5.5), and a byte after the close of a session (webtrans, section 5).
+# with line feeds (RFC 9110, section 5.5), and a byte after the close of a session
+# (draft-ietf-webtrans-http3-02, section 5).
 MADE = {
     "pylines": [("malformed message", "server", 0, 0x10E)],
     "pyodd": [("stream error", "server", 20, 0x10E)],

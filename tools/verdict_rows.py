@@ -2,8 +2,8 @@
 
 Each row has a name, what each end sent (by the stream, or `datagrams`, and the end), the options of
 wt_inspect, and the verdicts: what was found, by which end, where, and the code. The codes are those
-of RFC 9114, RFC 9204, RFC 9297 and draft-ietf-webtrans-http3-02 (webtrans); a section without a name
-is one of RFC 9114.
+of RFC 9114, RFC 9204, RFC 9297 and draft-ietf-webtrans-http3-02 (webtrans); a section without a
+name is one of RFC 9114.
 """
 
 from dataclasses import dataclass, field
@@ -84,16 +84,16 @@ def inserted(value):
 
 
 def referring(required, fields, table=TABLE):
-    """Returns HEADERS with these fields, and the last of so many entries (RFC 9204, sections 4.5.1 and
-    4.5.2)."""
+    """Returns HEADERS with these fields, and the last of so many entries (RFC 9204, sections 4.5.1
+    and 4.5.2)."""
     lines = b"".join(line(name, value) for name, value in fields)
     count = prefixed(0, 8, required % (2 * (table // 32)) + 1)
     return frame(0x01, count + b"\0" + lines + b"\x80")
 
 
-def with_table(by, encoder, messages, **more):
-    """Returns a connection whose end `by` inserts into its table with this encoder stream, which the
-    other end allows."""
+def with_table(by, encoder, messages):
+    """Returns a connection whose end `by` inserts into its table with this encoder stream, which
+    the other end allows."""
     other, own, its = (SERVER, 3, 6) if by == CLIENT else (CLIENT, 2, 7)
     pairs = [(0x01, TABLE), (0x07, 16), (0x33, 1), (0x2B603742, 1), (0x08, 1)]
     return {
@@ -101,7 +101,6 @@ def with_table(by, encoder, messages, **more):
         (own, other): control(pairs=pairs),
         (its, by): SET_CAPACITY + encoder,
         **messages,
-        **more,
     }
 
 
@@ -161,13 +160,10 @@ GOOD = [
         with_table(
             SERVER,
             inserted(b"a"),
-            {**ASKED, (0, SERVER): referring(1, OK)},
-            **{"decoder": None},
+            {**ASKED, (0, SERVER): referring(1, OK), (10, CLIENT): b"\3\x80"},
         ),
     ),
 ]
-GOOD[-1].sent.pop("decoder")
-GOOD[-1].sent[10, CLIENT] = b"\3\x80"
 
 # What is no fault of the other end.
 NOTED = [
@@ -356,7 +352,9 @@ STREAM = [
         "bytes-after-the-close",
         {
             **OPEN,
-            (0, CLIENT): headers(*SESSION) + data(CLOSE + b"\4\0\0\0\0") + data(capsule(0x78AE, b"")),
+            (0, CLIENT): headers(*SESSION)
+            + data(CLOSE + b"\4\0\0\0\0")
+            + data(capsule(0x78AE, b"")),
         },
         [reset(SERVER, 0, MESSAGE)],
     ),
