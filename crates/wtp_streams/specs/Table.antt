@@ -1,5 +1,5 @@
 -- A connection with its streams, by their IDs (RFC 9000, section 2.1).
-use Rattle.std.specs.Prelude.{◌≡◌, ◌≢◌, ℕ, ◌==◌, ◌&&◌, not, if◌then◌else◌, Bool, true, false, List, [], Option, Some, None, option_map, sum_by, count_by, nat_lt, nat_le}
+use Rattle.std.specs.Prelude.{◌≡◌, ◌≢◌, ℕ, ◌==◌, ◌&&◌, ◌||◌, not, if◌then◌else◌, Bool, true, false, List, [], Option, Some, None, option_map, sum_by, count_by, nat_lt, nat_le}
 use Rattle.std.specs.Ordering.{nat_cmp}
 use Rattle.std.specs.List.{find}
 use Rattle.std.specs.Map.{lookup, set_value, values_of}
@@ -18,7 +18,7 @@ use Rattle.wtp_webtransport.specs.declared.event.Waits.{Waits as Wait}
 use Rattle.wtp_webtransport.specs.declared.event.Waits.TheVariants as wait
 use Rattle.wtp_webtransport.specs.Events.{Told, Joined, Settings, Headers, SessionRequested, StreamError, Waits}
 use Rattle.wtp_webtransport.specs.Sessions.{known_of}
-use Rattle.wtp_webtransport.specs.Streams.{connection_of, waits_for}
+use Rattle.wtp_webtransport.specs.Streams.{connection_of, is_request_head, waits_for}
 use Rattle.wtp_webtransport.specs.Tables.{inserts_of}
 use Rattle.wtp_dynamic.specs.Table.{empty_table}
 use Rattle.wtp_dynamic_decoder.specs.Decoder.{Decoder, Runs}
@@ -123,11 +123,13 @@ abbrev pub awaited_by : Bool → HeadersKind → Bool
 awaited_by before kind.Request = true
 awaited_by before other = before
 
-abbrev pub awaited_after : Bool → Told → Bool
-awaited_after before (Headers k fields) = awaited_by before k
-awaited_after before (SessionRequested fields) = true
-awaited_after before (StreamError f) = false
-awaited_after before told = before
+-- So has one whose header section waits.
+abbrev pub awaited_after : Bool → Stream → Told → Bool
+awaited_after before s (Headers k fields) = awaited_by before k
+awaited_after before s (SessionRequested fields) = true
+awaited_after before s (Waits w) = before || is_request_head s
+awaited_after before s (StreamError f) = false
+awaited_after before s told = before
 
 -- a stream in this state after this event
 abbrev pub after_event : Entry → Stream → Told → Entry
@@ -136,7 +138,7 @@ after_event e s told = record {
   session = session_after e.session told;
   paused = is_wait told;
   stays = e.stays;
-  awaited = awaited_after e.awaited told;
+  awaited = awaited_after e.awaited s told;
 }
 
 -- how many of all bytes are consumed when a stream is joined with its session: so many if those after

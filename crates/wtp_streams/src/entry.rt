@@ -17,7 +17,7 @@ pub(crate) struct Entry {
     pub(crate) paused: bool,
     /// Whether it is kept as long as the connection lives.
     pub(crate) stays: bool,
-    /// Whether a request came on it that has no answer, and that its client did not give up.
+    /// Whether a request came on it, or waits, that has no answer, and that its client did not give up.
     pub(crate) awaited: bool,
 }
 
@@ -41,7 +41,7 @@ impl Entry {
     {
         self.session = session_after(self.session, event);
         self.paused = is_wait(event);
-        self.awaited = is_awaited_after(self.awaited, event);
+        self.awaited = is_awaited_after(self.awaited, &self.stream, event);
     }
 }
 
@@ -63,11 +63,12 @@ fn is_wait(event: &Event<'_>) -> bool
 }
 
 // Returns whether a stream has a request without an answer after an event.
-fn is_awaited_after(before: bool, event: &Event<'_>) -> bool
-    ensures { result ≡ awaited_after before (told_of event.now) }
+fn is_awaited_after(before: bool, stream: &Stream, event: &Event<'_>) -> bool
+    ensures { result ≡ awaited_after before stream.now (told_of event.now) }
 {
     match event {
         Event::Headers(HeadersKind::Request, _) | Event::SessionRequested(_) => true,
+        Event::Waits(_) => before || stream.is_request_head(),
         Event::StreamError(_) => false,
         _ => before,
     }

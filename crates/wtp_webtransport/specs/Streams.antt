@@ -93,6 +93,14 @@ head_if p r = p
 abbrev pub with_head : Stream → Role → Stream
 with_head s r = with_part s (head_if s.part r)
 
+-- a request of which no header section was read, though one may have come that waits
+abbrev pub is_head_of_request : Part → Option Asked → Bool
+is_head_of_request (part.Head m) None = true
+is_head_of_request p asked = false
+
+abbrev pub is_request_head : Stream → Bool
+is_request_head s = is_head_of_request s.part s.asked
+
 -- a stream of a session, which has no message
 abbrev pub member_if : Part → Part
 member_if part.NoMessage = part.OfSession

@@ -1,6 +1,6 @@
 //! The state of one stream: of its frames, and of its message or its session.
 ghost use Rattle.std.specs.Prelude.{◌≡◌, ◌↔◌, IsTrue};
-ghost use Rattle.wtp_webtransport.specs.Streams.{stream_of, asking_stream, session_stream, with_session_id, with_head, with_session, connects, after_end, ended, answered, wait_for, waits_for as waits_for_is, is_held, is_done as is_done_is, due_by, GivesCapsule, EndsBetween};
+ghost use Rattle.wtp_webtransport.specs.Streams.{stream_of, asking_stream, session_stream, with_session_id, with_head, with_session, connects, after_end, ended, answered, wait_for, waits_for as waits_for_is, is_request_head as is_request_head_is, is_held, is_done as is_done_is, due_by, GivesCapsule, EndsBetween};
 
 pub mod codes;
 pub mod words;
@@ -297,5 +297,13 @@ impl Stream {
             Some(session) => Some(Waits::Session(session)),
             None => None,
         }
+    }
+
+    /// Returns whether the stream has a request whose header section was not read. If the stream waits
+    /// for SETTINGS or for the dynamic table, the header section is what waits.
+    pub fn is_request_head(&self) -> bool
+        ensures { result ≡ is_request_head_is self.now }
+    {
+        matches!(self.part, Part::Head(_)) && self.asked.is_none()
     }
 }
