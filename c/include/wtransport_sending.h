@@ -209,7 +209,8 @@ int wt_sending_close(wt_sending *sending, uint32_t code, const uint8_t *reason, 
 /* What an encoder does by itself */
 typedef struct wt_policy {
   uint64_t largest;        /* the size of the largest entry that is inserted: name, value and 32 bytes */
-  uint64_t reserved;       /* bytes of the table to keep available, at most half of its capacity */
+  uint64_t reserved;       /* bytes of the table to keep available, at most half of its capacity; an
+                              entry that needs some of them is not inserted */
   uint64_t unacknowledged; /* sections that refer to the table and are not acknowledged: at most so many */
 } wt_policy;
 

@@ -62,7 +62,29 @@ const SIZE_35: Proposal<'static> = Proposal {
     indexing: Indexing::ByPolicy,
 };
 
-static ROWS: [Row; 5] = [
+const SIZE_68: Proposal<'static> = Proposal {
+    name: b"c",
+    value: VALUE_35,
+    indexing: Indexing::ByPolicy,
+};
+
+const SIZE_69: Proposal<'static> = Proposal {
+    name: b"c",
+    value: VALUE_36,
+    indexing: Indexing::ByPolicy,
+};
+
+const INSERTED_69: Proposal<'static> = Proposal {
+    name: b"c",
+    value: VALUE_36,
+    indexing: Indexing::Insert,
+};
+
+const VALUE_35: &[u8] = b"!!!!!!!!!!!!!!!!!!!!!!!!!!!!!!!!!!!";
+
+const VALUE_36: &[u8] = b"!!!!!!!!!!!!!!!!!!!!!!!!!!!!!!!!!!!!";
+
+static ROWS: [Row; 6] = [
     // RFC 9204, Appendix B.
     (
         "an entry that is draining is inserted again, and one has a dynamic name",
@@ -117,6 +139,25 @@ static ROWS: [Row; 5] = [
             Step::Sends(0, &[OLD_AB, OLD_CD], b"\x03\x00\x81\x80", &[AB, CD]),
             Step::Inserts((b"e", b"f"), true),
             Step::Sends(0, &[OLD_AB, OLD_CD], b"\x03\x01\x21a\x01b\x81", &[AB, CD]),
+        ],
+    ),
+    (
+        "an entry that would be draining at once is not inserted",
+        1,
+        &[
+            Step::Follows(1024, 34, 256),
+            Step::Resizes(102, true),
+            Step::Sends(
+                0,
+                &[SIZE_69, INSERTED_69],
+                b"\x00\x00\
+                \x21c\x24!!!!!!!!!!!!!!!!!!!!!!!!!!!!!!!!!!!!\
+                \x21c\x24!!!!!!!!!!!!!!!!!!!!!!!!!!!!!!!!!!!!",
+                &[(b"c", VALUE_36), (b"c", VALUE_36)],
+            ),
+            Step::Has(&[]),
+            Step::Sends(0, &[SIZE_68], b"\x02\x00\x80", &[(b"c", VALUE_35)]),
+            Step::Has(&[(b"c", VALUE_35)]),
         ],
     ),
     (

@@ -48,12 +48,15 @@ FindsIn holds table low below None =
     (index : ℕ) → low ≤ index → index < below → HasNone holds table index
 FindsIn holds table low below (Some index) = IsLatest holds table below index × (low ≤ index)
 
+-- how many bytes of the table hold the entries to which lines refer: all but those that are kept
+-- available, which are at most half of the capacity
+abbrev pub usable : Policy → Table → ℕ
+usable policy table = table.capacity - min policy.reserved (table.capacity / 2)
+
 -- The smallest absolute index to which lines refer. The entries below it are draining: they would
--- be evicted for the bytes that are kept available, which are at most half of the capacity (section
--- 2.1.1.1).
+-- be evicted for the bytes that are kept available (section 2.1.1.1).
 abbrev pub draining_index : Policy → Table → ℕ
-draining_index policy table =
-    (evicted (table.capacity - min policy.reserved (table.capacity / 2)) table).dropped
+draining_index policy table = (evicted (usable policy table) table).dropped
 
 -- ---- the order that inserts an entry
 
@@ -85,10 +88,12 @@ IsOrderFor entry table (InsertsLiteral name value) =
 
 -- ---- which fields are inserted
 
--- it is to be an entry, and neither table has it as one that is not draining
+-- It is to be an entry, to which lines may then refer, and neither table has it as one that is not
+-- draining. A larger entry would be draining as soon as it is inserted.
 abbrev pub IsWanted : Policy → Proposal → Table → Type 0
 IsWanted policy proposal table =
     (is_proposed policy (field_of proposal) proposal.indexing ≡ true)
+    × (entry_size (field_of proposal) ≤ usable policy table)
     × FindsStatic (field_of proposal) None
     × FindsIn (is_field (field_of proposal)) table (draining_index policy table)
     (insert_count table) None

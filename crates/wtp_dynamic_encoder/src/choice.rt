@@ -1,10 +1,11 @@
 //! Which fields an encoder inserts, and to which entries it refers (RFC 9204, sections 2.1.1.1, 4.3
 //! and 4.5).
 
-ghost use Rattle.std.specs.Prelude.{◌≡◌, Some, MatchOption};
+ghost use Rattle.std.specs.Prelude.{◌≡◌, nat_le, Some, MatchOption};
 ghost use Rattle.wtp_qpack.specs.Field.{IsOctets};
 ghost use Rattle.wtp_dynamic.specs.Plans.{planned_field, CanPlan};
-ghost use Rattle.wtp_dynamic_encoder.specs.Choosing.{field_of, is_field, has_name, FindsIn, draining_index, IsCopy, IsOrderFor, IsWanted, IsLiteral, Chooses};
+ghost use Rattle.wtp_dynamic.specs.Table.{entry_size};
+ghost use Rattle.wtp_dynamic_encoder.specs.Choosing.{field_of, is_field, has_name, FindsIn, usable, draining_index, IsCopy, IsOrderFor, IsWanted, IsLiteral, Chooses};
 ghost use Rattle.wtp_dynamic_encoder.specs.Keys.{IsKey};
 ghost use Rattle.wtp_dynamic_encoder.specs.PlanView.{plan_of, order_of};
 
@@ -20,12 +21,29 @@ pub(crate) fn are_octets(text: &[u8])
     let _len = text.len();
 }
 
+/// Returns how many bytes of a table hold the entries to which lines refer.
+fn usable(policy: Policy, table: &IndexedTable) -> u64
+    ensures { result ≡ usable policy table.now }
+{
+    let kept = policy.reserved.min(table.capacity() / 2);
+    table.capacity() - kept
+}
+
+/// Returns whether lines may refer to an entry once it is inserted: it is not draining then.
+fn is_usable(policy: Policy, table: &IndexedTable, proposal: Proposal<'_>) -> bool
+    ensures { result ≡ nat_le (entry_size (field_of proposal.entry)) (usable policy table.now) }
+{
+    match usable(policy, table).checked_sub(32) {
+        Some(room) => proposal.name.len() as u64 + proposal.value.len() as u64 <= room,
+        None => false,
+    }
+}
+
 /// Returns the smallest absolute index to which lines refer.
 pub(crate) fn draining_index(policy: Policy, table: &IndexedTable) -> u64
     ensures { result ≡ draining_index policy table.now }
 {
-    let kept = policy.reserved.min(table.capacity() / 2);
-    table.dropped_for(table.capacity() - kept)
+    table.dropped_for(usable(policy, table))
 }
 
 /// Returns the absolute index of the latest entry with this name and value, whose key this is, among
@@ -100,7 +118,8 @@ pub(crate) fn copy_of(table: &IndexedTable, key: Key, name: &[u8], value: &[u8])
 }
 
 /// Returns the latest entry that is a field, or that there is none, if the field, whose key this is,
-/// is inserted: it is to be an entry, and neither table has it as one that is not draining.
+/// is inserted: it is to be an entry, to which lines may then refer, and neither table has it as one
+/// that is not draining.
 pub(crate) fn wanted(
     policy: Policy,
     table: &IndexedTable,
@@ -113,7 +132,8 @@ pub(crate) fn wanted(
         (λ latest. IsWanted policy proposal.entry table.now
         × IsCopy (field_of proposal.entry) table.now latest) }
 {
-    if !policy.proposes(proposal) || key.whole.is_some() {
+    let is_proposed = policy.proposes(proposal) && is_usable(policy, table, proposal);
+    if !is_proposed || key.whole.is_some() {
         return None;
     }
     match copy_of(table, key, proposal.name, proposal.value) {

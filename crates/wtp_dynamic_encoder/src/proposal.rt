@@ -7,9 +7,11 @@ ghost use Rattle.wtp_dynamic_encoder.specs.Choosing.{is_never, is_proposed, defa
 /// How a field is indexed.
 #[derive(Clone, Copy)]
 pub enum Indexing {
-    /// It is inserted if its entry is not larger than the [`Policy`] allows.
+    /// It is inserted if its entry is not larger than the [`Policy`] allows, and lines may then refer
+    /// to it.
     ByPolicy,
-    /// It is inserted.
+    /// It is inserted if lines may then refer to it: if its entry is not larger than the capacity
+    /// without the bytes that the [`Policy`] keeps available.
     Insert,
     /// It is not inserted.
     Without,
@@ -27,7 +29,8 @@ pub struct Policy {
     pub largest: u64,
     /// How many bytes of the table to keep available, at most half of its capacity. The entries
     /// that would be evicted for them are draining: no line refers to them, and they are inserted
-    /// again when they are needed (section 2.1.1.1).
+    /// again when they are needed (section 2.1.1.1). A larger entry than the other bytes is never
+    /// inserted, since no line could refer to it.
     pub reserved: u64,
     /// How many sections that refer to the dynamic table may be unacknowledged. As long as so many
     /// are, sections refer to no entry of it.
