@@ -24,7 +24,7 @@ use crate::sheet::Sheet;
 use crate::showing::{flush, show_lines, write, write_all_of};
 use heads::{Head, head_lines, origin_of};
 use kinds::{is_critical, recorded_of};
-use pieces::{read_entries, read_pieces};
+use pieces::{list_in, read_entries, read_pieces};
 use sessions::{is_session, parts_in, sessions_in};
 use std::alloc::Global;
 use std::io::Write;
@@ -37,8 +37,9 @@ use wt_inspect_connection::purpose::Purpose;
 use wt_inspection::{Content, End, Item, Recorded};
 use wtp_dynamic::error::EncoderStreamError;
 
-/// Shows the connection whose list the arguments name, and what each end would have said of the other.
-/// Returns the exit status: 0, or 2 if something of it contains an error.
+/// Shows the connection whose list, or whose folder with a file `list`, the arguments name, and what
+/// each end would have said of the other. Returns the exit status: 0, or 2 if something of it contains
+/// an error.
 ///
 /// # Errors
 ///
@@ -51,6 +52,11 @@ pub fn show_connection(rt: &HostRuntime, arguments: &Arguments<'_>) -> Result<u8
     if is_refused(arguments) {
         return Err(Failure::NotOfConnection);
     }
+    let list = list_in(rt, alloc, arguments.file)?;
+    let arguments = &Arguments {
+        file: list.as_ref().map(|path| path.as_str()).or(arguments.file),
+        ..*arguments
+    };
     let text = read_bytes(rt, alloc, arguments.file)?;
     let entries = read_entries(rt, alloc, arguments.file, text.as_slice())?;
     let pieces = read_pieces(rt, alloc, arguments, entries.as_slice())?;

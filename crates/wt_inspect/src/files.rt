@@ -14,6 +14,14 @@ pub fn read_bytes(rt: &HostRuntime, alloc: Global, file: Option<&str>) -> Result
     }
 }
 
+/// Returns whether this is the path of a folder.
+pub fn is_folder(rt: &HostRuntime, path: &str) -> bool {
+    match fs::metadata(rt, path) {
+        Ok(found) => found.is_dir(),
+        Err(_) => false,
+    }
+}
+
 /// Reads a file.
 ///
 /// # Errors

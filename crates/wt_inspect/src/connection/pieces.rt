@@ -2,11 +2,30 @@
 
 use crate::arguments::Arguments;
 use crate::failure::Failure;
-use crate::files::{name_failure, read_file};
+use crate::files::{is_folder, name_failure, read_file};
 use crate::input::read_hex;
 use std::alloc::{AllocError, Global};
 use wt_inspect_connection::list::{Entry, read_list};
 use wt_inspect_connection::piece::Piece;
+
+/// The name of the list in a folder, as `tools/capture-streams` writes it.
+const LIST_NAME: &str = "list";
+
+/// Returns the path of the list in a folder, or `None` if this is the path of no folder.
+pub(super) fn list_in(
+    rt: &HostRuntime,
+    alloc: Global,
+    path: Option<&str>,
+) -> Result<Option<String>, AllocError> {
+    match path {
+        None | Some("-") => Ok(None),
+        Some(path) if is_folder(rt, path) => {
+            let folder = path.trim_end_matches('/');
+            Ok(Some(format!(in alloc; "{folder}/{LIST_NAME}")?))
+        }
+        Some(_) => Ok(None),
+    }
+}
 
 /// Reads the entries of a list.
 pub(super) fn read_entries<'a>(
