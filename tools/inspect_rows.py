@@ -419,7 +419,10 @@ ROWS = [
         OK.replace("323030", "313033") + "000178",
         "response --strict",
         2,
-        ("H3_FRAME_UNEXPECTED: DATA comes before HEADERS (RFC 9114, section 4.1)",),
+        (
+            "17    DATA               1 byte\n",
+            "DATA comes before HEADERS (RFC 9114, section 4.1)\n\u258c 20    end\n",
+        ),
     ),
     (
         "data-before-headers",

@@ -31,7 +31,7 @@ pub(crate) fn warn_of_frame(
     reading.warn(at, misplaced)?;
     let faulty = contents_warning(&mut reading.past, number, payload);
     reading.warn(at, faulty)?;
-    let too_long = content_warning(&mut reading.past, role, number, payload);
+    let too_long = content_warning(reading, role, number, payload);
     reading.warn(at, too_long)?;
     let hint = hint_of(reading, at, FrameName::of(number), payload);
     reading.warn(at, hint)
@@ -96,24 +96,27 @@ fn headers_warning(reading: &Reading) -> Option<Rule> {
 
 /// Returns what is wrong with the length of the content of a message, with this frame.
 fn content_warning(
-    past: &mut Past,
+    reading: &mut Reading,
     role: StreamRole,
     number: VarInt,
     payload: &[u8],
-) -> Option<Rule> {
+) -> Option<Rule>
+    ensures { reading.new.phase ≡ reading.old.phase }
+{
     if role == StreamRole::UniRemote {
         return None;
     }
-    let mut judge = past.judge.unwrap_or(Judge::new(role));
+    let mut judge = reading.past.judge.unwrap_or(Judge::new(role));
     let mut broken = None;
     if FrameName::of(number) == FrameName::Read(FrameKind::Data) {
-        // DATA before HEADERS is reported as such
-        match past.judge {
-            Some(_) => broken = judge.data(payload.len() as u64),
-            None => judge.stop(),
+        if matches!(reading.phase, Phase::Opening) {
+            // DATA before HEADERS is reported as such
+            judge.stop();
+        } else {
+            broken = judge.data(payload.len() as u64);
         }
     }
-    past.judge = Some(judge);
+    reading.past.judge = Some(judge);
     broken
 }
 
