@@ -192,7 +192,11 @@ ROWS = [
         "404200404100616263",
         "bi",
         0,
-        ("session 0", "H3_FRAME_ERROR: a frame"),
+        (
+            "session 0\n",
+            "H3_FRAME_ERROR: a frame comes before the session ID (draft-ietf-webtrans-http3-02",
+            "payload            3 bytes\n\u258c 9     end\n",
+        ),
     ),
     # push streams
     (

@@ -42,6 +42,8 @@ pub(super) fn session_item(
         None
     };
     reading.warn(at, late)?;
+    // it is no message
+    reading.past.judge = None;
     Ok(session_frame(role, first, at, pair, rest))
 }
 
