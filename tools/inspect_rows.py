@@ -29,6 +29,8 @@ ACKNOWLEDGMENTS = "03840148"
 # the head of a control stream and an empty SETTINGS
 SETTINGS = "000400"
 CLOSED = ("CLOSE_WEBTRANSPORT_SESSION, 7 bytes", "code = 7", "reason = bye")
+# the line below a capsule whose value is wrong
+WRONG_VALUE = "\u258c         warning: H3_MESSAGE_ERROR: the value of a capsule is not"
 
 ROWS = [
     # capsules of a session's response
@@ -130,6 +132,37 @@ ROWS = [
             "SETTINGS_WT_ENABLED",
             "SETTINGS_H3_DATAGRAM_DRAFT04",
         ),
+    ),
+    (
+        "faults-of-settings-json",
+        "0004083304070107020200",
+        "uni --open --json",
+        2,
+        (
+            '"name":"SETTINGS_H3_DATAGRAM","value":4,"fault":"value"}',
+            '"value":2,"fault":"repeated"}',
+            '"name":"HTTP/2 setting","value":0,"fault":"http2"}',
+            '"code":265,"name":"H3_SETTINGS_ERROR"',
+        ),
+    ),
+    # numbers up to 2^53 - 1, which each reader of JSON has exactly, and larger ones
+    (
+        "large-numbers-json",
+        "00041c06ffffffffffffffff21c01fffffffffffff4040c020000000000000",
+        "uni --open --json",
+        0,
+        (
+            '"name":"SETTINGS_MAX_FIELD_SECTION_SIZE","value":"4611686018427387903"}',
+            '"id":33,"name":"reserved","value":9007199254740991}',
+            '"id":64,"name":"reserved","value":"9007199254740992"}',
+        ),
+    ),
+    (
+        "large-type-json",
+        "c4088242d83959fa00",
+        "bi --open --json",
+        0,
+        ('"type":"unknown","number":"290625399572486650"',),
     ),
     (
         "capsules-of-drafts",
@@ -247,6 +280,14 @@ ROWS = [
         ("field 5: H3_MESSAGE_ERROR: a field value has a control character",),
     ),
     (
+        "control-in-value-json",
+        "014045000027003a6d6574686f640347455427003a736368656d6505687474707327033a61757468"
+        "6f726974790161253a70617468012f217806611b5b33316d2179017f217a0101",
+        "bi --json",
+        0,
+        ('"line":5,"code":270,"name":"H3_MESSAGE_ERROR"', '"line":7,'),
+    ),
+    (
         "status-of-text",
         "010f000027003a73746174757303616263",
         "response",
@@ -340,6 +381,19 @@ ROWS = [
             "WT_STREAM_DATA_BLOCKED",
             "WT_STREAMS_BLOCKED_BIDI",
             "58    end",
+        ),
+    ),
+    (
+        "capsules-of-one-number",
+        "990b4d3d0105990b4d3e0105990b4d3f0105990b4d400105990b4d410105990b4d420105990b4d430105"
+        "990b4d440105800078ae0105000105",
+        "capsules --strict",
+        2,
+        (
+            f"WT_MAX_STREAM_DATA, 1 byte\n{WRONG_VALUE}",
+            f"WT_STREAM_DATA_BLOCKED, 1 byte\n{WRONG_VALUE}",
+            f"DRAIN_WEBTRANSPORT_SESSION, 1 byte\n{WRONG_VALUE}",
+            "54    capsule            DATAGRAM, 1 byte\n\u258c 57    end\n",
         ),
     ),
     # a close that announces more than its code and 1024 bytes is too long, however it goes on
@@ -655,6 +709,7 @@ ROWS = [
     # no bytes
     ("no-capsules", "", "capsules --strict", 0, ("0     end",)),
     ("no-stream-type", "", "uni --strict", 0, ("0     end",)),
+    ("no-request", "", "bi --strict", 0, ("0     end",)),
     ("no-datagram", "", "datagram", 2, ("H3_DATAGRAM_ERROR (0x33): a datagram begins with",)),
     ("no-section", "", "section", 2, ("QPACK_DECOMPRESSION_FAILED (0x200): a field section",)),
 ]
