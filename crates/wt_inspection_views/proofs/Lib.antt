@@ -4,5 +4,6 @@ pub mod JsonLemmas
 pub mod PageLemmas
 pub mod ShownLemmas
 pub mod LineLemmas
+pub mod PaintingLemmas
 pub mod DigitLemmas
 pub mod JoinLemmas

@@ -4,4 +4,5 @@ pub mod Html
 pub mod JsonLines
 pub mod TextLines
 pub mod Lines
+pub mod Painting
 pub mod Objects

@@ -15,6 +15,7 @@ pub mod html;
 pub mod json_lines;
 mod latch;
 pub mod laws;
+pub mod painting;
 pub mod plain;
 pub mod text;
 

@@ -4,8 +4,10 @@ ghost use Rattle.std.specs.Str.{NoCharPasses};
 ghost use Rattle.wt_inspection_views.specs.Characters.{needs_escape};
 ghost use Rattle.wt_inspection_views.specs.Escaped.{AddsLine, AreLines, IsLine, line_count};
 ghost use Rattle.wt_inspection_views.specs.Escaped.{line_mark};
+ghost use Rattle.wt_inspection_views.specs.Painting.{IsPainted};
 
 use crate::escaped::{add_escaped, needs_no_escape};
+use crate::painting::{Style, StyledLine, paint};
 use std::alloc::{AllocError, Global};
 use std::marker::Model;
 
@@ -22,6 +24,8 @@ const LINE_OVERHEAD: usize = 5;
 pub struct PlainText {
     alloc: Global,
     text: String,
+    /// The lines that have a style, in their order.
+    styled: Vec<StyledLine>,
 }
 
 // The bytes of the text.
@@ -41,6 +45,7 @@ impl PlainText {
         PlainText {
             alloc,
             text: String::new(alloc),
+            styled: Vec::new(alloc),
         }
     }
 
@@ -63,6 +68,27 @@ impl PlainText {
         push_line(self.alloc, &mut self.text, words)
     }
 
+    /// Appends a line with these words, as by [`add_line`](PlainText::add_line), in this style.
+    ///
+    /// Returns [`AllocError`] if allocation fails. The text is then unchanged.
+    pub fn add_styled(&mut self, style: Style, words: &str) -> Result<(), AllocError>
+        ensures added { IfOk result (λ _. AddsLine words.now self.old self.new) }
+        ensures one_line { IfOk result (λ _. line_count self.new ≡ line_count self.old + 1) }
+        ensures kept { OnErr result (self.new ≡ self.old) }
+    {
+        push_styled(self.alloc, &mut self.text, &mut self.styled, style, words)
+    }
+
+    /// Returns the text with the escape sequences of its styles.
+    ///
+    /// Returns [`AllocError`] if allocation fails.
+    pub fn into_painted(self) -> Result<Vec<u8>, AllocError>
+        ensures painted { IfOk result (λ painted. IsPainted self painted.items) }
+        ensures lines { AreLines self }
+    {
+        paint(self.alloc, self.text.as_bytes(), self.styled.as_slice())
+    }
+
     /// Returns the text.
     pub fn into_text(self) -> String
         ensures text { string_bytes result ≡ self }
@@ -70,6 +96,34 @@ impl PlainText {
     {
         self.text
     }
+}
+
+/// Appends a line with these words, and notes its style.
+///
+/// Returns [`AllocError`] if allocation fails. The text is then unchanged.
+fn push_styled(
+    alloc: Global,
+    text: &mut String,
+    styled: &mut Vec<StyledLine>,
+    style: Style,
+    words: &str,
+) -> Result<(), AllocError>
+    ensures added { IfOk result
+        (λ _. AddsLine words.now (string_bytes text.old) (string_bytes text.new)) }
+    ensures kept { OnErr result (string_bytes text.new ≡ string_bytes text.old) }
+{
+    if style == Style::Plain {
+        return push_line(alloc, text, words);
+    }
+    styled.push(StyledLine {
+        at: text.len(),
+        style,
+    })?;
+    let added = push_line(alloc, text, words);
+    if added.is_err() {
+        let _ = styled.pop();
+    }
+    added
 }
 
 /// Appends a line with these words.

@@ -275,9 +275,9 @@ pub fn add_end(text: &mut Lines, end: End, length: usize)
     ensures adds { AddsTextLines 1 text.old text.new }
 {
     match end {
-        End::Complete => text.add_formatted(format!(in text.alloc; "{length:<5} end")),
+        End::Complete => text.add_whole(length),
         End::Cut(cut) => text.add_head(cut.at, "cut", words_of_cut(text.alloc, cut)),
-        End::Fault(fault) => text.add_head(fault.at, "fault", words_of_fault(text.alloc, fault)),
+        End::Fault(fault) => text.add_fault(fault.at, words_of_fault(text.alloc, fault)),
     }
 }
 

@@ -1,10 +1,12 @@
 //! Lines of text that record a failed allocation.
 ghost use Rattle.std.specs.Prelude.{◌≡◌, ℕ, false, true, IfOk, IsTrue, length, string_bytes};
 ghost use Rattle.wt_inspection_views.specs.Escaped.{AreLines, line_count};
-ghost use Rattle.wt_inspection_views.specs.Lines.{Gains, HasTextLines};
+ghost use Rattle.wt_inspection_views.specs.Lines.{Gains, HasTextLines, TakesPainted};
+ghost use Rattle.wt_inspection_views.specs.Painting.{IsPainted};
 
 use super::words::{add_capsule_words, add_frame_words, add_size_words, add_warning_words};
 use crate::latch::Latch;
+use crate::painting::Style;
 use crate::plain::PlainText;
 use std::alloc::{AllocError, Global};
 use std::mem;
@@ -54,6 +56,25 @@ impl Lines {
         mem::replace(self, Lines::new(self.alloc)).into_text()
     }
 
+    /// Returns the text with the escape sequences of its styles and leaves none, or [`AllocError`]
+    /// if an allocation failed.
+    pub fn take_painted(&mut self) -> Result<Vec<u8>, AllocError>
+        ensures painted { IfOk result (λ painted. TakesPainted self.old painted.items) }
+        ensures none { HasTextLines 0 self.new }
+    {
+        mem::replace(self, Lines::new(self.alloc)).into_painted()
+    }
+
+    /// Returns the text with the escape sequences of its styles, or [`AllocError`] if an allocation
+    /// failed.
+    fn into_painted(self) -> Result<Vec<u8>, AllocError>
+        ensures whole { IfOk result (λ _. IsTrue self.is_whole × AreLines self.text) }
+        ensures painted { IfOk result (λ painted. IsPainted self.text painted.items) }
+    {
+        let text = self.is_whole.finish(self.text)?;
+        text.into_painted()
+    }
+
     /// Records that an allocation failed.
     pub(super) fn mark_failed(&mut self)
         ensures { self.new.is_whole ≡ false }
@@ -65,7 +86,14 @@ impl Lines {
     pub(super) fn add(&mut self, words: &str)
         ensures { Gains 1 self.old self.new }
     {
-        let added = self.text.add_line(words);
+        self.add_styled(Style::Plain, words)
+    }
+
+    /// Appends a line with these words, in this style.
+    fn add_styled(&mut self, style: Style, words: &str)
+        ensures { Gains 1 self.old self.new }
+    {
+        let added = self.text.add_styled(style, words);
         self.is_whole.note(added);
     }
 
@@ -73,8 +101,15 @@ impl Lines {
     pub(super) fn add_formatted(&mut self, words: Result<String, AllocError>)
         ensures { Gains 1 self.old self.new }
     {
+        self.add_formatted_styled(Style::Plain, words)
+    }
+
+    /// Appends a line with allocated words, in this style. Records a failed allocation of the words.
+    fn add_formatted_styled(&mut self, style: Style, words: Result<String, AllocError>)
+        ensures { Gains 1 self.old self.new }
+    {
         match words {
-            Ok(words) => self.add(words.as_str()),
+            Ok(words) => self.add_styled(style, words.as_str()),
             Err(_) => self.mark_failed(),
         }
     }
@@ -83,8 +118,39 @@ impl Lines {
     pub(super) fn add_head(&mut self, at: usize, what: &str, more: Result<String, AllocError>)
         ensures { Gains 1 self.old self.new }
     {
+        self.add_head_styled(Style::Item, at, what, more)
+    }
+
+    /// Appends the line of a fault: its offset, and details.
+    pub(super) fn add_fault(&mut self, at: usize, more: Result<String, AllocError>)
+        ensures { Gains 1 self.old self.new }
+    {
+        self.add_head_styled(Style::Fault, at, "fault", more)
+    }
+
+    /// Appends the line of a whole input of this length.
+    pub(super) fn add_whole(&mut self, length: usize)
+        ensures { Gains 1 self.old self.new }
+    {
+        let words = format!(in self.alloc; "{length:<5} end");
+        self.add_formatted_styled(Style::Item, words)
+    }
+
+    /// Appends a line with an offset, what is there, and details, in this style.
+    fn add_head_styled(
+        &mut self,
+        style: Style,
+        at: usize,
+        what: &str,
+        more: Result<String, AllocError>,
+    )
+        ensures { Gains 1 self.old self.new }
+    {
         match more {
-            Ok(more) => self.add_formatted(format!(in self.alloc; "{at:<5} {what:<18} {more}")),
+            Ok(more) => {
+                let words = format!(in self.alloc; "{at:<5} {what:<18} {more}");
+                self.add_formatted_styled(style, words)
+            }
             Err(_) => self.mark_failed(),
         }
     }
@@ -95,7 +161,7 @@ impl Lines {
     {
         self.words.clear();
         let built = add_size_words(&mut self.words, at, what, size);
-        self.add_words(built)
+        self.add_words(Style::Item, built)
     }
 
     /// Appends the first line of a frame. `label` says what its fields are, if it has some.
@@ -104,7 +170,7 @@ impl Lines {
     {
         self.words.clear();
         let built = add_frame_words(&mut self.words, at, frame, label);
-        self.add_words(built)
+        self.add_words(Style::Item, built)
     }
 
     /// Appends the first line of a capsule. It is indented, unless it is an item with an offset.
@@ -113,7 +179,8 @@ impl Lines {
     {
         self.words.clear();
         let built = add_capsule_words(&mut self.words, at, capsule);
-        self.add_words(built)
+        let style = if at.is_some() { Style::Item } else { Style::Plain };
+        self.add_words(style, built)
     }
 
     /// Appends the line of a warning.
@@ -122,16 +189,16 @@ impl Lines {
     {
         self.words.clear();
         let built = add_warning_words(&mut self.words, warning);
-        self.add_words(built)
+        self.add_words(style_of(warning), built)
     }
 
-    /// Appends a line with the words that were built, unless an allocation failed.
-    fn add_words(&mut self, built: Result<(), AllocError>)
+    /// Appends a line with the words that were built, in this style, unless an allocation failed.
+    fn add_words(&mut self, style: Style, built: Result<(), AllocError>)
         ensures { Gains 1 self.old self.new }
     {
         match built {
             Ok(()) => {
-                let added = self.text.add_line(self.words.as_str());
+                let added = self.text.add_styled(style, self.words.as_str());
                 self.is_whole.note(added);
             }
             Err(_) => self.mark_failed(),
@@ -145,5 +212,14 @@ impl Lines {
             × (line_count (string_bytes t) ≡ line_count self.text)) }
     {
         self.is_whole.finish(self.text.into_text())
+    }
+}
+
+/// Returns the style of the line of a warning.
+fn style_of(warning: &Warning) -> Style {
+    if warning.rule.is_hint() {
+        Style::Hint
+    } else {
+        Style::Warning
     }
 }
