@@ -27,15 +27,28 @@ KIND says what the bytes are, from the first one on, in one direction of one str
   capsules  the content of the DATA frames of a session
   section   an encoded field section, which is the payload of a HEADERS frame
   settings  the payload of a SETTINGS frame
-  connection  a list of what was recorded of a connection: a line STREAM DIRECTION FILE for each
+  connection  a list of what was recorded of a connection (below)
 The other direction of a WebTransport stream is the application's bytes alone, so it has no KIND.
 
-What is written: a line for each item, with its place in bytes, what it is, and mostly its size;
-below it, indented, the field lines, settings, capsules or numbers that it contains. A line
-'warning' below an item says what a standard forbids, though reading went on, and with which error
-code; 'hint' says that the bytes may be of another KIND. The last line says how the bytes end:
-'end', 'cut' within an item, or 'fault' with the error code and why; bytes after the item with the
-fault are 'not read'.
+The list of a connection has a line for each direction of a stream, and one for each datagram:
+STREAM DIRECTION FILE, with one blank between them. STREAM is the ID of the stream, or the word
+datagrams; DIRECTION is the end that sent the bytes, client or server; FILE has these bytes, from
+the first one on, and is relative to the folder of the list. For example:
+  0 client request.bin
+  0 server response.bin
+  datagrams client first-datagram.bin
+The control and QPACK streams are shown first, then each session with its streams and datagrams,
+then the other requests; last what each end would have said of the other. The dynamic tables of
+QPACK are those of the encoder streams in the list.
+
+Each line of the text begins with the mark '\u{258c} '; where a terminal wraps a line, the rest of it has
+no mark. An item has a line with its place in bytes, what it is, and mostly its size; below it,
+indented, are the field lines, settings, capsules or numbers that it contains. A line 'warning'
+below an item says what a standard forbids, though reading went on, and with which error code;
+'hint' says that the bytes may be of another KIND. The last line says how the bytes end: 'end',
+'cut' within an item, or 'fault' with the error code and why; bytes after the item with the fault
+are 'not read'. Of a connection, a line '== ' is the heading of a group, and a line '-- ' that of
+one direction of a stream, or of a datagram, with what it is for and its file.
 A 'reserved' setting, frame or stream is one that peers send to be ignored; an 'unknown' one has no
 name here.
 
@@ -45,16 +58,21 @@ The settings are below the frame SETTINGS, each with its name, identifier and va
 not be sent, is there twice, or has a value that is not allowed says so in its line, and in a
 'warning' or in the last line, which then says 'fault'.
 
-To find out why a session closed, in its recorded response, such as response.bin:
+To find out why a session closed, with the list of its connection:
+  wt_inspect connection list
+Either end may have closed it: look in both directions of the session's stream for the capsule
+CLOSE_WEBTRANSPORT_SESSION, which has a code and a reason. With the request or the response alone:
+  wt_inspect bi --open request.bin
   wt_inspect session-response --open response.bin
 
-The same, with the bytes as text:
+With the bytes as text:
   echo 00 04 04 33 01 33 01 | wt_inspect uni --open --hex
 
 Field lines may refer to QPACK's dynamic table, which the encoder stream of the same direction
 fills, a unidirectional stream of type 2. To see them, give that stream too, whole:
   wt_inspect bi --encoder encoder.bin request.bin
-Without it '(dynamic 3)' stands for the name and the value of the entry with the index 3.
+Without it '(dynamic 5)' stands for the name and the value of an entry. The number counts back from
+the Base of the section: 0 is the entry just before it. '(dynamic post-base 0)' is the one at it.
 
 Exit status: 0 the bytes were shown, 1 wrong arguments, 2 the bytes have a fault (with --strict, or
 a warning), 3 input or output failed, 4 out of memory.";
