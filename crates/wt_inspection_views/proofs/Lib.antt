@@ -5,5 +5,6 @@ pub mod PageLemmas
 pub mod ShownLemmas
 pub mod LineLemmas
 pub mod PaintingLemmas
+pub mod StrippedLemmas
 pub mod DigitLemmas
 pub mod JoinLemmas

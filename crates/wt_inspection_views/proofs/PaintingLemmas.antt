@@ -57,7 +57,7 @@ line_ended text painted new style e (before, words, held, split, shown, (lines, 
 pub line_ended_by : (text painted mid new reset : List ℕ) (style : Style) (byte : ℕ) → byte ≡ 10 → reset ≡ reset_of style → mid ≡ painted ++ reset → new ≡ mid ++ byte ∷ [] → IsPaintedIn text style painted → IsPainted (text ++ byte ∷ []) new
 line_ended_by text painted mid new reset style byte same is_reset first second is =
     let whole : new ≡ painted ++ reset_of style ++ 10 ∷ [] =
-        second ∙ ap₂ (λ (m : List ℕ) (b : ℕ). m ++ b ∷ []) (first ∙ ap (λ (r : List ℕ). painted ++ r) is_reset) same in
+    second ∙ ap₂ (λ (m : List ℕ) (b : ℕ). m ++ b ∷ []) (first ∙ ap (λ (r : List ℕ). painted ++ r) is_reset) same in
     subst (λ (b : ℕ). IsPainted (text ++ b ∷ []) new) (sym same) (line_ended text painted new style whole is)
 
 -- ---- a byte

@@ -1,5 +1,6 @@
 -- Lines in colour, as a terminal shows them: escape sequences at the beginning and the end of lines.
-use Rattle.std.specs.Prelude.{◌≡◌, ◌≢◌, ℕ, List, [], ◌∷◌, ◌++◌, Option, Some, None, codes}
+use Rattle.std.specs.Prelude.{◌≡◌, ◌≢◌, ℕ, Bool, true, false, if◌then◌else◌, nat_eq, List, [], ◌∷◌, ◌++◌}
+use Rattle.std.specs.Prelude.{Option, Some, None, codes}
 use Rattle.std.specs.List.{flat_map}
 use Rattle.wt_inspection_views.specs.Escaped.{line_count}
 use Rattle.wt_inspection_views.specs.declared.painting.Style.{Style}
@@ -53,3 +54,16 @@ IsPaintedTo text None painted = IsPainted text painted
 IsPaintedTo text (Some style) painted =
     (rest : List ℕ) × (byte : ℕ) × (text ≡ rest ++ byte ∷ []) × (byte ≢ 10)
     × IsPaintedIn text style painted
+
+-- bytes without escape sequences, each of which goes on to the next m; the flag says whether the bytes
+-- begin within one
+abbrev pub without_from : Bool → List ℕ → List ℕ
+without_from true [] = []
+without_from false [] = []
+without_from true (byte ∷ bytes) =
+    if nat_eq byte 109 then without_from false bytes else without_from true bytes
+without_from false (byte ∷ bytes) =
+    if nat_eq byte 27 then without_from true bytes else byte ∷ without_from false bytes
+
+abbrev pub without_sequences : List ℕ → List ℕ
+without_sequences bytes = without_from false bytes

@@ -83,11 +83,7 @@ fn add_byte(
 
 /// Appends a byte of a line with this style, and ends the style before a line feed. Returns the
 /// style of the line, or `None` if this byte ends it.
-fn add_to_line(
-    painted: &mut Vec<u8>,
-    style: Style,
-    byte: u8,
-) -> Result<Option<Style>, AllocError>
+fn add_to_line(painted: &mut Vec<u8>, style: Style, byte: u8) -> Result<Option<Style>, AllocError>
     ensures { IfOk result (λ after. (text : List ℕ)
         → IsPaintedIn text style painted.old.items
         → IsPaintedTo (text ++ byte ∷ []) after painted.new.items) }

@@ -179,7 +179,11 @@ impl Lines {
     {
         self.words.clear();
         let built = add_capsule_words(&mut self.words, at, capsule);
-        let style = if at.is_some() { Style::Item } else { Style::Plain };
+        let style = if at.is_some() {
+            Style::Item
+        } else {
+            Style::Plain
+        };
         self.add_words(style, built)
     }
 
