@@ -7,7 +7,8 @@ use Rattle.std.specs.Prelude.{◌==◌, sum_by}
 use Rattle.wt_inspection.specs.Results.{Item}
 use Rattle.wt_inspect_connection.specs.declared.part.Group.{Group}
 use Rattle.wt_inspect_connection.specs.declared.part.Part.{Part}
-use Rattle.wt_inspect.specs.ConnectionShown.{ShowsPart, ShowsParts, payload_item, payload_items}
+use Rattle.wt_inspect_connection.specs.declared.piece.Piece.{Piece}
+use Rattle.wt_inspect.specs.ConnectionShown.{ShowsAt, ShowsPart, ShowsParts, payload_item, payload_items}
 use Rattle.wt_inspect.specs.Connections.{HaveNoSection, is_new, opening_of, worse}
 use Rattle.wt_inspect.specs.Sheets.{AddsTo, HasSheet}
 use Rattle.wt_inspect.specs.declared.arguments.Output.{Output}
@@ -27,6 +28,12 @@ worse_none a (inr e) = rw e refl
 pub worse_is : (a b : ℕ) → (a ≡ 0) ⊎ (a ≡ 2) → (b ≡ 0) ⊎ (b ≡ 2) → (worse a b ≡ 0) ⊎ (worse a b ≡ 2)
 worse_is a b (inl e) q = rw e q
 worse_is a b (inr e) q = rw e (inr refl)
+
+-- ---- a part without a piece
+
+pub shows_none : (c : Connection) (is_first : Bool) (found : Option Piece) → found ≡ None → ShowsAt c is_first found [] 0
+shows_none c is_first found e =
+    subst (λ (f : Option Piece). ShowsAt c is_first f [] 0) (sym e) (refl, refl)
 
 -- ---- bytes of an application
 

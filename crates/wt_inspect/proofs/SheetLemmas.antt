@@ -1,5 +1,5 @@
 -- Lines that follow lines, and bytes that are written after bytes.
-use Rattle.std.proofs.Common.{◌≡◌, ℕ, ◌+◌, suc, arith, List, [], ◌∷◌, ◌++◌, length, Bool, Option, Some, None, Result, Ok, Err, IfOk, refl, sym, ap, ap₂, subst, ◌∙◌, length-append}
+use Rattle.std.proofs.Common.{◌≡◌, ℕ, ◌+◌, suc, arith, List, [], ◌∷◌, ◌++◌, length, Bool, true, false, Option, Some, None, Result, Ok, Err, IfOk, refl, sym, ap, ap₂, subst, ◌∙◌, length-append}
 use Rattle.std.specs.Prelude.{sum_by}
 use Rattle.std.specs.Io.KnownBytes.{Appends, Keeps}
 use Rattle.std.proofs.lemmas.List.{append-nil, append_assoc}
@@ -9,13 +9,16 @@ use Rattle.json.specs.Token.{Token}
 use Rattle.wt_inspection.specs.Results.{Item, Warning}
 use Rattle.wt_inspection_views.specs.Escaped.{AreLines, ArePlain, line_count, marked_line}
 use Rattle.wt_inspection_views.specs.JsonLines.{AreJsonLines, AreObjects, json_line}
-use Rattle.wt_inspection_views.specs.Lines.{AddsTextLines, HasTextLines}
+use Rattle.wt_inspection_views.specs.Lines.{AddsTextLines, HasTextLines, TakesPainted}
 use Rattle.wt_inspection_views.specs.Objects.{AddsLines, HasLines}
 use Rattle.wt_inspection_views.specs.TextLines.{item_lines}
 use Rattle.wt_inspection_views.specs.declared.json_lines.object.Lines.{Lines as JsonLines}
 use Rattle.wt_inspection_views.specs.declared.text.lines.Lines.{Lines as TextLines}
-use Rattle.wt_inspect.specs.Sheets.{AddsTo, AreLinesOf, HasSheet, HasSoFar, lines_for, lines_of}
+use Rattle.wt_inspection_views.specs.Painting.{IsPainted, painted_line, plain_line}
+use Rattle.wt_inspect.specs.Drawing.{Draws, IsDrawn, has_colors, paints}
+use Rattle.wt_inspect.specs.Sheets.{AddsTo, AreLinesOf, DrawsLines, HasSheet, HasSoFar, lines_for, lines_of}
 use Rattle.wt_inspect.specs.Shown.{IsView}
+use Rattle.wt_inspect.specs.declared.arguments.Arguments.{Arguments}
 use Rattle.wt_inspect.specs.declared.arguments.Output.{Output}
 use Rattle.wt_inspect.specs.declared.arguments.Output.TheVariants as output-is
 use Rattle.wt_inspect.specs.declared.sheet.Sheet.{Sheet}
@@ -23,11 +26,11 @@ use Rattle.wt_inspect.specs.declared.sheet.Sheet.TheVariants as sheet-is
 
 -- ---- bytes that are written
 
-pub appends_none : (held : Option (List ℕ)) → Appends held held []
+appends_none : (held : Option (List ℕ)) → Appends held held []
 appends_none None = tt
 appends_none (Some xs) = sym (append-nil xs)
 
-pub appends_then : (a b c : Option (List ℕ)) (xs ys : List ℕ) → Appends a b xs → Appends b c ys → Appends a c (xs ++ ys)
+appends_then : (a b c : Option (List ℕ)) (xs ys : List ℕ) → Appends a b xs → Appends b c ys → Appends a c (xs ++ ys)
 appends_then None b c xs ys p q = tt
 appends_then (Some s) None c xs ys p q = absurd p
 appends_then (Some s) (Some t) None xs ys p q = absurd q
@@ -38,6 +41,59 @@ appends_keeps None b c xs p q = tt
 appends_keeps (Some s) None c xs p q = absurd p
 appends_keeps (Some s) (Some t) None xs p q = absurd q
 appends_keeps (Some s) (Some t) (Some u) xs p q = q ∙ p
+
+-- ---- texts that are written, with colours or without
+
+painted_append : (a b x y : List ℕ) → IsPainted a x → IsPainted b y → IsPainted (a ++ b) (x ++ y)
+painted_append a b x y (ls, plain, painted) (ms, also, colored) =
+    (ls ++ ms, rw (plain, also) (sym (flat_map-append plain_line ls ms)), rw (painted, colored) (sym (flat_map-append painted_line ls ms)))
+
+drawn_append : (colors : Bool) (a b x y : List ℕ) → IsDrawn colors a x → IsDrawn colors b y → IsDrawn colors (a ++ b) (x ++ y)
+drawn_append true a b x y p q = painted_append a b x y p q
+drawn_append false a b x y p q = ap₂ (λ (s t : List ℕ). s ++ t) p q
+
+drawn_none : (colors : Bool) → IsDrawn colors [] []
+drawn_none true = ([], refl, refl)
+drawn_none false = refl
+
+pub draws_none : (colors : Bool) (held : Option (List ℕ)) → Draws colors held held []
+draws_none colors held = record { written = []; drawn = drawn_none colors; appends = appends_none held }
+
+pub draws_then : (colors : Bool) (a b c : Option (List ℕ)) (xs ys : List ℕ) → Draws colors a b xs → Draws colors b c ys → Draws colors a c (xs ++ ys)
+draws_then colors a b c xs ys p q = record {
+  written = p.written ++ q.written;
+  drawn = drawn_append colors xs ys p.written q.written p.drawn q.drawn;
+  appends = appends_then a b c p.written q.written p.appends q.appends;
+}
+
+pub draws_keeps : (colors : Bool) (a b c : Option (List ℕ)) (xs : List ℕ) → Draws colors a b xs → Keeps b c → Draws colors a c xs
+draws_keeps colors a b c xs p q = record {
+  written = p.written;
+  drawn = p.drawn;
+  appends = appends_keeps a b c p.written p.appends q;
+}
+
+-- by the same arguments
+pub draws_by : (a b : Arguments) (before after : Option (List ℕ)) (text : List ℕ) → a ≡ b → Draws (has_colors a) before after text → Draws (has_colors b) before after text
+draws_by a b before after text e draws =
+    subst (λ (x : Arguments). Draws (has_colors x) before after text) e draws
+
+-- lines that have no colours
+pub undrawn_lines : (output : Output) (colors : Bool) (n : ℕ) (text : List ℕ) → paints output colors ≡ false → AreLinesOf output n text → DrawsLines output colors n text
+undrawn_lines output colors n text e are =
+    record { text = text; lines = are; drawn = subst (λ (c : Bool). IsDrawn c text text) (sym e) refl }
+
+-- lines that have colours
+pub painted_lines : (colors : Bool) (n : ℕ) (text written : List ℕ) → colors ≡ true → AreLines text → line_count text ≡ n → IsPainted text written → DrawsLines output-is.Text colors n written
+painted_lines colors n text written e are count painted =
+    record { text = text; lines = (are, count); drawn = subst (λ (c : Bool). IsDrawn c text written) (sym e) painted }
+
+pub taken_lines : (colors : Bool) (n : ℕ) (lines : TextLines) (written : List ℕ) → colors ≡ true → TakesPainted lines written → HasTextLines n lines → DrawsLines output-is.Text colors n written
+taken_lines colors n lines written e (text, are, painted, count) has =
+    painted_lines colors n text written e are (count n has) painted
+
+pub plain_lines : (colors : Bool) (n : ℕ) (text : List ℕ) → colors ≡ false → AreLines text → line_count text ≡ n → DrawsLines output-is.Text colors n text
+plain_lines colors n text e are count = undrawn_lines output-is.Text colors n text e (are, count)
 
 -- ---- lines
 
@@ -128,15 +184,15 @@ view_with output payload bytes held items warnings text same are =
 
 -- ---- lines that are taken
 
-pub text_taken : (output : Output) (n : ℕ) (old new : TextLines) (text : List ℕ) → HasSheet output n (sheet-is.Text old) → AreLines text → ((m : ℕ) → HasTextLines m old → line_count text ≡ m) → HasTextLines 0 new → AreLinesOf output n text × HasSheet output 0 (sheet-is.Text new)
-text_taken output-is.Text n old new text has are count none = ((are, count n has), none)
-text_taken output-is.Json n old new text has are count none = absurd has
-text_taken output-is.Html n old new text has are count none = absurd has
+pub text_taken : (output : Output) (colors : Bool) (n : ℕ) (old new : TextLines) (written : List ℕ) → HasSheet output n (sheet-is.Text old) → ((m : ℕ) → HasTextLines m old → DrawsLines output-is.Text colors m written) → HasTextLines 0 new → DrawsLines output colors n written × HasSheet output 0 (sheet-is.Text new)
+text_taken output-is.Text colors n old new written has draws none = (draws n has, none)
+text_taken output-is.Json colors n old new written has draws none = absurd has
+text_taken output-is.Html colors n old new written has draws none = absurd has
 
-pub json_taken : (output : Output) (n : ℕ) (old new : JsonLines) (text : List ℕ) → HasSheet output n (sheet-is.Json old) → ((m : ℕ) → HasLines m old → AreJsonLines m text) → HasLines 0 new → AreLinesOf output n text × HasSheet output 0 (sheet-is.Json new)
-json_taken output-is.Json n old new text has are none = (are n has, none)
-json_taken output-is.Text n old new text has are none = absurd has
-json_taken output-is.Html n old new text has are none = absurd has
+pub json_taken : (output : Output) (colors : Bool) (n : ℕ) (old new : JsonLines) (text : List ℕ) → HasSheet output n (sheet-is.Json old) → ((m : ℕ) → HasLines m old → AreJsonLines m text) → HasLines 0 new → DrawsLines output colors n text × HasSheet output 0 (sheet-is.Json new)
+json_taken output-is.Json colors n old new text has are none = (undrawn_lines output-is.Json colors n text refl (are n has), none)
+json_taken output-is.Text colors n old new text has are none = absurd has
+json_taken output-is.Html colors n old new text has are none = absurd has
 
 -- ---- lines that are appended
 

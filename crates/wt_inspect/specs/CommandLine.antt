@@ -1,5 +1,5 @@
 -- What the arguments of the program mean.
-use Rattle.std.specs.Prelude.{◌≡◌, ℕ, Bool, true, false, List, codes, Option, Some, None}
+use Rattle.std.specs.Prelude.{◌≡◌, ℕ, Bool, true, false, ◌&&◌, not, if◌then◌else◌, List, codes, Option, Some, None}
 use Rattle.std.specs.Str.{bytes_eq}
 use Rattle.clap.specs.Matches.{one_text}
 use Rattle.clap.specs.declared.parser.matches.Found.{Found}
@@ -33,6 +33,17 @@ abbrev pub output_of : Bool → Bool → Output
 output_of true html = output-is.Json
 output_of false true = output-is.Html
 output_of false false = output-is.Text
+
+-- text has colours, by the value of the option: always, never, or if the output is for people
+abbrev pub has_colors : Option (List ℕ) → Bool → Bool
+has_colors None auto = auto
+has_colors (Some when) auto =
+    if bytes_eq when (codes "always") then true else
+    if bytes_eq when (codes "never") then false else auto
+
+-- the output is for people: a terminal that is not dumb, of a person who wants colours
+abbrev pub is_for_people : Bool → Bool → Bool → Bool
+is_for_people terminal unwanted dumb = terminal && not unwanted && not dumb
 
 -- a flag is set if its value is "true", and not if that is "false" or there is none
 pub record IsFlag (found : Found) (name : List ℕ) (flag : Bool) : Type 0 where

@@ -3,6 +3,7 @@ pub mod HexText
 pub mod HexReading
 pub mod Statuses
 pub mod CommandLine
+pub mod Drawing
 pub mod Sheets
 pub mod Shown
 pub mod Showings

@@ -1,12 +1,12 @@
 -- Lines of text or of JSON, some of which are not written yet.
 use Rattle.std.specs.Prelude.{◌≡◌, ℕ, ◌+◌, Bool, true, false, List, ◌++◌, length, sum_by, Option}
-use Rattle.std.specs.Io.KnownBytes.{Appends}
 use Rattle.wt_inspection.specs.Results.{Item, Warning}
 use Rattle.wt_inspection_views.specs.Escaped.{AreLines, line_count}
 use Rattle.wt_inspection_views.specs.JsonLines.{AreJsonLines}
 use Rattle.wt_inspection_views.specs.Lines.{HasTextLines}
 use Rattle.wt_inspection_views.specs.Objects.{HasLines}
 use Rattle.wt_inspection_views.specs.TextLines.{item_lines}
+use Rattle.wt_inspect.specs.Drawing.{Draws, IsDrawn, paints}
 use Rattle.wt_inspect.specs.declared.arguments.Output.{Output}
 use Rattle.wt_inspect.specs.declared.arguments.Output.TheVariants as output-is
 use Rattle.wt_inspect.specs.declared.sheet.Sheet.{Sheet}
@@ -27,6 +27,13 @@ abbrev pub AreLinesOf : Output → ℕ → List ℕ → Type 0
 AreLinesOf output-is.Text n text = AreLines text × (line_count text ≡ n)
 AreLinesOf output-is.Json n text = AreJsonLines n text
 AreLinesOf output-is.Html n text = ⊥
+
+-- this is written of n lines in this format
+pub record DrawsLines (output : Output) (colors : Bool) (n : ℕ) (written : List ℕ)
+    : Type 0 where
+  pub text : List ℕ
+  pub lines : AreLinesOf output n text
+  pub drawn : IsDrawn (paints output colors) text written
 
 -- a format of lines: text or JSON
 abbrev pub is_lines : Output → Bool
@@ -52,13 +59,15 @@ pub record HasSoFar (output : Output) (n : ℕ) (text : List ℕ) (sheet : Sheet
   pub count : written + kept ≡ n
 
 -- all lines of the sheet were written, or none
-abbrev pub WritesSome : Option (List ℕ) → Option (List ℕ) → Sheet → Sheet → Type 0
-WritesSome before after old new =
+abbrev pub WritesSome : Bool → Option (List ℕ) → Option (List ℕ) → Sheet → Sheet → Type 0
+WritesSome colors before after old new =
     (output : Output) (k : ℕ) (text : List ℕ) → HasSoFar output k text old
-    → (more : List ℕ) × Appends before after more × HasSoFar output k (text ++ more) new
+    → (more : List ℕ) × Draws (paints output colors) before after more
+    × HasSoFar output k (text ++ more) new
 
 -- all lines of the sheet were written
-abbrev pub WritesAll : Option (List ℕ) → Option (List ℕ) → Sheet → Type 0
-WritesAll before after old =
+abbrev pub WritesAll : Bool → Option (List ℕ) → Option (List ℕ) → Sheet → Type 0
+WritesAll colors before after old =
     (output : Output) (k : ℕ) (text : List ℕ) → HasSoFar output k text old
-    → (more : List ℕ) × Appends before after more × AreLinesOf output k (text ++ more)
+    → (more : List ℕ) × Draws (paints output colors) before after more
+    × AreLinesOf output k (text ++ more)

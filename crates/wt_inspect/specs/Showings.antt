@@ -1,9 +1,9 @@
 -- What is shown item by item.
 use Rattle.std.specs.Prelude.{◌≡◌, ℕ, ◌<◌, Bool, true, false, List, [], ◌∷◌, ◌++◌, Option}
-use Rattle.std.specs.Io.KnownBytes.{Appends}
 use Rattle.std.specs.List.{list_any}
 use Rattle.wt_inspection.specs.Items.{HasGiven, IsDone, input_of, left_of}
 use Rattle.wt_inspection.specs.Results.{Item, Warning}
+use Rattle.wt_inspect.specs.Drawing.{Draws, has_colors}
 use Rattle.wt_inspect.specs.Sheets.{HasSoFar, lines_of}
 use Rattle.wt_inspect.specs.Statuses.{is_breach}
 use Rattle.wt_inspect.specs.declared.showing.Showing.{Showing}
@@ -38,7 +38,8 @@ pub record ShowsItem (item : Item) (before after : Option (List ℕ)) (old new :
   pub left : left_of new.items ≡ left_of old.items
   pub shows : (text : List ℕ) (items : List Item) (warnings : List Warning)
       → IsShowing (items ++ item ∷ []) items warnings text old
-      → (more : List ℕ) × Appends before after more × HasShown (text ++ more) new
+      → (more : List ℕ) × Draws (has_colors old.arguments.now) before after more
+      × HasShown (text ++ more) new
 
 -- there was an item, or none was left
 abbrev pub Advances : Bool → Showing → Showing → Type 0
@@ -51,4 +52,5 @@ pub record ShowsNext (is_item : Bool) (before after : Option (List ℕ)) (old ne
   pub same : HasSameInput old new
   pub advances : Advances is_item old new
   pub shows : (text : List ℕ) → HasShown text old
-      → (more : List ℕ) × Appends before after more × HasShown (text ++ more) new
+      → (more : List ℕ) × Draws (has_colors old.arguments.now) before after more
+      × HasShown (text ++ more) new

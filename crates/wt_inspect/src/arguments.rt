@@ -1,7 +1,7 @@
 //! Parses the arguments.
 ghost use Rattle.std.specs.Prelude.{◌≡◌, ◌<◌, ◌^◌, ℕ, Bool, None, Some, codes, option_map};
 ghost use Rattle.clap.specs.Matches.{first_value, found_of, one_text};
-ghost use Rattle.wt_inspect.specs.CommandLine.{IsFlag, Names, names_connection, output_of};
+ghost use Rattle.wt_inspect.specs.CommandLine.{IsFlag, Names, has_colors, names_connection, output_of};
 
 use clap::{Arg, ArgAction, ArgMatches, Command, Error, value_parser};
 use std::alloc::Global;
@@ -52,6 +52,10 @@ one direction of a stream, or of a datagram, with what it is for and its file.
 A 'reserved' setting, frame or stream is one that peers send to be ignored; an 'unknown' one has no
 name here.
 
+In a terminal headings are bold, first lines of items cyan, warnings yellow, hints blue, and faults
+and broken rules red. With '--color auto' the text has no colours if standard output is no
+terminal, if NO_COLOR is set and not empty, or if TERM is dumb. JSON and HTML have none.
+
 To find a wrong setting in a recorded control stream, such as control.bin:
   wt_inspect uni --open control.bin
 The settings are below the frame SETTINGS, each with its name, identifier and value. One that must
@@ -90,6 +94,9 @@ static KINDS: [&str; 9] = [
     "connection",
 ];
 
+/// When text has colours.
+static WHENS: [&str; 3] = ["auto", "always", "never"];
+
 /// The format of the output.
 #[derive(Clone, Copy)]
 pub enum Output {
@@ -112,6 +119,8 @@ pub struct Arguments<'a> {
     pub kind: &'a str,
     /// The format of the output.
     pub output: Output,
+    /// Whether text has colours.
+    pub has_colors: bool,
     /// Whether the input is hexadecimal text.
     pub is_hex: bool,
     /// Whether more bytes may follow.
@@ -174,8 +183,18 @@ pub fn command<'a>(alloc: Global) -> Result<Command<'a>, Error> {
             "payload",
             "In text and JSON, show the bytes of payloads too",
         ))?
-        .arg(flag(alloc, "strict", "The exit status is 2 for a warning too"))?;
+        .arg(flag(alloc, "strict", "The exit status is 2 for a warning too"))?
+        .arg(color(alloc))?;
     add_table(alloc, command)
+}
+
+/// Returns the option that says when text has colours.
+fn color<'a>(alloc: Global) -> Arg<'a> {
+    Arg::new(alloc, "color")
+        .long("color")
+        .value_name("WHEN")
+        .value_parser(WHENS.as_slice())
+        .help("Whether text has colours; auto, the default, in a terminal")
 }
 
 /// Adds the options of the dynamic table.
@@ -193,8 +212,8 @@ fn add_table<'a>(alloc: Global, command: Command<'a>) -> Result<Command<'a>, Err
     Ok(command.arg(encoder)?.arg(capacity)?)
 }
 
-/// Returns the parsed arguments.
-pub fn read_arguments<'a>(matches: &ArgMatches<'a>) -> Arguments<'a>
+/// Returns the parsed arguments. `is_for_people` says whether text has colours if they do not.
+pub fn read_arguments<'a>(matches: &ArgMatches<'a>, is_for_people: bool) -> Arguments<'a>
     ensures recorded { Names (first_value (found_of matches.now) (codes "kind")) result.recorded }
     ensures connection { result.is_connection
         ≡ names_connection (first_value (found_of matches.now) (codes "kind")) }
@@ -202,6 +221,8 @@ pub fn read_arguments<'a>(matches: &ArgMatches<'a>) -> Arguments<'a>
         × IsFlag (found_of matches.now) (codes "json") json
         × IsFlag (found_of matches.now) (codes "html") html
         × (result.output ≡ output_of json html) }
+    ensures colors { result.has_colors
+        ≡ has_colors (first_value (found_of matches.now) (codes "color")) «is_for_people» }
     ensures is_hex { IsFlag (found_of matches.now) (codes "hex") result.is_hex }
     ensures is_open { IsFlag (found_of matches.now) (codes "open") result.is_open }
     ensures has_payload { IsFlag (found_of matches.now) (codes "payload") result.has_payload }
@@ -219,6 +240,7 @@ pub fn read_arguments<'a>(matches: &ArgMatches<'a>) -> Arguments<'a>
         is_connection: is_connection(matches.get_str("kind")),
         kind: matches.get_str("kind").unwrap_or(""),
         output: output_of(matches.get_flag("json"), matches.get_flag("html")),
+        has_colors: has_colors(matches.get_str("color"), is_for_people),
         is_hex: matches.get_flag("hex"),
         is_open: matches.get_flag("open"),
         has_payload: matches.get_flag("payload"),
@@ -252,6 +274,17 @@ fn is_connection(name: Option<&str>) -> bool
     match name {
         Some("connection") => true,
         _ => false,
+    }
+}
+
+/// Returns whether text has colours. The parser accepts only the values in `WHENS`.
+fn has_colors(when: Option<&str>, is_for_people: bool) -> bool
+    ensures { result ≡ has_colors (option_map (λ text. text.now) when.entry) «is_for_people» }
+{
+    match when {
+        Some("always") => true,
+        Some("never") => false,
+        _ => is_for_people,
     }
 }
 

@@ -1,11 +1,11 @@
 //! Shows what was recorded of a connection: each direction of its streams, and its datagrams.
 
-ghost use Rattle.std.specs.Io.KnownBytes.{Appends};
 ghost use Rattle.std.specs.Prelude.{◌≡◌, ◌⊎◌, ◌+◌, ℕ, List, [], None, true, IfErr, IfOk};
 ghost use Rattle.std.specs.Prelude.{if◌then◌else◌, is_some, length, sum_by};
 ghost use Rattle.wt_inspect.specs.ConnectionShown.{ShowsConnection, ShowsParts, payload_item};
 ghost use Rattle.wt_inspect.specs.ConnectionShown.{payload_items, refuses};
 ghost use Rattle.wt_inspect.specs.Connections.{is_new, worse};
+ghost use Rattle.wt_inspect.specs.Drawing.{Draws, has_colors, paints};
 ghost use Rattle.wt_inspect.specs.Sheets.{AddsTo, HasSheet, is_lines, lines_for};
 ghost use Rattle.wt_inspect.specs.Shown.{IsView, StopsShowing};
 ghost use Rattle.wt_inspect.specs.declared.arguments.Output.{Output as OutputValue};
@@ -98,7 +98,7 @@ fn show_pieces<W: Write>(
 ) -> Result<u8, Failure>
     requires { is_lines arguments.now.output ≡ true }
     ensures shows { IfOk result (λ status. (text : List ℕ)
-        × Appends (W.contents output.old) (W.contents output.new) text
+        × Draws (has_colors arguments.now) (W.contents output.old) (W.contents output.new) text
         × ShowsConnection ⟦<Part as Ord>⟧.cmp arguments.now pieces.now text status) }
     ensures statuses { IfOk result (λ status. (status ≡ 0) ⊎ (status ≡ 2)) }
     ensures fails { IfErr result StopsShowing }
@@ -127,7 +127,8 @@ impl Connection<'_> {
     fn show_parts<W: Write>(&self, parts: &[Part], output: &mut W) -> Result<u8, Failure>
         requires { is_lines self.now.arguments.now.output ≡ true }
         ensures shows { IfOk result (λ status. (text : List ℕ)
-            × Appends (W.contents output.old) (W.contents output.new) text
+            × Draws (has_colors self.now.arguments.now) (W.contents output.old)
+            (W.contents output.new) text
             × ShowsParts self.now None parts.now text status) }
         ensures statuses { IfOk result (λ status. (status ≡ 0) ⊎ (status ≡ 2)) }
         ensures fails { IfErr result StopsShowing }
@@ -153,7 +154,8 @@ impl Connection<'_> {
     ) -> Result<u8, Failure>
         requires { is_lines self.now.arguments.now.output ≡ true }
         ensures shows { IfOk result (λ status. (text : List ℕ)
-            × Appends (W.contents output.old) (W.contents output.new) text
+            × Draws (has_colors self.now.arguments.now) (W.contents output.old)
+            (W.contents output.new) text
             × ShowsPart self.now «is_first» part.now text status) }
         ensures statuses { IfOk result (λ status. (status ≡ 0) ⊎ (status ≡ 2)) }
         ensures fails { IfErr result StopsShowing }
@@ -174,7 +176,8 @@ impl Connection<'_> {
     ) -> Result<u8, Failure>
         requires { is_lines self.now.arguments.now.output ≡ true }
         ensures shows { IfOk result (λ status. (text : List ℕ)
-            × Appends (W.contents output.old) (W.contents output.new) text
+            × Draws (has_colors self.now.arguments.now) (W.contents output.old)
+            (W.contents output.new) text
             × ShowsPiece self.now «is_first» piece.now text status) }
         ensures statuses { IfOk result (λ status. (status ≡ 0) ⊎ (status ≡ 2)) }
         ensures fails { IfErr result StopsShowing }
@@ -188,7 +191,7 @@ impl Connection<'_> {
             is_first,
             fault: self.fault_in(piece),
         };
-        let lines = head_lines(self.alloc, self.arguments.output, &head)?;
+        let lines = head_lines(self.alloc, self.arguments, &head)?;
         write(output, lines.as_slice())?;
         let shown = self.show_bytes(part, piece, output)?;
         Ok(status_with(head.fault, shown))
@@ -203,7 +206,8 @@ impl Connection<'_> {
     ) -> Result<u8, Failure>
         requires { is_lines self.now.arguments.now.output ≡ true }
         ensures shows { IfOk result (λ status. (text : List ℕ)
-            × Appends (W.contents output.old) (W.contents output.new) text
+            × Draws (has_colors self.now.arguments.now) (W.contents output.old)
+            (W.contents output.new) text
             × ShowsBytes self.now piece.now text status) }
         ensures statuses { IfOk result (λ status. (status ≡ 0) ⊎ (status ≡ 2)) }
         ensures fails { IfErr result StopsShowing }
@@ -216,7 +220,7 @@ impl Connection<'_> {
                 let sent = self.table_of(piece.entry.sender).insertions();
                 show_lines(self.alloc, &arguments, sent, bytes, sheet, output)
             }
-            None => show_payload(self.arguments.has_payload, bytes, sheet, output),
+            None => show_payload(self.arguments, bytes, sheet, output),
         }
     }
 
@@ -305,20 +309,21 @@ impl Connection<'_> {
 
 /// Shows bytes that are all an application's. Returns the exit status.
 fn show_payload<W: Write>(
-    payload: bool,
+    arguments: &Arguments<'_>,
     bytes: &[u8],
     sheet: Sheet,
     output: &mut W,
 ) -> Result<u8, Failure>
     ensures shows { IfOk result (λ status. (format : OutputValue) → HasSheet format 0 sheet
-        → (text : List ℕ) × Appends (W.contents output.old) (W.contents output.new) text
-        × IsView format «payload» bytes.now (payload_items bytes.now) [] text × (status ≡ 0)) }
+        → (text : List ℕ) × Draws (paints format arguments.now.has_colors)
+        (W.contents output.old) (W.contents output.new) text
+        × IsView format arguments.now.has_payload bytes.now (payload_items bytes.now) [] text × (status ≡ 0)) }
     ensures fails { IfErr result StopsShowing }
 {
     let mut sheet = sheet;
-    add_payload(&mut sheet, bytes, payload);
+    add_payload(&mut sheet, bytes, arguments.has_payload);
     sheet.add_end(End::Complete, bytes.len());
-    write_all_of(&mut sheet, output)?;
+    write_all_of(&mut sheet, arguments.has_colors, output)?;
     Ok(0)
 }
 

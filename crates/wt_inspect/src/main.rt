@@ -4,7 +4,9 @@
 ghost use Rattle.std.specs.Prelude.{◌≡◌, ◌≤◌, ◌<◌, ◌^◌, ◌⊎◌, IfOk};
 
 mod arguments;
+mod colors;
 mod connection;
+mod drawing;
 mod failure;
 mod files;
 mod input;
@@ -12,6 +14,7 @@ mod sheet;
 mod showing;
 
 use crate::arguments::{Arguments, command, read_arguments};
+use crate::colors::is_for_people;
 use crate::connection::show_connection;
 use crate::failure::Failure;
 use crate::files::read_bytes;
@@ -52,7 +55,7 @@ fn run_words<'a>(rt: &HostRuntime, words: &'a [String]) -> Result<u8, Failure>
 {
     let command = command(rt.alloc()).map_err(|_| Failure::Memory)?;
     match command.try_get_matches_from(words) {
-        Ok(matches) => show_named(rt, &read_arguments(&matches)),
+        Ok(matches) => show_named(rt, &read_arguments(&matches, is_for_people(rt))),
         Err(error) => {
             error.print(rt).map_err(|_| Failure::Output)?;
             Ok(if error.use_stderr() { 1 } else { 0 })

@@ -1,8 +1,9 @@
 //! Lines that are not written yet.
 ghost use Rattle.std.specs.Prelude.{◌≡◌, ◌+◌, ℕ, IfOk, length};
-ghost use Rattle.wt_inspect.specs.Sheets.{AddsTo, AreLinesOf, HasSheet, lines_for};
+ghost use Rattle.wt_inspect.specs.Sheets.{AddsTo, DrawsLines, HasSheet, lines_for};
 ghost use Rattle.wt_inspect.specs.declared.arguments.Output.{Output};
 ghost use Rattle.wt_inspect.specs.declared.arguments.Output.TheVariants.{Json as JsonOutput, Text as TextOutput};
+ghost use Rattle.wt_inspection_views.specs.Lines.{HasTextLines};
 
 use std::alloc::{AllocError, Global};
 use wt_inspection::item::Warning;
@@ -81,17 +82,29 @@ impl Sheet {
         }
     }
 
-    /// Returns the lines and leaves none, or [`AllocError`] if an allocation failed.
-    pub fn take(&mut self) -> Result<Vec<u8>, AllocError>
-        ensures { IfOk result (λ text. (output : Output) (n : ℕ) → HasSheet output n self.old
-            → AreLinesOf output n text.items × HasSheet output 0 self.new) }
+    /// Returns the lines, those of text with their colours if `colors` is set, and leaves none; or
+    /// [`AllocError`] if an allocation failed.
+    pub fn take(&mut self, colors: bool) -> Result<Vec<u8>, AllocError>
+        ensures { IfOk result (λ written. (output : Output) (n : ℕ) → HasSheet output n self.old
+            → DrawsLines output «colors» n written.items × HasSheet output 0 self.new) }
     {
         match self {
-            Sheet::Text(lines) => {
-                let text = lines.take()?;
-                Ok(text.into_bytes())
-            }
+            Sheet::Text(lines) => take_text(lines, colors),
             Sheet::Json(lines) => lines.take(),
         }
     }
+}
+
+/// Returns lines of text, with their colours if `colors` is set, and leaves none; or [`AllocError`]
+/// if an allocation failed.
+fn take_text(lines: &mut text::Lines, colors: bool) -> Result<Vec<u8>, AllocError>
+    ensures draws { IfOk result (λ written. (n : ℕ) → HasTextLines n lines.old
+        → DrawsLines TextOutput «colors» n written.items) }
+    ensures none { HasTextLines 0 lines.new }
+{
+    if colors {
+        return lines.take_painted();
+    }
+    let text = lines.take()?;
+    Ok(text.into_bytes())
 }

@@ -3,6 +3,7 @@ ghost use Rattle.std.specs.Io.KnownBytes.{Appends, Keeps};
 ghost use Rattle.std.specs.List.{list_any};
 ghost use Rattle.std.specs.Prelude.{◌≡◌, ◌<◌, ◌^◌, ◌&&◌, ◌||◌, ◌⊎◌, ◌++◌, ℕ, List, Err, IfErr, IfOk};
 ghost use Rattle.std.specs.Prelude.{if◌then◌else◌, option_map};
+ghost use Rattle.wt_inspect.specs.Drawing.{Draws, has_colors};
 ghost use Rattle.wt_inspect.specs.Sheets.{HasSheet, WritesAll, WritesSome};
 ghost use Rattle.wt_inspect.specs.Shown.{FailsWith, Shows, ShowsWith, StopsShowing, shown_input};
 ghost use Rattle.wt_inspect.specs.Showings.{HasShown, ShowsItem, ShowsNext};
@@ -42,7 +43,7 @@ pub fn show<W: Write>(
 ) -> Result<u8, Failure>
     requires { arguments.now.capacity < 2 ^ 60 }
     ensures shows { IfOk result (λ status. (text : List ℕ)
-        × Appends (W.contents output.old) (W.contents output.new) text
+        × Draws (has_colors arguments.now) (W.contents output.old) (W.contents output.new) text
         × ShowsWith (option_map (λ xs. xs.now) encoder.entry) arguments.now bytes.now text
         status) }
     ensures statuses { IfOk result (λ status. (status ≡ 0) ⊎ (status ≡ 2)) }
@@ -69,7 +70,7 @@ fn show_with<W: Write>(
     output: &mut W,
 ) -> Result<u8, Failure>
     ensures shows { IfOk result (λ status. (text : List ℕ)
-        × Appends (W.contents output.old) (W.contents output.new) text
+        × Draws (has_colors arguments.now) (W.contents output.old) (W.contents output.new) text
         × Shows (shown_input (option_map (λ i. i.now) sent.entry) arguments.now bytes.now)
         arguments.now text status) }
     ensures statuses { IfOk result (λ status. (status ≡ 0) ⊎ (status ≡ 2)) }
@@ -92,7 +93,7 @@ fn show_page<W: Write>(
 ) -> Result<u8, Failure>
     requires { arguments.now.output ≡ Output.Html }
     ensures shows { IfOk result (λ status. (text : List ℕ)
-        × Appends (W.contents output.old) (W.contents output.new) text
+        × Draws (has_colors arguments.now) (W.contents output.old) (W.contents output.new) text
         × Shows (shown_input (option_map (λ i. i.now) sent.entry) arguments.now bytes.now)
         arguments.now text status) }
     ensures statuses { IfOk result (λ status. (status ≡ 0) ⊎ (status ≡ 2)) }
@@ -119,7 +120,7 @@ pub(crate) fn show_lines<W: Write>(
 ) -> Result<u8, Failure>
     requires { HasSheet arguments.now.output 0 sheet }
     ensures shows { IfOk result (λ status. (text : List ℕ)
-        × Appends (W.contents output.old) (W.contents output.new) text
+        × Draws (has_colors arguments.now) (W.contents output.old) (W.contents output.new) text
         × Shows (shown_input (option_map (λ i. i.now) sent.entry) arguments.now bytes.now)
         arguments.now text status) }
     ensures statuses { IfOk result (λ status. (status ≡ 0) ⊎ (status ≡ 2)) }
@@ -180,7 +181,7 @@ impl Showing<'_> {
         let payload = self.arguments.has_payload;
         self.sheet
             .add_item(item, self.bytes, payload, warnings.as_slice());
-        write_piece(&mut self.sheet, output)
+        write_piece(&mut self.sheet, self.arguments.has_colors, output)
     }
 
     /// Adds the lines of the last warnings and of the end, and writes all lines. Returns the exit
@@ -188,7 +189,8 @@ impl Showing<'_> {
     fn finish<W: Write>(self, output: &mut W) -> Result<u8, Failure>
         requires { IsDone self.items }
         ensures shows { IfOk result (λ status. (text : List ℕ) → HasShown text self.entry
-            → (more : List ℕ) × Appends (W.contents output.old) (W.contents output.new) more
+            → (more : List ℕ) × Draws (has_colors self.entry.arguments.now)
+            (W.contents output.old) (W.contents output.new) more
             × Shows (input_of self.entry.items) self.entry.arguments.now (text ++ more) status) }
         ensures statuses { IfOk result (λ status. (status ≡ 0) ⊎ (status ≡ 2)) }
         ensures fails { IfErr result StopsShowing }
@@ -198,33 +200,39 @@ impl Showing<'_> {
         let is_breached = is_breached_by(self.is_breached, warnings.as_slice());
         sheet.add_warnings(warnings.as_slice());
         sheet.add_end(end, self.bytes.len());
-        write_all_of(&mut sheet, output)?;
+        write_all_of(&mut sheet, self.arguments.has_colors, output)?;
         flush(output)?;
         Ok(status_of(self.arguments.is_strict, end, is_breached))
     }
 }
 
-/// Writes the lines of a sheet if they are long, and leaves none then.
-fn write_piece<W: Write>(sheet: &mut Sheet, output: &mut W) -> Result<(), Failure>
-    ensures writes { IfOk result (λ _. WritesSome (W.contents output.old) (W.contents output.new)
-        sheet.old sheet.new) }
+/// Writes the lines of a sheet if they are long, those of text with their colours if `colors` is
+/// set, and leaves none then.
+fn write_piece<W: Write>(sheet: &mut Sheet, colors: bool, output: &mut W) -> Result<(), Failure>
+    ensures writes { IfOk result (λ _. WritesSome «colors» (W.contents output.old)
+        (W.contents output.new) sheet.old sheet.new) }
     ensures fails { IfErr result StopsShowing }
 {
     if sheet.len() < PIECE_LEN {
         return Ok(());
     }
-    write_all_of(sheet, output)
+    write_all_of(sheet, colors, output)
 }
 
-/// Writes all lines of a sheet and leaves none.
-pub(crate) fn write_all_of<W: Write>(sheet: &mut Sheet, output: &mut W) -> Result<(), Failure>
-    ensures some { IfOk result (λ _. WritesSome (W.contents output.old) (W.contents output.new)
-        sheet.old sheet.new) }
-    ensures all { IfOk result (λ _. WritesAll (W.contents output.old) (W.contents output.new)
-        sheet.old) }
+/// Writes all lines of a sheet, those of text with their colours if `colors` is set, and leaves
+/// none.
+pub(crate) fn write_all_of<W: Write>(
+    sheet: &mut Sheet,
+    colors: bool,
+    output: &mut W,
+) -> Result<(), Failure>
+    ensures some { IfOk result (λ _. WritesSome «colors» (W.contents output.old)
+        (W.contents output.new) sheet.old sheet.new) }
+    ensures all { IfOk result (λ _. WritesAll «colors» (W.contents output.old)
+        (W.contents output.new) sheet.old) }
     ensures fails { IfErr result StopsShowing }
 {
-    let text = sheet.take()?;
+    let text = sheet.take(colors)?;
     write(output, text.as_slice())
 }
 

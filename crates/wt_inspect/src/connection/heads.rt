@@ -2,11 +2,12 @@
 
 ghost use Rattle.std.specs.Prelude.{◌≡◌, ◌+◌, true, IfOk, is_some};
 ghost use Rattle.wt_inspect.specs.ConnectionShown.{count_if, head_count};
-ghost use Rattle.wt_inspect.specs.Sheets.{AreLinesOf, is_lines};
+ghost use Rattle.wt_inspect.specs.Sheets.{AreLinesOf, DrawsLines, is_lines};
 ghost use Rattle.wt_inspect.specs.declared.arguments.Output.TheVariants.{Json as JsonOutput, Text as TextOutput};
 ghost use Rattle.wt_inspection_views.specs.Escaped.{line_count};
 
-use crate::arguments::Output;
+use crate::arguments::{Arguments, Output};
+use crate::drawing::bytes_of;
 use crate::failure::Failure;
 use crate::files::shown_name;
 use std::alloc::{AllocError, Global};
@@ -14,6 +15,7 @@ use wt_inspect_connection::list::{Channel, Entry, Sender};
 use wt_inspect_connection::part::Group;
 use wt_inspect_connection::purpose::Purpose;
 use wt_inspection_views::json_lines::{Lines, Origin, PartHead, add_part};
+use wt_inspection_views::painting::Style;
 use wt_inspection_views::plain::PlainText;
 use wtp_dynamic::error::EncoderStreamError;
 
@@ -39,31 +41,31 @@ pub(super) struct Head<'a> {
 /// Returns the lines that are written of a piece before its items.
 pub(super) fn head_lines(
     alloc: Global,
-    output: Output,
+    arguments: &Arguments<'_>,
     head: &Head<'_>,
 ) -> Result<Vec<u8>, AllocError>
-    requires { is_lines output ≡ true }
-    ensures { IfOk result (λ lines. AreLinesOf output
-        (head_count output head.now.is_first head.now.fault) lines.items) }
+    requires { is_lines arguments.now.output ≡ true }
+    ensures { IfOk result (λ lines. DrawsLines arguments.now.output arguments.now.has_colors
+        (head_count arguments.now.output head.now.is_first head.now.fault) lines.items) }
 {
-    match output {
+    match arguments.output {
         Output::Json => json_head(alloc, head),
-        Output::Text | Output::Html => text_head(alloc, head),
+        Output::Text | Output::Html => text_head(alloc, arguments.has_colors, head),
     }
 }
 
 /// Returns the lines of text: the heading of a group, if the piece is its first, that of the piece,
 /// and its fault, if it has one.
-fn text_head(alloc: Global, head: &Head<'_>) -> Result<Vec<u8>, AllocError>
-    ensures { IfOk result (λ lines. AreLinesOf TextOutput
+fn text_head(alloc: Global, colors: bool, head: &Head<'_>) -> Result<Vec<u8>, AllocError>
+    ensures { IfOk result (λ lines. DrawsLines TextOutput «colors»
         (head_count TextOutput head.now.is_first head.now.fault) lines.items) }
 {
     let mut text = PlainText::new(alloc);
     add_group(alloc, &mut text, head)?;
     let words = piece_words(alloc, head)?;
-    text.add_line(words.as_str())?;
+    text.add_styled(Style::Heading, words.as_str())?;
     add_fault(alloc, &mut text, head)?;
-    Ok(text.into_text().into_bytes())
+    bytes_of(text, colors)
 }
 
 /// Appends the heading of a group, if the piece is its first.
@@ -75,7 +77,7 @@ fn add_group(alloc: Global, text: &mut PlainText, head: &Head<'_>) -> Result<(),
         return Ok(());
     }
     let words = group_words(alloc, head.group)?;
-    text.add_line(words.as_str())
+    text.add_styled(Style::Heading, words.as_str())
 }
 
 /// Appends the fault of a piece, if it has one.
@@ -86,7 +88,7 @@ fn add_fault(alloc: Global, text: &mut PlainText, head: &Head<'_>) -> Result<(),
     match head.fault {
         Some(fault) => {
             let words = fault_words(alloc, fault)?;
-            text.add_line(words.as_str())
+            text.add_styled(Style::Fault, words.as_str())
         }
         None => Ok(()),
     }

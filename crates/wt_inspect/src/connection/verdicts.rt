@@ -1,9 +1,9 @@
 //! What each end of a connection would have said of the other.
 
-ghost use Rattle.std.specs.Io.KnownBytes.{Appends};
 ghost use Rattle.std.specs.List.{list_any};
 ghost use Rattle.std.specs.Prelude.{◌≡◌, ◌+◌, ◌⊎◌, ℕ, List, true, if◌then◌else◌, IfErr, IfOk, length};
-ghost use Rattle.wt_inspect.specs.Sheets.{AreLinesOf, is_lines};
+ghost use Rattle.wt_inspect.specs.Drawing.{Draws, has_colors};
+ghost use Rattle.wt_inspect.specs.Sheets.{AreLinesOf, DrawsLines, is_lines};
 ghost use Rattle.wt_inspect.specs.Shown.{StopsShowing};
 ghost use Rattle.wt_inspect.specs.VerdictsShown.{breaks_rule, count_of, has_fault_in, verdict_lines};
 ghost use Rattle.wt_inspect.specs.declared.arguments.Output.TheVariants.{Json as JsonOutput, Text as TextOutput};
@@ -12,6 +12,7 @@ ghost use Rattle.wt_inspection_views.specs.Objects.{AddsLines};
 
 use super::heads::sender_name;
 use crate::arguments::{Arguments, Output};
+use crate::drawing::bytes_of;
 use crate::failure::Failure;
 use crate::files::shown_bytes;
 use crate::showing::{flush, write};
@@ -22,6 +23,7 @@ use wt_inspect_connection::piece::Piece;
 use wt_inspect_verdicts::judge::judge;
 use wt_inspect_verdicts::verdict::{Place, Verdict};
 use wt_inspection_views::json_lines::{Lines, VerdictLine, add_verdict};
+use wt_inspection_views::painting::Style;
 use wt_inspection_views::plain::PlainText;
 use wtp_core::error::Code;
 
@@ -44,7 +46,7 @@ pub(super) fn show_verdicts<W: Write>(
 ) -> Result<u8, Failure>
     requires { is_lines arguments.now.output ≡ true }
     ensures shows { IfOk result (λ status. (text : List ℕ) × (count : ℕ)
-        × Appends (W.contents output.old) (W.contents output.new) text
+        × Draws (has_colors arguments.now) (W.contents output.old) (W.contents output.new) text
         × AreLinesOf arguments.now.output count text) }
     ensures statuses { IfOk result (λ status. (status ≡ 0) ⊎ (status ≡ 2)) }
     ensures fails { IfErr result StopsShowing }
@@ -52,7 +54,7 @@ pub(super) fn show_verdicts<W: Write>(
     let server = judge(alloc, pieces, Sender::Server, arguments.is_open)?;
     let client = judge(alloc, pieces, Sender::Client, arguments.is_open)?;
     let verdicts = Verdicts { server, client };
-    let lines = lines_of(alloc, arguments.output, &verdicts)?;
+    let lines = lines_of(alloc, arguments, &verdicts)?;
     write(output, lines.as_slice())?;
     flush(output)?;
     Ok(status_of(&verdicts))
@@ -84,20 +86,24 @@ fn breaks_rule(verdict: &Verdict) -> bool
 }
 
 /// Returns the lines of verdicts.
-fn lines_of(alloc: Global, output: Output, verdicts: &Verdicts) -> Result<Vec<u8>, AllocError>
-    requires { is_lines output ≡ true }
-    ensures { IfOk result (λ lines. AreLinesOf output (verdict_lines output (count_of verdicts.now))
-        lines.items) }
+fn lines_of(
+    alloc: Global,
+    arguments: &Arguments<'_>,
+    verdicts: &Verdicts,
+) -> Result<Vec<u8>, AllocError>
+    requires { is_lines arguments.now.output ≡ true }
+    ensures { IfOk result (λ lines. DrawsLines arguments.now.output arguments.now.has_colors
+        (verdict_lines arguments.now.output (count_of verdicts.now)) lines.items) }
 {
-    match output {
+    match arguments.output {
         Output::Json => json_of(alloc, verdicts),
-        Output::Text | Output::Html => text_of(alloc, verdicts),
+        Output::Text | Output::Html => text_of(alloc, arguments.has_colors, verdicts),
     }
 }
 
 /// Returns the lines of text.
-fn text_of(alloc: Global, verdicts: &Verdicts) -> Result<Vec<u8>, AllocError>
-    ensures { IfOk result (λ lines. AreLinesOf TextOutput
+fn text_of(alloc: Global, colors: bool, verdicts: &Verdicts) -> Result<Vec<u8>, AllocError>
+    ensures { IfOk result (λ lines. DrawsLines TextOutput «colors»
         (verdict_lines TextOutput (count_of verdicts.now)) lines.items) }
 {
     let server = verdicts.server.as_slice();
@@ -106,7 +112,7 @@ fn text_of(alloc: Global, verdicts: &Verdicts) -> Result<Vec<u8>, AllocError>
     add_heading(&mut text, server.is_empty() && client.is_empty())?;
     add_text(alloc, &mut text, Sender::Server, server)?;
     add_text(alloc, &mut text, Sender::Client, client)?;
-    Ok(text.into_text().into_bytes())
+    bytes_of(text, colors)
 }
 
 /// Appends the heading of verdicts, and that there are none.
@@ -114,7 +120,7 @@ fn add_heading(text: &mut PlainText, is_empty: bool) -> Result<(), AllocError>
     ensures { IfOk result (λ _. line_count text.new
         ≡ line_count text.old + (if «is_empty» then 2 else 1)) }
 {
-    text.add_line("== verdicts")?;
+    text.add_styled(Style::Heading, "== verdicts")?;
     if is_empty {
         text.add_line("no error")?;
     }
@@ -133,9 +139,18 @@ fn add_text(
 {
     for verdict in verdicts {
         let words = words_of(alloc, by, verdict)?;
-        text.add_line(words.as_str())?;
+        text.add_styled(style_of(verdict), words.as_str())?;
     }
     Ok(())
+}
+
+/// Returns the style of a verdict.
+fn style_of(verdict: &Verdict) -> Style {
+    if verdict.finding.is_fault() {
+        Style::Fault
+    } else {
+        Style::Plain
+    }
 }
 
 /// Returns the words of what an end would have said.

@@ -7,7 +7,7 @@ use Rattle.wt_inspect.proofs.connection.show_payload.Goals as goal
 
 pub returns-clause-shows : goal.returns-clause-shows
 returns-clause-shows g c = λ format has.
-    let payload = c.args.payload in
+    let payload = c.args.arguments.now.has_payload in
     let bytes = c.args.bytes.now in
     let items = payload_items bytes in
     let sum = sum_by (lines_for format payload bytes) items in

@@ -1,3 +1,4 @@
+use Rattle.std.proofs.Common.{refl}
 use Rattle.wt_inspect.proofs.SheetLemmas.{appends_keeps}
 use Rattle.wt_inspect.proofs.showing.show_page.Goals as goal
 
@@ -6,7 +7,11 @@ returns-clause-shows g c =
     let found = c.in_ok-inspection.inspection in
     let breach = rw c.as_slice-2.ensures.value at c.is_breached_by-is_breached.ensures in (
       c.in_ok-page.page.items,
-      appends_keeps _ _ _ _ (rw c.as_slice.ensures.value at c.in_ok-write.ensures.writes) c.in_ok-flush.ensures.writes,
+      record {
+        written = c.in_ok-page.page.items;
+        drawn = rw c.requires refl;
+        appends = appends_keeps _ _ _ _ (rw c.as_slice.ensures.value at c.in_ok-write.ensures.writes) c.in_ok-flush.ensures.writes;
+      },
       record {
         items = found.items.items;
         warnings = found.warnings.items;

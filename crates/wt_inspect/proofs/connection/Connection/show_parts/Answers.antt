@@ -1,6 +1,6 @@
 use Rattle.std.proofs.Common.{◌++◌, arith}
 use Rattle.wt_inspect.proofs.ConnectionLemmas.{shown_end, shown_next, worse_is}
-use Rattle.wt_inspect.proofs.SheetLemmas.{appends_keeps, appends_then}
+use Rattle.wt_inspect.proofs.SheetLemmas.{draws_keeps, draws_then}
 use Rattle.wt_inspect.proofs.connection.Connection.show_parts.Goals as goal
 
 pub loop-part-preserved : goal.loop-part-preserved
@@ -12,7 +12,7 @@ loop-part-preserved g c =
       status = rw c.worse-status.ensures (worse_is c.loop-part.status c.in_ok-shown.shown status c.in_ok-shown.ensures.statuses);
       shows = (
         text ++ first,
-        appends_then _ _ _ text first was added,
+        draws_then _ _ _ _ text first was added,
         λ more s then.
             rw c.worse-status.ensures (shown_next c.args.self.now c.loop-part.before c.args.parts.now c.loop-part.part-index _ text first c.loop-part.status c.in_ok-shown.shown (omega arith) status c.in_ok-shown.ensures.statuses so_far (rw c.is_new.ensures at shows) more s then),
       );
@@ -21,4 +21,4 @@ loop-part-preserved g c =
 pub returns-clause-shows : goal.returns-clause-shows
 returns-clause-shows g c =
     let (text, was, so_far) = c.loop-part.invariant.shows in
-    (text, appends_keeps _ _ _ text was c.in_ok-flush.ensures.writes, shown_end c.args.self.now c.loop-part.before c.args.parts.now c.loop-part.part-index text c.loop-part.status (omega arith) c.loop-part.invariant.status so_far)
+    (text, draws_keeps _ _ _ _ text was c.in_ok-flush.ensures.writes, shown_end c.args.self.now c.loop-part.before c.args.parts.now c.loop-part.part-index text c.loop-part.status (omega arith) c.loop-part.invariant.status so_far)

@@ -1,7 +1,9 @@
-use Rattle.std.specs.Prelude.{string_bytes}
-use Rattle.wt_inspect.proofs.SheetLemmas.{text_taken}
+use Rattle.wt_inspect.proofs.SheetLemmas.{json_taken, ok_map, text_taken}
 use Rattle.wt_inspect.proofs.sheet.Sheet.take.Goals as goal
 
-pub returns-in_ok-text-in-Text : goal.returns-in_ok-text-in-Text
-returns-in_ok-text-in-Text c = λ output n has.
-    rw c.into_bytes.ensures.value (text_taken output n c.in-Text.lines c.take.new.self (string_bytes c.in_ok-text-in-Text.text) (rw c.in-Text.is at has) c.in_ok-text-in-Text.ensures.lines c.in_ok-text-in-Text.ensures.count c.in_ok-text-in-Text.ensures.none)
+pub returns-in-Text : goal.returns-in-Text
+returns-in-Text c =
+    ok_map _ _ c.take_text.result
+    (λ written draws output n has.
+    text_taken output c.args.colors n c.in-Text.lines c.take_text.new.lines written.items (rw c.in-Text.is at has) draws c.take_text.ensures.none)
+    c.take_text.ensures.draws

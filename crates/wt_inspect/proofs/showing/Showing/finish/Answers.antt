@@ -4,7 +4,7 @@ use Rattle.std.specs.List.{list_any}
 use Rattle.std.proofs.lemmas.List.Folds.{list_any-append}
 use Rattle.wt_inspect.specs.Sheets.{AreLinesOf, lines_of}
 use Rattle.wt_inspect.specs.Statuses.{is_breach}
-use Rattle.wt_inspect.proofs.SheetLemmas.{appends_keeps, so_far_more, view_with}
+use Rattle.wt_inspect.proofs.SheetLemmas.{draws_keeps, so_far_more, view_with}
 use Rattle.wt_inspect.proofs.showing.Showing.finish.Goals as goal
 
 pub returns-clause-shows : goal.returns-clause-shows
@@ -20,7 +20,7 @@ returns-clause-shows g c = λ text was.
     let count : lines_of format payload s.bytes.now was.0 was.1 + length last + 1 ≡ lines_of format payload s.bytes.now was.0 (was.1 ++ last) + 1 = omega (arith, length-append was.1 last) in
     let breach = (rw c.as_slice.ensures.value at c.is_breached_by-is_breached.ensures) ∙ ap (λ b. b || list_any is_breach last) showing.breach ∙ sym (list_any-append is_breach was.1 last) in (
       more,
-      appends_keeps _ _ _ more added c.in_ok-flush.ensures.writes,
+      draws_keeps _ _ _ _ more added c.in_ok-flush.ensures.writes,
       record {
         items = was.0;
         warnings = was.1 ++ last;

@@ -1,5 +1,5 @@
 use Rattle.std.proofs.Common.{[], ◌∙◌, refl, ap, arith}
-use Rattle.wt_inspect.proofs.SheetLemmas.{appends_none, so_far_same}
+use Rattle.wt_inspect.proofs.SheetLemmas.{draws_none, so_far_same}
 use Rattle.wt_inspect.proofs.showing.Showing.show_next.Goals as goal
 
 pub returns-in_ok-show_item-in-Some-clause-shows : goal.returns-in_ok-show_item-in-Some-clause-shows
@@ -25,7 +25,7 @@ returns-in-None-clause-shows g c =
       advances = gives.0;
       shows = λ text was. (
         [],
-        appends_none (g.W.Write.contents c.args.output.now),
+        draws_none _ (g.W.Write.contents c.args.output.now),
         (
           was.0,
           was.1,
