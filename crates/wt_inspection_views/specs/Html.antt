@@ -1,9 +1,11 @@
 -- HTML pages.
-use Rattle.std.specs.Prelude.{◌≡◌, ℕ, Bool, true, ◌&&◌, ◌||◌, List, [], ◌∷◌, ◌++◌, if◌then◌else◌, nat_eq, nat_le, codes}
+use Rattle.std.specs.Prelude.{◌≡◌, ℕ, Bool, true, ◌&&◌, ◌||◌, List, [], ◌∷◌, ◌++◌, IsTrue}
+use Rattle.std.specs.Prelude.{if◌then◌else◌, nat_eq, nat_le, codes}
 use Rattle.std.specs.List.{flat_map, list_all}
 use Rattle.wt_inspection_views.specs.declared.html.page.Markup.{Markup}
 use Rattle.wt_inspection_views.specs.declared.html.page.Markup.TheVariants as markup-is
-use Rattle.wt_inspection_views.specs.declared.html.page.TheConstants.{BYTES, HEAD, TAIL}
+use Rattle.wt_inspection_views.specs.declared.html.page.Page.{Page}
+use Rattle.wt_inspection_views.specs.declared.html.page.TheConstants.{HEAD, MAIN, TAIL}
 
 -- the HTML form of a byte of text: a character reference for the characters & < > " and ',
 -- otherwise the byte itself (HTML, section "Character references")
@@ -22,14 +24,16 @@ html_text = flat_map html_byte
 -- the fixed markup that a page may contain
 abbrev pub markup_bytes : Markup → List ℕ
 markup_bytes markup-is.Head = HEAD.now
-markup_bytes markup-is.Bytes = BYTES.now
+markup_bytes markup-is.Main = MAIN.now
+markup_bytes markup-is.Bytes = codes "<pre class=\"bytes\">"
 markup_bytes markup-is.RowsOf = codes "<span tabindex=\"0\" data-item=\""
 markup_bytes markup-is.PartOf = codes "<span data-item=\""
 markup_bytes markup-is.TagEnd = codes "\">"
 markup_bytes markup-is.HeadOf = codes "<i>"
 markup_bytes markup-is.HeadEnd = codes "</i>"
 markup_bytes markup-is.SpanEnd = codes "</span>"
-markup_bytes markup-is.Items = codes "</pre><div class=\"items\">"
+markup_bytes markup-is.PreEnd = codes "</pre>"
+markup_bytes markup-is.Items = codes "<div class=\"items\">"
 markup_bytes markup-is.ItemOf = codes "<div data-item=\""
 markup_bytes markup-is.First = codes "<details open><summary>"
 markup_bytes markup-is.FirstEnd = codes "</summary>"
@@ -38,6 +42,23 @@ markup_bytes markup-is.Warnings = codes "</details><b>"
 markup_bytes markup-is.ItemEnd = codes "</b></div>"
 markup_bytes markup-is.Ending = codes "<pre>"
 markup_bytes markup-is.Fault = codes "<pre class=\"fault\">"
+markup_bytes markup-is.ItemsEnd = codes "</pre></div>"
+markup_bytes markup-is.Verdicts = codes "<nav><h2>verdicts</h2>"
+markup_bytes markup-is.FaultAt = codes "<a class=\"fault\" href=\"#"
+markup_bytes markup-is.RemarkAt = codes "<a href=\"#"
+markup_bytes markup-is.LinkEnd = codes "</a>"
+markup_bytes markup-is.VerdictsEnd = codes "</nav>"
+markup_bytes markup-is.Group = codes "<section><h2>"
+markup_bytes markup-is.GroupNamed = codes "</h2>"
+markup_bytes markup-is.StreamAt = codes "<section class=\"stream\" id=\""
+markup_bytes markup-is.SectionEnd = codes "</section>"
+markup_bytes markup-is.Client = codes "<article><h3>"
+markup_bytes markup-is.Server = codes "<article class=\"server\"><h3>"
+markup_bytes markup-is.Named = codes "</h3>"
+markup_bytes markup-is.Folded = codes "<details class=\"folded\"><summary>"
+markup_bytes markup-is.FoldedBytes = codes "</summary><pre class=\"bytes\">"
+markup_bytes markup-is.FoldedEnd = codes "</pre></details>"
+markup_bytes markup-is.SentEnd = codes "</article>"
 markup_bytes markup-is.Tail = TAIL.now
 
 -- a piece of a page: fixed markup or text
@@ -50,16 +71,72 @@ abbrev pub piece_bytes : Piece → List ℕ
 piece_bytes (markup m) = markup_bytes m
 piece_bytes (text t) = html_text t
 
--- the start of a page: its head, followed by fixed markup and escaped texts
-abbrev pub BeginsPage : List ℕ → Type 0
-BeginsPage bytes =
-    (pieces : List Piece) × (bytes ≡ flat_map piece_bytes (markup markup-is.Head ∷ pieces))
-
 -- a complete page: its head, fixed markup and escaped texts, and its tail
 abbrev pub IsPage : List ℕ → Type 0
 IsPage bytes =
     (pieces : List Piece)
     × (bytes ≡ flat_map piece_bytes (markup markup-is.Head ∷ pieces ++ markup markup-is.Tail ∷ []))
+
+-- ---- the page of a connection
+
+-- an entry of such a page: a verdict on a fault, another verdict, or what an end sent on a stream or
+-- in a datagram
+pub data Entry : Type 0 where
+  fault : Entry
+  remark : Entry
+  client : Entry
+  server : Entry
+
+-- the entry that markup begins, if it begins one
+abbrev pub entry_of : Markup → List Entry
+entry_of markup-is.FaultAt = fault ∷ []
+entry_of markup-is.RemarkAt = remark ∷ []
+entry_of markup-is.Client = client ∷ []
+entry_of markup-is.Server = server ∷ []
+entry_of _ = []
+
+abbrev pub entries_in : Piece → List Entry
+entries_in (markup m) = entry_of m
+entries_in (text _) = []
+
+-- the entry of a verdict, and that of what an end sent
+abbrev pub verdict_entry : Bool → Entry
+verdict_entry is_fault = if is_fault then fault else remark
+
+abbrev pub sent_entry : Bool → Entry
+sent_entry is_server = if is_server then server else client
+
+-- fixed markup and escaped texts that begin no entry
+abbrev pub IsFragment : List ℕ → Type 0
+IsFragment bytes =
+    (pieces : List Piece) × (bytes ≡ flat_map piece_bytes pieces)
+    × (flat_map entries_in pieces ≡ [])
+
+-- the start of a page with these entries: its head, followed by fixed markup and escaped texts
+abbrev pub BeginsPageOf : List Entry → List ℕ → Type 0
+BeginsPageOf entries bytes =
+    (pieces : List Piece) × (bytes ≡ flat_map piece_bytes (markup markup-is.Head ∷ pieces))
+    × (flat_map entries_in pieces ≡ entries)
+
+-- a complete page that has these entries in this order, and no others
+abbrev pub IsPageOf : List Entry → List ℕ → Type 0
+IsPageOf entries bytes =
+    (pieces : List Piece)
+    × (bytes ≡ flat_map piece_bytes (markup markup-is.Head ∷ pieces ++ markup markup-is.Tail ∷ []))
+    × (flat_map entries_in pieces ≡ entries)
+
+-- the page has these entries so far, unless an allocation failed
+abbrev pub HasEntries : List Entry → Page → Type 0
+HasEntries entries page = IsTrue page.is_whole → BeginsPageOf entries page.out.items
+
+-- no entry was added, whatever there was before
+abbrev pub KeepsEntries : Page → Page → Type 0
+KeepsEntries old new = (entries : List Entry) → HasEntries entries old → HasEntries entries new
+
+-- these entries were added, whatever there was before
+abbrev pub AddsEntries : List Entry → Page → Page → Type 0
+AddsEntries more old new =
+    (entries : List Entry) → HasEntries entries old → HasEntries (entries ++ more) new
 
 -- ---- the policy
 

@@ -1,7 +1,8 @@
 //! Inspections as one page of HTML.
-ghost use Rattle.std.specs.Prelude.{IfOk};
-ghost use Rattle.wt_inspection_views.specs.Html.{IsPage};
+ghost use Rattle.std.specs.Prelude.{◌≡◌, [], IfOk};
+ghost use Rattle.wt_inspection_views.specs.Html.{IsPage, entry_of};
 
+pub mod connection;
 mod page;
 mod places;
 mod rows;
@@ -9,7 +10,7 @@ mod rows;
 use crate::plain::LINE_MARK;
 use crate::split_warnings;
 use crate::text::{end_line, item_lines, warning_lines};
-use page::{Markup, Page};
+use page::{Fragment, Markup, Page};
 use places::{MAX_LINES, Places, places_of};
 use rows::add_rows;
 use std::alloc::{AllocError, Global};
@@ -17,6 +18,9 @@ use wt_inspection_model::item::{End, Inspection, Item, Warning};
 
 /// Above this number of items, the others are counted.
 const MAX_ITEMS: usize = 10_000;
+
+/// Above this number of bytes, those of payloads are not shown.
+const MAX_SHOWN_LEN: usize = 65_536;
 
 /// How a line begins that belongs to the line above it, which has fewer blanks.
 const FURTHER: &str = "            ";
@@ -39,41 +43,73 @@ pub fn write_html(
 ) -> Result<Vec<u8>, AllocError>
     ensures { IfOk result (λ page. IsPage page.items) }
 {
+    let mut content = Fragment::new(alloc);
+    add_inspection(&mut content, title, inspection, bytes)?;
     let mut page = Page::new(alloc);
-    let items = inspection.items.as_slice();
-    add_title(&mut page, title, bytes.len(), items.len());
-    let (shown, others) = items.split_at(items.len().min(MAX_ITEMS));
-    for (index, item) in shown.iter().enumerate() {
-        let places = places_of(alloc, item, bytes)?;
-        add_rows(&mut page, index, item, &places, bytes);
-    }
-    page.markup(Markup::Items);
-    add_items(&mut page, shown, inspection.warnings.as_slice(), bytes)?;
-    add_others(&mut page, others.len(), "items");
-    add_end(&mut page, inspection.end, bytes.len());
+    page.fragment(content);
     page.into_bytes()
 }
 
-/// Adds what is shown.
-fn add_title(page: &mut Page, title: &str, size: usize, items: usize) {
-    let alloc = page.alloc;
-    let bytes = if size == 1 { "byte" } else { "bytes" };
-    let word = if items == 1 { "item" } else { "items" };
-    page.text(format!(in alloc; "{title}: {size} {bytes}, {items} {word}"));
-    page.markup(Markup::Bytes);
+/// Adds the title, the rows of bytes and the items of an inspection.
+fn add_inspection(
+    fragment: &mut Fragment,
+    title: &str,
+    inspection: &Inspection,
+    bytes: &[u8],
+) -> Result<(), AllocError> {
+    let items = inspection.items.as_slice();
+    let (shown, others) = items.split_at(items.len().min(MAX_ITEMS));
+    add_title(fragment, title, bytes.len(), items.len());
+    fragment.markup(Markup::Bytes);
+    add_bytes(fragment, 0, shown, bytes, bytes.len() > MAX_SHOWN_LEN)?;
+    fragment.markup(Markup::PreEnd);
+    fragment.markup(Markup::Items);
+    add_items(fragment, 0, shown, inspection.warnings.as_slice(), bytes)?;
+    add_others(fragment, others.len(), "items");
+    add_end(fragment, inspection.end, bytes.len());
+    fragment.markup(Markup::ItemsEnd);
+    Ok(())
 }
 
-/// Adds the lines of items, and of those of these warnings that are about them.
+/// Adds what is shown.
+fn add_title(fragment: &mut Fragment, title: &str, size: usize, items: usize) {
+    let alloc = fragment.alloc;
+    let bytes = if size == 1 { "byte" } else { "bytes" };
+    let word = if items == 1 { "item" } else { "items" };
+    fragment.text(format!(in alloc; "{title}: {size} {bytes}, {items} {word}"));
+    fragment.markup(Markup::Main);
+}
+
+/// Adds the rows of the bytes of items, which are marked by numbers from `first` on.
+fn add_bytes(
+    fragment: &mut Fragment,
+    first: usize,
+    items: &[Item],
+    bytes: &[u8],
+    is_long: bool,
+) -> Result<(), AllocError> {
+    for (index, item) in items.iter().enumerate() {
+        let places = places_of(fragment.alloc, item, bytes)?;
+        let index = first.saturating_add(index);
+        add_rows(fragment, index, item, &places, bytes, is_long);
+    }
+    Ok(())
+}
+
+/// Adds the lines of items, and of those of these warnings that are about them. They are marked by
+/// numbers from `first` on.
 fn add_items(
-    page: &mut Page,
+    fragment: &mut Fragment,
+    first: usize,
     items: &[Item],
     warnings: &[Warning],
     bytes: &[u8],
 ) -> Result<(), AllocError> {
     let mut later = warnings;
     for (index, item) in items.iter().enumerate() {
-        let places = places_of(page.alloc, item, bytes)?;
-        later = add_item(page, index, item, &places, later);
+        let places = places_of(fragment.alloc, item, bytes)?;
+        let index = first.saturating_add(index);
+        later = add_item(fragment, index, item, &places, later);
     }
     Ok(())
 }
@@ -81,7 +117,7 @@ fn add_items(
 /// Adds the lines of an item and of those of these warnings that are about it, which are marked by
 /// its index. Returns the other warnings.
 fn add_item<'a>(
-    page: &mut Page,
+    fragment: &mut Fragment,
     index: usize,
     item: &Item,
     places: &Places,
@@ -89,30 +125,30 @@ fn add_item<'a>(
 ) -> &'a [Warning] {
     let (here, later) = split_warnings(item, warnings);
     let (shown, others) = here.split_at(here.len().min(MAX_LINES));
-    page.markup(Markup::ItemOf);
-    page.index(index, None);
-    match item_lines(page.alloc, item) {
-        Ok(text) => add_lines(page, index, text.as_str(), places.count),
-        Err(_) => page.mark_failed(),
+    fragment.markup(Markup::ItemOf);
+    fragment.index(index, None);
+    match item_lines(fragment.alloc, item) {
+        Ok(text) => add_lines(fragment, index, text.as_str(), places.count),
+        Err(_) => fragment.mark_failed(),
     }
-    page.markup(Markup::Warnings);
-    match warning_lines(page.alloc, shown) {
-        Ok(text) => add_plain_lines(page, text.as_str()),
-        Err(_) => page.mark_failed(),
+    fragment.markup(Markup::Warnings);
+    match warning_lines(fragment.alloc, shown) {
+        Ok(text) => add_plain_lines(fragment, text.as_str()),
+        Err(_) => fragment.mark_failed(),
     }
-    add_others(page, others.len(), "warnings");
-    page.markup(Markup::ItemEnd);
+    add_others(fragment, others.len(), "warnings");
+    fragment.markup(Markup::ItemEnd);
     later
 }
 
 /// Adds the lines of an item. The first is always seen, and each of the next is marked by the index
 /// of its part, if it is one of this number of parts.
-fn add_lines(page: &mut Page, index: usize, text: &str, parts: usize) {
+fn add_lines(fragment: &mut Fragment, index: usize, text: &str, parts: usize) {
     let mut lines = text.lines();
     if let Some(line) = lines.next() {
-        page.markup(Markup::First);
-        page.line(words_of(line));
-        page.markup(Markup::FirstEnd);
+        fragment.markup(Markup::First);
+        fragment.line(words_of(line));
+        fragment.markup(Markup::FirstEnd);
     }
     let mut part = 0usize;
     let mut others = 0usize;
@@ -124,30 +160,30 @@ fn add_lines(page: &mut Page, index: usize, text: &str, parts: usize) {
         if number >= MAX_LINES {
             others = others.saturating_add(1);
         } else {
-            add_part(page, index, words, part, parts);
+            add_part(fragment, index, words, part, parts);
         }
     }
-    add_others(page, others, "lines");
+    add_others(fragment, others, "lines");
 }
 
 /// Adds the line of a part.
-fn add_part(page: &mut Page, index: usize, words: &str, part: usize, parts: usize) {
+fn add_part(fragment: &mut Fragment, index: usize, words: &str, part: usize, parts: usize) {
     if part < parts {
-        page.markup(Markup::PartOf);
-        page.index(index, Some(part));
+        fragment.markup(Markup::PartOf);
+        fragment.index(index, Some(part));
     } else {
-        page.markup(Markup::Line);
+        fragment.markup(Markup::Line);
     }
-    page.line(words);
-    page.markup(Markup::SpanEnd);
+    fragment.line(words);
+    fragment.markup(Markup::SpanEnd);
 }
 
 /// Adds lines that are marked by nothing.
-fn add_plain_lines(page: &mut Page, text: &str) {
+fn add_plain_lines(fragment: &mut Fragment, text: &str) {
     for line in text.lines() {
-        page.markup(Markup::Line);
-        page.line(words_of(line));
-        page.markup(Markup::SpanEnd);
+        fragment.markup(Markup::Line);
+        fragment.line(words_of(line));
+        fragment.markup(Markup::SpanEnd);
     }
 }
 
@@ -157,26 +193,28 @@ fn words_of(line: &str) -> &str {
 }
 
 /// Adds how many others there are, if there are some.
-fn add_others(page: &mut Page, count: usize, what: &str) {
+fn add_others(fragment: &mut Fragment, count: usize, what: &str) {
     if count > 0 {
-        let alloc = page.alloc;
-        page.markup(Markup::Line);
-        page.text(format!(in alloc; "        {count} more {what}, which text and JSON show\n"));
-        page.markup(Markup::SpanEnd);
+        let alloc = fragment.alloc;
+        fragment.markup(Markup::Line);
+        fragment.text(format!(in alloc; "        {count} more {what}, which text and JSON show\n"));
+        fragment.markup(Markup::SpanEnd);
     }
 }
 
 /// Adds the line of how bytes of this length end.
-fn add_end(page: &mut Page, end: End, length: usize) {
-    page.markup(begin_end(end));
-    match end_line(page.alloc, end, length) {
-        Ok(text) => add_plain_lines(page, text.as_str()),
-        Err(_) => page.mark_failed(),
+fn add_end(fragment: &mut Fragment, end: End, length: usize) {
+    fragment.markup(begin_end(end));
+    match end_line(fragment.alloc, end, length) {
+        Ok(text) => add_plain_lines(fragment, text.as_str()),
+        Err(_) => fragment.mark_failed(),
     }
 }
 
 /// Returns what begins the line of an end.
-fn begin_end(end: End) -> Markup {
+fn begin_end(end: End) -> Markup
+    ensures { entry_of result ≡ [] }
+{
     match end {
         End::Fault(_) => Markup::Fault,
         _ => Markup::Ending,

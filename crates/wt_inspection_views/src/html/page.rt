@@ -1,6 +1,7 @@
 //! A page of HTML.
 ghost use Rattle.std.specs.Prelude.{◌≡◌, ℕ, List, [], ◌∷◌, ◌++◌, IfOk, IsTrue, MatchOption, OnErr};
-ghost use Rattle.wt_inspection_views.specs.Html.{BeginsPage, IsPage, html_byte, html_text};
+ghost use Rattle.wt_inspection_views.specs.Html.{AddsEntries, Entry, HasEntries, IsFragment, IsPageOf};
+ghost use Rattle.wt_inspection_views.specs.Html.{KeepsEntries, entry_of, html_byte, html_text};
 ghost use Rattle.wt_inspection_views.specs.Html.{markup_bytes};
 
 use crate::latch::Latch;
@@ -10,57 +11,71 @@ use std::marker::Model;
 /// The page up to its title, which `tools/html-page` makes.
 pub(super) const HEAD: &str =
     "<!doctype html><html lang=\"en\"><head><meta charset=\"utf-8\"><meta http-equiv=\"Content-Sec\
-    urity-Policy\" content=\"default-src 'none'; style-src 'unsafe-inline'; script-src 'sha256-XMW\
-    0bDMoxsPeUqQDZ6dh1kWmJnKXcPMhho0UsNKoaCg='\"><meta name=\"viewport\" content=\"width=device-wi\
+    urity-Policy\" content=\"default-src 'none'; style-src 'unsafe-inline'; script-src 'sha256-1Cl\
+    9EBWx7w4TdqntkYkriFPPhHwuasbmB4+3oDV0ypg='\"><meta name=\"viewport\" content=\"width=device-wi\
     dth\"><title>wt_inspect</title><style>:root{color-scheme:light dark;font:14px/1.4 ui-monospace\
     ,monospace}body{margin:1rem}header{display:flex;flex-wrap:wrap;gap:.5rem 2rem;align-items:base\
     line;margin-bottom:1rem}h1{margin:0;font:inherit;font-weight:bold;overflow-wrap:anywhere}p{mar\
-    gin:0}input,button{font:inherit}main{display:grid;grid-template-columns:max-content minmax(0,1\
-    fr);gap:2rem;align-items:start}pre{margin:0;font:inherit}.bytes{max-height:94vh;overflow:auto;\
-    scrollbar-gutter:stable;position:sticky;top:1rem}.bytes>span{display:block}i{font-style:normal\
-    ;color:light-dark(#0050a0,#7ab8ff)}.items>*{white-space:pre-wrap;overflow-wrap:anywhere;border\
-    -left:3px solid transparent;padding-left:.5rem}summary,.items span{display:block;padding-left:\
-    16ch;text-indent:-16ch}details:has(>summary+span)>summary{cursor:pointer}details:not([open]):h\
-    as(>summary+span)>summary::after{content:\"...\"}.on{background:light-dark(#ffe08a,#5c4a00)}.i\
-    tems b{color:light-dark(#8a4b00,#ffb454);font-weight:normal}.items .fault{color:light-dark(#b0\
+    gin:0}input,button{font:inherit}[hidden]{display:none !important}main:has(>.bytes){display:gri\
+    d;grid-template-columns:max-content minmax(0,1fr);gap:2rem;align-items:start}pre{margin:0;font\
+    :inherit}.bytes{max-height:94vh;overflow:auto;scrollbar-gutter:stable;position:sticky;top:1rem\
+    }.bytes>span{display:block}h2{margin:1.5rem 0 .5rem;border-bottom:1px solid;font:inherit;font-\
+    weight:bold}nav>h2{margin-top:0}nav>*{overflow-wrap:anywhere}nav>a{display:block;color:inherit\
+    ;padding-left:4ch;text-indent:-4ch}.stream{display:grid;grid-template-columns:repeat(2,minmax(\
+    0,1fr));gap:0 2rem;align-items:start;margin-bottom:1rem}.stream:target{outline:2px solid;outli\
+    ne-offset:.25rem}.server{grid-column:2}h3{margin:0;font:inherit;font-style:italic;overflow-wra\
+    p:anywhere;padding-left:4ch;text-indent:-4ch}.folded[open]{position:sticky;bottom:0;background\
+    :Canvas}.folded>summary{display:list-item;list-style:inside disclosure-closed;padding-left:cal\
+    c(.5rem + 3px);text-indent:0;cursor:pointer}.folded[open]>summary{list-style-type:disclosure-o\
+    pen}.folded>.bytes{max-height:35vh;padding-left:calc(.5rem + 3px);position:static}i{font-style\
+    :normal;color:light-dark(#0050a0,#7ab8ff)}.items>*{white-space:pre-wrap;overflow-wrap:anywhere\
+    ;border-left:3px solid transparent;padding-left:.5rem}summary,.items span{display:block;paddin\
+    g-left:16ch;text-indent:-16ch}details:has(>summary+span)>summary{cursor:pointer}details:not([o\
+    pen]):has(>summary+span)>summary::after{content:\"...\"}.on{background:light-dark(#ffe08a,#5c4\
+    a00)}.items b{color:light-dark(#8a4b00,#ffb454);font-weight:normal}.fault{color:light-dark(#b0\
     0020,#ff7b88);border-color:currentColor;font-weight:bold}@media print{.bytes{max-height:none;o\
-    verflow:visible;position:static}}@media(max-width:68rem){main{grid-template-columns:minmax(0,1\
-    fr);gap:1rem}.items{order:-1}.bytes{top:auto;bottom:0;max-height:35vh;border-top:1px solid;bac\
-    kground:Canvas}}</style></head><body><header><h1>";
+    verflow:visible;position:static}}@media(max-width:68rem){main:has(>.bytes),.stream{grid-templa\
+    te-columns:minmax(0,1fr);gap:1rem}.server{grid-column:auto}main>.items{order:-1}main>.bytes{to\
+    p:auto;bottom:0;max-height:35vh;border-top:1px solid;background:Canvas}}</style></head><body><\
+    header><h1>";
 
-/// The page between its title and the rows of bytes, which `tools/html-page` makes.
-pub(super) const BYTES: &str =
+/// The page between its title and what it shows, which `tools/html-page` makes.
+pub(super) const MAIN: &str =
     "</h1><p><input type=\"search\" placeholder=\"Search\" aria-label=\"Search\"> <button>Fold</bu\
-    tton> <button>Unfold</button></p></header><main><pre class=\"bytes\">";
+    tton> <button>Unfold</button></p></header><main>";
 
-/// The page after the line of its end, which `tools/html-page` makes. The script marks what has the
-/// same number as what is pointed at.
+/// The page after what it shows, which `tools/html-page` makes. The script marks what has the same
+/// number as what is pointed at.
 pub(super) const TAIL: &str =
-    "</pre></div></main><script>const find=item=>document.querySelectorAll('[data-item=\"'+item+'\
-    \"]');const mark=(event,on)=>{const target=event.target.closest('[data-item]');if(target)for(c\
-    onst element of find(target.dataset.item))element.classList.toggle('on',on)};for(const name of\
-    ['mouseover','focusin'])addEventListener(name,event=>mark(event,true));for(const name of['mous\
-    eout','focusout'])addEventListener(name,event=>mark(event,false));addEventListener('click',eve\
-    nt=>{const target=event.target.closest('[data-item],button');if(!target)return;if(target.local\
-    Name==='button')for(const element of document.querySelectorAll('details'))element.open=target.\
-    textContent==='Unfold';else for(const element of find(target.dataset.item))if(element.closest(\
-    '.items')!==target.closest('.items')){element.scrollIntoView({block:'nearest'});return}});addE\
-    ventListener('input',event=>{const words=event.target.value.toLowerCase();for(const element of \
-    document.querySelectorAll('.items>div'))element.hidden=!element.textContent.toLowerCase().incl\
-    udes(words)})</script></body></html>\n";
+    "</main><script>const find=item=>document.querySelectorAll('[data-item=\"'+item+'\"]');const m\
+    ark=(event,on)=>{const target=event.target.closest('[data-item]');if(target)for(const element \
+    of find(target.dataset.item))element.classList.toggle('on',on)};for(const name of['mouseover',\
+    'focusin'])addEventListener(name,event=>mark(event,true));for(const name of['mouseout','focuso\
+    ut'])addEventListener(name,event=>mark(event,false));addEventListener('click',event=>{const ta\
+    rget=event.target.closest('[data-item],button');if(!target)return;if(target.localName==='butto\
+    n')for(const element of document.querySelectorAll('.items details'))element.open=target.textCo\
+    ntent==='Unfold';else for(const element of find(target.dataset.item))if(element.closest('.item\
+    s')!==target.closest('.items')){for(const folded of document.querySelectorAll('details'))if(fo\
+    lded.contains(element))folded.open=true;element.scrollIntoView({block:'nearest'});return}});ad\
+    dEventListener('input',event=>{const words=event.target.value.toLowerCase();for(const element \
+    of document.querySelectorAll('.items>div'))element.hidden=!element.textContent.toLowerCase().i\
+    ncludes(words);for(const element of document.querySelectorAll('section'))element.hidden=words!\
+    ==''&&!element.querySelector('.items>div:not([hidden])')})</script></body></html>\n";
 
 /// Markup of a page. A page has no other: what a peer sent is text.
 #[derive(Clone, Copy)]
 pub(super) enum Markup {
     /// The page up to its title.
     Head,
-    /// Ends the title, and begins the rows of bytes.
+    /// Ends the title, and begins what the page shows.
+    Main,
+    /// Begins the rows of bytes.
     Bytes,
     /// Begins the rows of an item, whose index follows.
     RowsOf,
     /// Begins bytes or a line of a part of an item, whose indices follow.
     PartOf,
-    /// Follows an index.
+    /// Follows an index, or the name of a place.
     TagEnd,
     /// Begins the bytes of a head.
     HeadOf,
@@ -68,7 +83,9 @@ pub(super) enum Markup {
     HeadEnd,
     /// Ends rows, bytes or a line.
     SpanEnd,
-    /// Ends the rows of bytes, and begins the items.
+    /// Ends the rows of bytes, or the line of a fault.
+    PreEnd,
+    /// Begins the items.
     Items,
     /// Begins the lines of an item, whose index follows.
     ItemOf,
@@ -84,9 +101,43 @@ pub(super) enum Markup {
     ItemEnd,
     /// Begins the line of an end.
     Ending,
-    /// Begins the line of an end at a fault.
+    /// Begins the line of a fault, or of an end at one.
     Fault,
-    /// The page after the line of its end.
+    /// Ends the line of an end, and the items.
+    ItemsEnd,
+    /// Begins the verdicts.
+    Verdicts,
+    /// Begins a verdict on a fault: a link to the place whose name follows.
+    FaultAt,
+    /// Begins another verdict: a link to the place whose name follows.
+    RemarkAt,
+    /// Ends a verdict.
+    LinkEnd,
+    /// Ends the verdicts.
+    VerdictsEnd,
+    /// Begins a group with its heading.
+    Group,
+    /// Ends a heading.
+    GroupNamed,
+    /// Begins a stream or a datagram, as the place whose name follows.
+    StreamAt,
+    /// Ends a stream or a datagram, or a group.
+    SectionEnd,
+    /// Begins what the client sent there, with its heading.
+    Client,
+    /// Begins what the server sent there, with its heading.
+    Server,
+    /// Ends the heading of what an end sent.
+    Named,
+    /// Begins bytes that are folded, with their number.
+    Folded,
+    /// Ends the number of bytes that are folded, and begins their rows.
+    FoldedBytes,
+    /// Ends bytes that are folded.
+    FoldedEnd,
+    /// Ends what an end sent.
+    SentEnd,
+    /// The page after what it shows.
     Tail,
 }
 
@@ -97,14 +148,16 @@ impl Markup {
     {
         match self {
             Markup::Head => HEAD,
-            Markup::Bytes => BYTES,
+            Markup::Main => MAIN,
+            Markup::Bytes => "<pre class=\"bytes\">",
             Markup::RowsOf => "<span tabindex=\"0\" data-item=\"",
             Markup::PartOf => "<span data-item=\"",
             Markup::TagEnd => "\">",
             Markup::HeadOf => "<i>",
             Markup::HeadEnd => "</i>",
             Markup::SpanEnd => "</span>",
-            Markup::Items => "</pre><div class=\"items\">",
+            Markup::PreEnd => "</pre>",
+            Markup::Items => "<div class=\"items\">",
             Markup::ItemOf => "<div data-item=\"",
             Markup::First => "<details open><summary>",
             Markup::FirstEnd => "</summary>",
@@ -113,52 +166,71 @@ impl Markup {
             Markup::ItemEnd => "</b></div>",
             Markup::Ending => "<pre>",
             Markup::Fault => "<pre class=\"fault\">",
+            Markup::ItemsEnd => "</pre></div>",
+            Markup::Verdicts => "<nav><h2>verdicts</h2>",
+            Markup::FaultAt => "<a class=\"fault\" href=\"#",
+            Markup::RemarkAt => "<a href=\"#",
+            Markup::LinkEnd => "</a>",
+            Markup::VerdictsEnd => "</nav>",
+            Markup::Group => "<section><h2>",
+            Markup::GroupNamed => "</h2>",
+            Markup::StreamAt => "<section class=\"stream\" id=\"",
+            Markup::SectionEnd => "</section>",
+            Markup::Client => "<article><h3>",
+            Markup::Server => "<article class=\"server\"><h3>",
+            Markup::Named => "</h3>",
+            Markup::Folded => "<details class=\"folded\"><summary>",
+            Markup::FoldedBytes => "</summary><pre class=\"bytes\">",
+            Markup::FoldedEnd => "</pre></details>",
+            Markup::SentEnd => "</article>",
             Markup::Tail => TAIL,
         }
     }
 }
 
-/// A page: markup, and text that is escaped. It remembers a failed allocation, so what adds to it
-/// returns nothing.
+/// A part of a page: markup, and text that is escaped. It remembers a failed allocation, so what
+/// adds to it returns nothing.
 #[derive(Drop)]
-pub(super) struct Page {
+pub(super) struct Fragment {
     /// The allocator of the page.
     pub(super) alloc: Global,
     out: Vec<u8>,
     is_whole: Latch,
 }
 
-// The bytes of the page.
-impl Model for Page {
+// The bytes of the fragment.
+impl Model for Fragment {
     ghost Value = { List ℕ };
 
-    ghost view = { λ page. page.out.items };
+    ghost view = { λ fragment. fragment.out.items };
 
-    ghost invariant = { λ page. IsTrue page.is_whole → BeginsPage page.out.items };
+    ghost invariant = { λ fragment. IsTrue fragment.is_whole → IsFragment fragment.out.items };
 }
 
-impl Page {
-    /// Creates a page that has its head alone.
+impl Fragment {
+    /// Creates an empty fragment.
+    #[tactic(auto, using(crate::proofs::PageLemmas::fragment_nil))]
     pub(super) fn new(alloc: Global) -> Self {
-        let mut out = Vec::new(alloc);
-        let added = out.extend_from_slice(Markup::Head.as_str().as_bytes());
-        Page {
+        Fragment {
             alloc,
-            out,
-            is_whole: Latch::after(added),
+            out: Vec::new(alloc),
+            is_whole: Latch::new(),
         }
     }
 
     /// Adds markup as it is.
-    pub(super) fn markup(&mut self, markup: Markup) {
+    pub(super) fn markup(&mut self, markup: Markup)
+        requires { entry_of markup ≡ [] }
+    {
         let added = self.try_markup(markup);
         self.is_whole.note(added);
     }
 
     /// Adds markup as it is.
     ///
-    /// Returns [`AllocError`] if allocation fails; then the page is as it was.
+    /// Returns [`AllocError`] if allocation fails; then the fragment is as it was.
     fn try_markup(&mut self, markup: Markup) -> Result<(), AllocError>
+        requires { entry_of markup ≡ [] }
         ensures added { IfOk result (λ _. self.new ≡ self.old ++ markup_bytes markup) }
         ensures kept { OnErr result (self.new ≡ self.old) }
     {
@@ -174,9 +246,15 @@ impl Page {
         self.is_whole.note(added);
     }
 
+    /// Adds words, escaped.
+    pub(super) fn words(&mut self, words: &str) {
+        let added = self.try_text(words);
+        self.is_whole.note(added);
+    }
+
     /// Adds a text, escaped.
     ///
-    /// Returns [`AllocError`] if allocation fails; then the page is as it was.
+    /// Returns [`AllocError`] if allocation fails; then the fragment is as it was.
     fn try_text(&mut self, text: &str) -> Result<(), AllocError>
         ensures added { IfOk result (λ _. self.new ≡ self.old ++ html_text text.now) }
         ensures kept { OnErr result (self.new ≡ self.old) }
@@ -206,9 +284,66 @@ impl Page {
         self.markup(Markup::TagEnd);
     }
 
+    /// Returns the bytes, or [`AllocError`] if an allocation failed.
+    fn into_bytes(self) -> Result<Vec<u8>, AllocError>
+        ensures { IfOk result (λ bytes. IsFragment bytes.items) }
+    {
+        self.is_whole.finish(self.out)
+    }
+}
+
+/// A page: its head, then markup and fragments. It remembers a failed allocation, too.
+#[derive(Drop)]
+pub(super) struct Page {
+    out: Vec<u8>,
+    is_whole: Latch,
+}
+
+impl Page {
+    /// Creates a page that has its head alone.
+    pub(super) fn new(alloc: Global) -> Self
+        ensures { HasEntries [] result }
+    {
+        let mut out = Vec::new(alloc);
+        let added = out.extend_from_slice(Markup::Head.as_str().as_bytes());
+        Page {
+            out,
+            is_whole: Latch::after(added),
+        }
+    }
+
+    /// Adds markup as it is.
+    pub(super) fn markup(&mut self, markup: Markup)
+        ensures { AddsEntries (entry_of markup) self.old self.new }
+    {
+        let added = self.out.extend_from_slice(markup.as_str().as_bytes());
+        self.is_whole.note(added);
+    }
+
+    /// Adds a fragment.
+    pub(super) fn fragment(&mut self, fragment: Fragment)
+        ensures { KeepsEntries self.old self.new }
+    {
+        let added = self.try_fragment(fragment);
+        self.is_whole.note(added);
+    }
+
+    /// Adds a fragment.
+    ///
+    /// Returns [`AllocError`] if an allocation failed, now or when the fragment was made.
+    fn try_fragment(&mut self, fragment: Fragment) -> Result<(), AllocError>
+        ensures added { IfOk result (λ _. (more : List ℕ) × IsFragment more
+            × (self.new.out.items ≡ self.old.out.items ++ more)) }
+        ensures whole { self.new.is_whole ≡ self.old.is_whole }
+    {
+        let bytes = fragment.into_bytes()?;
+        self.out.extend_from_slice(bytes.as_slice())
+    }
+
     /// Adds the tail, and returns the page, or [`AllocError`] if an allocation failed meanwhile.
     pub(super) fn into_bytes(self) -> Result<Vec<u8>, AllocError>
-        ensures { IfOk result (λ page. IsPage page.items) }
+        ensures { IfOk result (λ page. (entries : List Entry) → HasEntries entries self
+            → IsPageOf entries page.items) }
     {
         let mut out = self.is_whole.finish(self.out)?;
         out.extend_from_slice(Markup::Tail.as_str().as_bytes())?;

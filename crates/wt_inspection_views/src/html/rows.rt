@@ -1,5 +1,5 @@
 //! The rows of bytes of an item.
-use super::page::{Markup, Page};
+use super::page::{Fragment, Markup};
 use super::places::Places;
 use crate::bytes_of;
 use crate::text::parts::add_digits;
@@ -7,36 +7,46 @@ use std::alloc::{AllocError, Global};
 use wt_inspection_model::item::{Content, FrameName, Item};
 use wtp_wire::frame::FrameKind;
 
-/// Above this number of bytes of input, those of payloads are not shown.
-const MAX_SHOWN_LEN: usize = 65_536;
-
 /// How many bytes a row shows.
 const BYTES_PER_ROW: usize = 16;
 
 /// Adds the rows of an item's bytes, sixteen a row, which are marked by its index, and those of its
-/// parts by their indices.
-pub(super) fn add_rows(page: &mut Page, index: usize, item: &Item, places: &Places, bytes: &[u8]) {
-    let is_long = bytes.len() > MAX_SHOWN_LEN;
+/// parts by their indices. If the input is long, the bytes of payloads are not shown.
+pub(super) fn add_rows(
+    fragment: &mut Fragment,
+    index: usize,
+    item: &Item,
+    places: &Places,
+    bytes: &[u8],
+    is_long: bool,
+) {
     let shown = if is_long {
         shown_len(item)
     } else {
         item.length
     };
-    page.markup(Markup::RowsOf);
-    page.index(index, None);
+    fragment.markup(Markup::RowsOf);
+    fragment.index(index, None);
     let mut at = item.at;
     for row in bytes_of(bytes, item.at, shown).chunks(BYTES_PER_ROW) {
-        add_row(page, index, item, places, at, row);
+        add_row(fragment, index, item, places, at, row);
         at = at.saturating_add(BYTES_PER_ROW);
     }
-    add_left(page, item.length.saturating_sub(shown));
-    page.markup(Markup::SpanEnd);
+    add_left(fragment, item.length.saturating_sub(shown));
+    fragment.markup(Markup::SpanEnd);
 }
 
 /// Adds the row of bytes at this place.
-fn add_row(page: &mut Page, index: usize, item: &Item, places: &Places, at: usize, row: &[u8]) {
-    let alloc = page.alloc;
-    page.text(format!(in alloc; "{at:<8}"));
+fn add_row(
+    fragment: &mut Fragment,
+    index: usize,
+    item: &Item,
+    places: &Places,
+    at: usize,
+    row: &[u8],
+) {
+    let alloc = fragment.alloc;
+    fragment.text(format!(in alloc; "{at:<8}"));
     let mut rest = row;
     let mut place = at;
     for _ in 0..row.len() {
@@ -45,11 +55,11 @@ fn add_row(page: &mut Page, index: usize, item: &Item, places: &Places, at: usiz
         }
         let (part, end) = part_at(item, places, place);
         let (now, later) = rest.split_at(end.saturating_sub(place).max(1).min(rest.len()));
-        add_bytes(page, index, part, now);
+        add_bytes(fragment, index, part, now);
         place = place.saturating_add(now.len());
         rest = later;
     }
-    page.text(text_of(alloc, row));
+    fragment.text(text_of(alloc, row));
 }
 
 /// What some bytes of an item are.
@@ -79,19 +89,19 @@ fn part_at(item: &Item, places: &Places, place: usize) -> (Part, usize) {
 }
 
 /// Adds bytes of a part.
-fn add_bytes(page: &mut Page, index: usize, part: Part, bytes: &[u8]) {
+fn add_bytes(fragment: &mut Fragment, index: usize, part: Part, bytes: &[u8]) {
     match part {
-        Part::Head => page.markup(Markup::HeadOf),
+        Part::Head => fragment.markup(Markup::HeadOf),
         Part::Line(part) => {
-            page.markup(Markup::PartOf);
-            page.index(index, Some(part));
+            fragment.markup(Markup::PartOf);
+            fragment.index(index, Some(part));
         }
         Part::Rest => {}
     }
-    page.text(digits_of(page.alloc, bytes));
+    fragment.text(digits_of(fragment.alloc, bytes));
     match part {
-        Part::Head => page.markup(Markup::HeadEnd),
-        Part::Line(_) => page.markup(Markup::SpanEnd),
+        Part::Head => fragment.markup(Markup::HeadEnd),
+        Part::Line(_) => fragment.markup(Markup::SpanEnd),
         Part::Rest => {}
     }
 }
@@ -118,10 +128,10 @@ fn text_of(alloc: Global, row: &[u8]) -> Result<String, AllocError> {
 }
 
 /// Adds how many bytes of payload are not shown, if some are not.
-fn add_left(page: &mut Page, left: usize) {
+fn add_left(fragment: &mut Fragment, left: usize) {
     if left > 0 {
-        let alloc = page.alloc;
-        page.text(format!(in alloc; "        {left} bytes of payload\n"));
+        let alloc = fragment.alloc;
+        fragment.text(format!(in alloc; "        {left} bytes of payload\n"));
     }
 }
 
