@@ -2,3 +2,4 @@ pub mod InputLemmas
 pub mod HexLemmas
 pub mod SheetLemmas
 pub mod ConnectionLemmas
+pub mod ViewLemmas

@@ -25,13 +25,9 @@ use Rattle.wt_inspect.specs.declared.arguments.Output.TheVariants as output-is
 use Rattle.wt_inspect.specs.declared.connection.Connection.{Connection}
 use Rattle.wt_inspect.specs.declared.connection.tables.Table.{Table}
 
--- the arguments have what is not for a connection: a page, or an encoder stream of their own
-abbrev pub refuses_output : Output → Bool → Bool
-refuses_output output-is.Html encoder = true
-refuses_output _ encoder = encoder
-
+-- the arguments have what is not for a connection: an encoder stream of their own
 abbrev pub refuses : Arguments → Bool
-refuses arguments = refuses_output arguments.output (is_some arguments.encoder)
+refuses arguments = is_some arguments.encoder
 
 -- what is known of the table of an end
 abbrev pub table_of : Connection → Sender → Table

@@ -10,3 +10,4 @@ pub mod Showings
 pub mod Connections
 pub mod ConnectionShown
 pub mod VerdictsShown
+pub mod PageShown

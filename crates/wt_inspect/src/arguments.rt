@@ -170,7 +170,7 @@ pub fn command<'a>(alloc: Global) -> Result<Command<'a>, Error> {
         .arg(flag(
             alloc,
             "html",
-            "Write one page of HTML: bytes on the left, items on the right",
+            "Write one page of HTML, with the bytes of each item",
         )
         .conflicts_with("json")?)?
         .arg(flag(

@@ -6,12 +6,14 @@ ghost use Rattle.wt_inspect.specs.ConnectionShown.{ShowsConnection, ShowsParts, 
 ghost use Rattle.wt_inspect.specs.ConnectionShown.{payload_items, refuses};
 ghost use Rattle.wt_inspect.specs.Connections.{is_new, worse};
 ghost use Rattle.wt_inspect.specs.Drawing.{Draws, has_colors, paints};
+ghost use Rattle.wt_inspect.specs.PageShown.{IsConnectionOf, IsKnown, ShowsPage};
 ghost use Rattle.wt_inspect.specs.Sheets.{AddsTo, HasSheet, is_lines, lines_for};
 ghost use Rattle.wt_inspect.specs.Shown.{IsView, StopsShowing};
 ghost use Rattle.wt_inspect.specs.declared.arguments.Output.{Output as OutputValue};
 
 mod heads;
 mod kinds;
+mod page;
 mod pieces;
 mod sessions;
 mod tables;
@@ -26,10 +28,10 @@ use heads::{Head, head_lines, origin_of};
 use kinds::{is_critical, recorded_of};
 use pieces::{list_in, read_entries, read_pieces};
 use sessions::{is_session, parts_in, sessions_in};
-use std::alloc::Global;
+use std::alloc::{AllocError, Global};
 use std::io::Write;
 use tables::{Table, read_table};
-use verdicts::show_verdicts;
+use verdicts::{judge_both, show_verdicts};
 use wt_inspect_connection::list::{Channel, Sender};
 use wt_inspect_connection::part::{Group, Part, is_same_group};
 use wt_inspect_connection::piece::{Piece, purpose_in};
@@ -43,8 +45,8 @@ use wtp_dynamic::error::EncoderStreamError;
 ///
 /// # Errors
 ///
-/// Returns [`Failure::NotOfConnection`] if the arguments ask for a page or name an encoder stream,
-/// the failure of the list or of one of its files, and those of [`show_pieces`].
+/// Returns [`Failure::NotOfConnection`] if the arguments name an encoder stream, the failure of the
+/// list or of one of its files, and those of [`show_pieces`] and [`show_page`].
 pub fn show_connection(rt: &HostRuntime, arguments: &Arguments<'_>) -> Result<u8, Failure>
     ensures { IfOk result (λ status. (status ≡ 0) ⊎ (status ≡ 2)) }
 {
@@ -60,19 +62,21 @@ pub fn show_connection(rt: &HostRuntime, arguments: &Arguments<'_>) -> Result<u8
     let text = read_bytes(rt, alloc, arguments.file)?;
     let entries = read_entries(rt, alloc, arguments.file, text.as_slice())?;
     let pieces = read_pieces(rt, alloc, arguments, entries.as_slice())?;
-    let shown = show_pieces(alloc, arguments, pieces.as_slice(), &mut rt.stdout())?;
-    let judged = show_verdicts(alloc, arguments, pieces.as_slice(), &mut rt.stdout())?;
-    Ok(worse(shown, judged))
+    match arguments.output {
+        Output::Html => show_page(alloc, arguments, pieces.as_slice(), &mut rt.stdout()),
+        Output::Text | Output::Json => {
+            let shown = show_pieces(alloc, arguments, pieces.as_slice(), &mut rt.stdout())?;
+            let judged = show_verdicts(alloc, arguments, pieces.as_slice(), &mut rt.stdout())?;
+            Ok(worse(shown, judged))
+        }
+    }
 }
 
 /// Returns whether the arguments have something that is not for a connection.
 fn is_refused(arguments: &Arguments<'_>) -> bool
     ensures { result ≡ refuses arguments.now }
 {
-    match arguments.output {
-        Output::Html => true,
-        Output::Text | Output::Json => arguments.encoder.is_some(),
-    }
+    arguments.encoder.is_some()
 }
 
 /// What is known of a connection as a whole.
@@ -103,19 +107,79 @@ fn show_pieces<W: Write>(
     ensures statuses { IfOk result (λ status. (status ≡ 0) ⊎ (status ≡ 2)) }
     ensures fails { IfErr result StopsShowing }
 {
-    let client = read_table(alloc, pieces, Sender::Client)?;
-    let server = read_table(alloc, pieces, Sender::Server)?;
-    let sessions = sessions_in(alloc, pieces, client.insertions())?;
-    let parts = parts_in(alloc, pieces, sessions.as_slice())?;
-    let connection = Connection {
-        alloc,
-        arguments,
-        pieces,
-        client: &client,
-        server: &server,
-        sessions: sessions.as_slice(),
-    };
-    connection.show_parts(parts.as_slice(), output)
+    let known = Known::read(alloc, pieces)?;
+    let connection = known.connection(alloc, arguments, pieces);
+    connection.show_parts(known.parts.as_slice(), output)
+}
+
+/// Shows these pieces of a connection, and what each end would have said of the other, as a page.
+/// Returns the exit status.
+fn show_page<W: Write>(
+    alloc: Global,
+    arguments: &Arguments<'_>,
+    pieces: &[Piece<'_>],
+    output: &mut W,
+) -> Result<u8, Failure>
+    ensures shows { IfOk result (λ status. (text : List ℕ)
+        × Appends (W.contents output.old) (W.contents output.new) text
+        × ShowsPage ⟦<Part as Ord>⟧.cmp arguments.now pieces.now text status) }
+    ensures statuses { IfOk result (λ status. (status ≡ 0) ⊎ (status ≡ 2)) }
+    ensures fails { IfErr result StopsShowing }
+{
+    let known = Known::read(alloc, pieces)?;
+    let verdicts = judge_both(alloc, arguments, pieces)?;
+    let connection = known.connection(alloc, arguments, pieces);
+    connection.show_page(known.parts.as_slice(), &verdicts, output)
+}
+
+/// What the pieces of a connection say of it as a whole.
+#[derive(Drop)]
+struct Known<'a> {
+    /// What the client's field sections refer to.
+    client: Table<'a>,
+    /// What the server's field sections refer to.
+    server: Table<'a>,
+    /// The IDs of the sessions.
+    sessions: Vec<u64>,
+    /// The parts, in their order.
+    parts: Vec<Part>,
+}
+
+impl<'a> Known<'a> {
+    /// Reads what these pieces say of their connection.
+    fn read(alloc: Global, pieces: &'a [Piece<'_>]) -> Result<Self, AllocError>
+        ensures { IfOk result (λ known. IsKnown ⟦<Part as Ord>⟧.cmp pieces.entry.now known) }
+    {
+        let client = read_table(alloc, pieces, Sender::Client)?;
+        let server = read_table(alloc, pieces, Sender::Server)?;
+        let sessions = sessions_in(alloc, pieces, client.insertions())?;
+        let parts = parts_in(alloc, pieces, sessions.as_slice())?;
+        Ok(Known {
+            client,
+            server,
+            sessions,
+            parts,
+        })
+    }
+
+    /// Returns these pieces of a connection, with these arguments and what is known of it.
+    fn connection<'k>(
+        &'k self,
+        alloc: Global,
+        arguments: &'k Arguments<'k>,
+        pieces: &'k [Piece<'k>],
+    ) -> Connection<'k>
+        ensures { IsConnectionOf self.now arguments.now pieces.now result }
+    {
+        Connection {
+            alloc,
+            arguments,
+            pieces,
+            client: &self.client,
+            server: &self.server,
+            sessions: self.sessions.as_slice(),
+        }
+    }
 }
 
 impl Connection<'_> {

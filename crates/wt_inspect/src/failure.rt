@@ -31,7 +31,7 @@ pub enum Failure {
     #[error("{0}")]
     List(ListError),
     /// The arguments have what is not for a connection.
-    #[error("--html and --encoder are not for a connection, whose list names the encoder streams")]
+    #[error("--encoder is not for a connection, whose list names the encoder streams")]
     NotOfConnection,
     /// The encoder stream has a fault.
     #[error("the encoder stream has a fault: {0} (QPACK_ENCODER_STREAM_ERROR, 0x201)")]

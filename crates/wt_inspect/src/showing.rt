@@ -271,7 +271,7 @@ fn output_failure(error: &io::Error) -> Failure
 }
 
 /// Returns the kind and the name of the input.
-fn title_of(alloc: Global, arguments: &Arguments<'_>) -> Result<String, AllocError> {
+pub(crate) fn title_of(alloc: Global, arguments: &Arguments<'_>) -> Result<String, AllocError> {
     let kind = arguments.kind;
     match arguments.file {
         None | Some("-") => String::from_str(alloc, kind),
@@ -284,7 +284,7 @@ fn title_of(alloc: Global, arguments: &Arguments<'_>) -> Result<String, AllocErr
 
 /// Returns the exit status of an input that ends so: 2 for a fault, or for a rule that is broken if
 /// `is_strict`, and otherwise 0.
-fn status_of(is_strict: bool, end: End, is_breached: bool) -> u8
+pub(crate) fn status_of(is_strict: bool, end: End, is_breached: bool) -> u8
     ensures status { result
         ≡ (if has_fault end || («is_strict» && «is_breached») then 2 else 0) }
     ensures statuses { (result ≡ 0) ⊎ (result ≡ 2) }
@@ -314,7 +314,7 @@ fn is_breached_by(before: bool, warnings: &[Warning]) -> bool
 }
 
 /// Returns whether a rule is broken.
-fn has_breach(warnings: &[Warning]) -> bool
+pub(crate) fn has_breach(warnings: &[Warning]) -> bool
     ensures { result ≡ list_any is_breach warnings.now }
 {
     warnings.iter().any(|warning| is_breach(warning))

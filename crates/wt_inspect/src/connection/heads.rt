@@ -62,7 +62,8 @@ fn text_head(alloc: Global, colors: bool, head: &Head<'_>) -> Result<Vec<u8>, Al
 {
     let mut text = PlainText::new(alloc);
     add_group(alloc, &mut text, head)?;
-    let words = piece_words(alloc, head)?;
+    let heading = piece_heading(alloc, head.entry, head.purpose)?;
+    let words = format!(in alloc; "-- {heading}")?;
     text.add_styled(Style::Heading, words.as_str())?;
     add_fault(alloc, &mut text, head)?;
     bytes_of(text, colors)
@@ -76,7 +77,8 @@ fn add_group(alloc: Global, text: &mut PlainText, head: &Head<'_>) -> Result<(),
     if !head.is_first {
         return Ok(());
     }
-    let words = group_words(alloc, head.group)?;
+    let heading = group_heading(alloc, head.group)?;
+    let words = format!(in alloc; "== {heading}")?;
     text.add_styled(Style::Heading, words.as_str())
 }
 
@@ -124,7 +126,7 @@ fn json_line(alloc: Global, head: &Head<'_>, part: &PartHead<'_>) -> Result<Vec<
 /// Returns what the line of JSON has of a piece in this file.
 fn whole_part<'a>(head: &Head<'_>, file: &'a str) -> PartHead<'a> {
     PartHead {
-        purpose: name_of(head),
+        purpose: name_of(head.purpose, head.entry.sender),
         group: group_name(head.group),
         id: group_id(head.group),
         file,
@@ -136,7 +138,7 @@ fn whole_part<'a>(head: &Head<'_>, file: &'a str) -> PartHead<'a> {
 /// Returns what the line of JSON has of a piece in this file, which has this fault.
 fn broken_part<'a>(head: &Head<'_>, file: &'a str, fault: &'a str) -> PartHead<'a> {
     PartHead {
-        purpose: name_of(head),
+        purpose: name_of(head.purpose, head.entry.sender),
         group: group_name(head.group),
         id: group_id(head.group),
         file,
@@ -164,29 +166,33 @@ pub(super) fn origin_of(entry: Entry<'_>, index: usize) -> Origin {
 }
 
 /// Returns the heading of a group.
-fn group_words(alloc: Global, group: Group) -> Result<String, AllocError> {
+pub(super) fn group_heading(alloc: Global, group: Group) -> Result<String, AllocError> {
     match group {
-        Group::Control => String::from_str(alloc, "== control streams"),
-        Group::Qpack => String::from_str(alloc, "== QPACK streams"),
-        Group::Session(id) => format!(in alloc; "== session {id}"),
-        Group::Request(id) => format!(in alloc; "== request {id}"),
-        Group::Other => String::from_str(alloc, "== other streams and datagrams"),
+        Group::Control => String::from_str(alloc, "control streams"),
+        Group::Qpack => String::from_str(alloc, "QPACK streams"),
+        Group::Session(id) => format!(in alloc; "session {id}"),
+        Group::Request(id) => format!(in alloc; "request {id}"),
+        Group::Other => String::from_str(alloc, "other streams and datagrams"),
     }
 }
 
-/// Returns the heading of a piece.
-fn piece_words(alloc: Global, head: &Head<'_>) -> Result<String, AllocError> {
-    let from = sender_name(head.entry.sender);
-    let name = name_of(head);
-    let file = shown_name(alloc, head.entry.file)?;
-    match head.entry.channel {
-        Channel::Stream(id) => format!(in alloc; "-- stream {id} from the {from}, {name}: {file}"),
-        Channel::Datagram => format!(in alloc; "-- datagram from the {from}: {file}"),
+/// Returns the heading of a piece, whose stream is for this.
+pub(super) fn piece_heading(
+    alloc: Global,
+    entry: Entry<'_>,
+    purpose: Option<Purpose>,
+) -> Result<String, AllocError> {
+    let from = sender_name(entry.sender);
+    let name = name_of(purpose, entry.sender);
+    let file = shown_name(alloc, entry.file)?;
+    match entry.channel {
+        Channel::Stream(id) => format!(in alloc; "stream {id} from the {from}, {name}: {file}"),
+        Channel::Datagram => format!(in alloc; "datagram from the {from}: {file}"),
     }
 }
 
 /// Returns the words of a fault of an encoder stream.
-fn fault_words(alloc: Global, fault: EncoderStreamError) -> Result<String, AllocError> {
+pub(super) fn fault_words(alloc: Global, fault: EncoderStreamError) -> Result<String, AllocError> {
     let failure = Failure::Encoder(fault);
     format!(in alloc; "fault: {failure}")
 }
@@ -199,9 +205,9 @@ pub(super) fn sender_name(sender: Sender) -> &'static str {
     }
 }
 
-/// Returns the name of what a piece is.
-fn name_of(head: &Head<'_>) -> &'static str {
-    match (head.purpose, head.entry.sender) {
+/// Returns the name of what an end sent on a stream that is for this, or in a datagram.
+fn name_of(purpose: Option<Purpose>, sender: Sender) -> &'static str {
+    match (purpose, sender) {
         (None, _) => "datagram",
         (Some(Purpose::Control), _) => "control",
         (Some(Purpose::Push), _) => "push",

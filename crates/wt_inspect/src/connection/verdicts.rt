@@ -8,6 +8,7 @@ ghost use Rattle.wt_inspect.specs.Shown.{StopsShowing};
 ghost use Rattle.wt_inspect.specs.VerdictsShown.{breaks_rule, count_of, has_fault_in, verdict_lines};
 ghost use Rattle.wt_inspect.specs.declared.arguments.Output.TheVariants.{Json as JsonOutput, Text as TextOutput};
 ghost use Rattle.wt_inspection_views.specs.Escaped.{line_count};
+ghost use Rattle.wt_inspect_verdicts.specs.Findings.{EndOnce};
 ghost use Rattle.wt_inspection_views.specs.Objects.{AddsLines};
 
 use super::heads::sender_name;
@@ -29,11 +30,27 @@ use wtp_core::error::Code;
 
 /// What each end of a connection would have said of the other.
 #[derive(Drop)]
-struct Verdicts {
+pub(super) struct Verdicts {
     /// What the server would have said.
-    server: Vec<Verdict>,
+    pub(super) server: Vec<Verdict>,
     /// What the client would have said.
-    client: Vec<Verdict>,
+    pub(super) client: Vec<Verdict>,
+}
+
+/// Returns what each end of a connection would have said of what the other sent.
+///
+/// Returns [`AllocError`] if allocation fails.
+pub(super) fn judge_both(
+    alloc: Global,
+    arguments: &Arguments<'_>,
+    pieces: &[Piece<'_>],
+) -> Result<Verdicts, AllocError>
+    ensures { IfOk result (λ verdicts. EndOnce verdicts.server.items
+        × EndOnce verdicts.client.items) }
+{
+    let server = judge(alloc, pieces, Sender::Server, arguments.is_open)?;
+    let client = judge(alloc, pieces, Sender::Client, arguments.is_open)?;
+    Ok(Verdicts { server, client })
 }
 
 /// Writes what each end of a connection would have said of what the other sent. Returns the exit
@@ -51,9 +68,7 @@ pub(super) fn show_verdicts<W: Write>(
     ensures statuses { IfOk result (λ status. (status ≡ 0) ⊎ (status ≡ 2)) }
     ensures fails { IfErr result StopsShowing }
 {
-    let server = judge(alloc, pieces, Sender::Server, arguments.is_open)?;
-    let client = judge(alloc, pieces, Sender::Client, arguments.is_open)?;
-    let verdicts = Verdicts { server, client };
+    let verdicts = judge_both(alloc, arguments, pieces)?;
     let lines = lines_of(alloc, arguments, &verdicts)?;
     write(output, lines.as_slice())?;
     flush(output)?;
@@ -64,11 +79,14 @@ pub(super) fn show_verdicts<W: Write>(
 fn status_of(verdicts: &Verdicts) -> u8
     ensures { result ≡ (if has_fault_in verdicts.now then 2 else 0) }
 {
-    if has_fault(verdicts.server.as_slice()) || has_fault(verdicts.client.as_slice()) {
-        2
-    } else {
-        0
-    }
+    if has_fault_in(verdicts) { 2 } else { 0 }
+}
+
+/// Returns whether one of the ends broke a rule.
+pub(super) fn has_fault_in(verdicts: &Verdicts) -> bool
+    ensures { result ≡ has_fault_in verdicts.now }
+{
+    has_fault(verdicts.server.as_slice()) || has_fault(verdicts.client.as_slice())
 }
 
 /// Returns whether a rule was broken.
@@ -79,7 +97,7 @@ fn has_fault(verdicts: &[Verdict]) -> bool
 }
 
 /// Returns whether a verdict is one of a rule that was broken.
-fn breaks_rule(verdict: &Verdict) -> bool
+pub(super) fn breaks_rule(verdict: &Verdict) -> bool
     ensures { result ≡ breaks_rule verdict.now }
 {
     verdict.finding.is_fault()
@@ -154,7 +172,7 @@ fn style_of(verdict: &Verdict) -> Style {
 }
 
 /// Returns the words of what an end would have said.
-fn words_of(alloc: Global, by: Sender, verdict: &Verdict) -> Result<String, AllocError> {
+pub(super) fn words_of(alloc: Global, by: Sender, verdict: &Verdict) -> Result<String, AllocError> {
     let by = sender_name(by);
     let action = verdict.finding.action();
     let (place, number) = place_of(verdict.place);
