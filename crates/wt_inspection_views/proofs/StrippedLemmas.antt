@@ -34,7 +34,7 @@ lines_have_none : (lines : List (List ℕ)) → ArePlain lines → list_any is_e
 lines_have_none [] plain = refl
 lines_have_none (words ∷ lines) plain =
     let line : list_any is_escape (words ++ 10 ∷ []) ≡ false =
-        list_any-append is_escape words (10 ∷ []) ∙ or_from _ _ (plain_has_none words plain.0) refl in
+    list_any-append is_escape words (10 ∷ []) ∙ or_from _ _ (plain_has_none words plain.0) refl in
     ap (list_any is_escape) (flat_map-cons marked_line words lines)
     ∙ (list_any-append is_escape (marked_line words) (flat_map marked_line lines)
     ∙ or_from _ _ line (lines_have_none lines plain.1))
@@ -78,10 +78,10 @@ lines_stay : (lines : List StyledWords) → list_any is_escape (flat_map plain_l
 lines_stay [] e = refl
 lines_stay (line ∷ lines) e =
     let split : (list_any is_escape (plain_line line) || list_any is_escape (flat_map plain_line lines)) ≡ false =
-        sym (list_any-append is_escape (plain_line line) (flat_map plain_line lines)) ∙ (sym (ap (list_any is_escape) (flat_map-cons plain_line line lines)) ∙ e) in
+    sym (list_any-append is_escape (plain_line line) (flat_map plain_line lines)) ∙ (sym (ap (list_any is_escape) (flat_map-cons plain_line line lines)) ∙ e) in
     let both = or_parts _ _ split in
     let words : (list_any is_escape line.words || list_any is_escape (10 ∷ [])) ≡ false =
-        sym (list_any-append is_escape line.words (10 ∷ [])) ∙ both.0 in
+    sym (list_any-append is_escape line.words (10 ∷ [])) ∙ both.0 in
     ap (without_from false) (flat_map-cons painted_line line lines)
     ∙ (line_stays line (flat_map painted_line lines) (or_parts _ _ words).0
     ∙ (ap (λ (l : List ℕ). plain_line line ++ l) (lines_stay lines both.1) ∙ sym (flat_map-cons plain_line line lines)))
@@ -89,5 +89,5 @@ lines_stay (line ∷ lines) e =
 pub stripped : (text painted : List ℕ) → AreLines text → IsPainted text painted → without_sequences painted ≡ text
 stripped text painted (plain, is, are) (lines, split, shown) =
     let none : list_any is_escape (flat_map plain_line lines) ≡ false =
-        ap (list_any is_escape) (sym split ∙ is) ∙ lines_have_none plain are in
+    ap (list_any is_escape) (sym split ∙ is) ∙ lines_have_none plain are in
     ap (without_from false) shown ∙ (lines_stay lines none ∙ sym split)
