@@ -1,4 +1,4 @@
-use Rattle.wt_inspect.proofs.SheetLemmas.{json_taken, ok_map, text_taken}
+use Rattle.wt_inspect.proofs.SheetLemmas.{ok_map, text_taken}
 use Rattle.wt_inspect.proofs.sheet.Sheet.take.Goals as goal
 
 pub returns-in-Text : goal.returns-in-Text
