@@ -24,20 +24,20 @@ pub(super) const HEAD: &str =
     ;padding-left:4ch;text-indent:-4ch}.stream{display:grid;grid-template-columns:repeat(2,minmax(\
     0,1fr));gap:0 2rem;align-items:start;margin-bottom:1rem}.stream:target{outline:2px solid;outli\
     ne-offset:.25rem}.server{grid-column:2}h3{margin:0;font:inherit;font-style:italic;overflow-wra\
-    p:anywhere;padding-left:4ch;text-indent:-4ch}.folded[open]{position:sticky;bottom:0;background\
-    :Canvas}.folded>summary{display:list-item;list-style:inside disclosure-closed;padding-left:cal\
-    c(.5rem + 3px);text-indent:0;cursor:pointer}.folded[open]>summary{list-style-type:disclosure-o\
-    pen}.folded>.bytes{max-height:35vh;padding-left:calc(.5rem + 3px);position:static}i{font-style\
-    :normal;color:light-dark(#0050a0,#7ab8ff)}.items>*{white-space:pre-wrap;overflow-wrap:anywhere\
-    ;border-left:3px solid transparent;padding-left:.5rem}summary,.items span{display:block;paddin\
-    g-left:16ch;text-indent:-16ch}details:has(>summary+span)>summary{cursor:pointer}details:not([o\
-    pen]):has(>summary+span)>summary::after{content:\"...\"}.on{background:light-dark(#ffe08a,#5c4\
-    a00)}.items b{color:light-dark(#8a4b00,#ffb454);font-weight:normal}.fault{color:light-dark(#b0\
-    0020,#ff7b88);border-color:currentColor;font-weight:bold}@media print{.bytes{max-height:none;o\
-    verflow:visible;position:static}}@media(max-width:68rem){main:has(>.bytes),.stream{grid-templa\
-    te-columns:minmax(0,1fr);gap:1rem}.server{grid-column:auto}main>.items{order:-1}main>.bytes{to\
-    p:auto;bottom:0;max-height:35vh;border-top:1px solid;background:Canvas}}</style></head><body><\
-    header><h1>";
+    p:anywhere;padding-left:4ch;text-indent:-4ch}article>.fault{white-space:pre-wrap;overflow-wrap\
+    :anywhere}.folded[open]{position:sticky;bottom:0;background:Canvas}.folded>summary{display:lis\
+    t-item;list-style:inside disclosure-closed;padding-left:calc(.5rem + 3px);text-indent:0;cursor\
+    :pointer}.folded[open]>summary{list-style-type:disclosure-open}.folded>.bytes{max-height:35vh;\
+    padding-left:calc(.5rem + 3px);position:static}i{font-style:normal;color:light-dark(#0050a0,#7\
+    ab8ff)}.items>*{white-space:pre-wrap;overflow-wrap:anywhere;border-left:3px solid transparent;\
+    padding-left:.5rem}summary,.items span{display:block;padding-left:16ch;text-indent:-16ch}detai\
+    ls:has(>summary+span)>summary{cursor:pointer}details:not([open]):has(>summary+span)>summary::a\
+    fter{content:\"...\"}.on{background:light-dark(#ffe08a,#5c4a00)}.items b{color:light-dark(#8a4\
+    b00,#ffb454);font-weight:normal}.fault{color:light-dark(#b00020,#ff7b88);border-color:currentC\
+    olor;font-weight:bold}@media print{.bytes{max-height:none;overflow:visible;position:static}}@m\
+    edia(max-width:68rem){main:has(>.bytes),.stream{grid-template-columns:minmax(0,1fr);gap:1rem}.\
+    server{grid-column:auto}main>.items{order:-1}main>.bytes{top:auto;bottom:0;max-height:35vh;bor\
+    der-top:1px solid;background:Canvas}}</style></head><body><header><h1>";
 
 /// The page between its title and what it shows, which `tools/html-page` makes.
 pub(super) const MAIN: &str =
