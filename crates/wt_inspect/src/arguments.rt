@@ -27,7 +27,7 @@ KIND says what the bytes are, from the first one on, in one direction of one str
   capsules  the content of the DATA frames of a session
   section   an encoded field section, which is the payload of a HEADERS frame
   settings  the payload of a SETTINGS frame
-  connection  a list of what was recorded of a connection (below)
+  connection  a list of what was recorded of a connection, or a folder with a file 'list' (below)
 The other direction of a WebTransport stream is the application's bytes alone, so it has no KIND.
 
 The list of a connection has a line for each direction of a stream, and one for each datagram:
@@ -38,8 +38,9 @@ the first one on, and is relative to the folder of the list. For example:
   0 server response.bin
   datagrams client first-datagram.bin
 The control and QPACK streams are shown first, then each session with its streams and datagrams,
-then the other requests; last what each end would have said of the other. The dynamic tables of
-QPACK are those of the encoder streams in the list.
+then the other requests; last, below '== verdicts', what each end would have said of the other. The
+dynamic tables of QPACK are those of the encoder streams in the list. With --html it is one page:
+the verdicts, each a link to its stream, then the streams with both directions side by side.
 
 Each line of the text begins with the mark '\u{258c} '; where a terminal wraps a line, the rest of it has
 no mark. An item has a line with its place in bytes, what it is, and mostly its size; below it,
@@ -64,8 +65,9 @@ not be sent, is there twice, or has a value that is not allowed says so in its l
 
 To find out why a session closed, with the list of its connection:
   wt_inspect connection list
-Either end may have closed it: look in both directions of the session's stream for the capsule
-CLOSE_WEBTRANSPORT_SESSION, which has a code and a reason. With the request or the response alone:
+The verdicts say with which code and reason, or which rule was broken. Either end may have closed
+it: the capsule CLOSE_WEBTRANSPORT_SESSION is in one of the directions of the session's stream. With
+the request or the response alone:
   wt_inspect bi --open request.bin
   wt_inspect session-response --open response.bin
 
