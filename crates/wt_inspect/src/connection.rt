@@ -1,5 +1,6 @@
 //! Shows what was recorded of a connection: each direction of its streams, and its datagrams.
 
+ghost use Rattle.std.specs.Io.KnownBytes.{Appends};
 ghost use Rattle.std.specs.Prelude.{◌≡◌, ◌⊎◌, ◌+◌, ℕ, List, [], None, true, IfErr, IfOk};
 ghost use Rattle.std.specs.Prelude.{if◌then◌else◌, is_some, length, sum_by};
 ghost use Rattle.wt_inspect.specs.ConnectionShown.{ShowsConnection, ShowsParts, payload_item};
