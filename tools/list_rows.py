@@ -84,7 +84,7 @@ SHOWN_SESSION = SHOWN_CONTROLS + """\
         :path = /
 54    end
 == verdicts
-the server would end the session: stream 0: the session was closed with code 7, "bye"
+the client closed the session: stream 0: code 7, "bye"
 """
 # Settings that allow a table of 220 bytes, and one of 219.
 TABLE_220, TABLE_219 = "0004030140dc", "0004030140db"

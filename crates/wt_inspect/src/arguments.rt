@@ -55,7 +55,7 @@ name here.
 
 In a terminal headings are bold, first lines of items cyan, warnings yellow, hints blue, and faults
 and broken rules red. With '--color auto' the text has no colours if standard output is no
-terminal, if NO_COLOR is set and not empty, or if TERM is dumb. JSON and HTML have none.
+terminal, if NO_COLOR is set and not empty, or if TERM is dumb. '--color' is for text alone.
 
 To find a wrong setting in a recorded control stream, such as control.bin:
   wt_inspect uni --open control.bin
@@ -65,9 +65,10 @@ not be sent, is there twice, or has a value that is not allowed says so in its l
 
 To find out why a session closed, with the list of its connection:
   wt_inspect connection list
-The verdicts say with which code and reason, or which rule was broken. Either end may have closed
-it: the capsule CLOSE_WEBTRANSPORT_SESSION is in one of the directions of the session's stream. With
-the request or the response alone:
+The verdicts say which end closed it, with which code and reason, or which rule was broken; after an
+error of the connection there are none. Either end may close a session: the capsule
+CLOSE_WEBTRANSPORT_SESSION is in one of the directions of its stream. With the request or the
+response alone:
   wt_inspect bi --open request.bin
   wt_inspect session-response --open response.bin
 

@@ -95,7 +95,7 @@ fn broken<'a>(fault: EncoderStreamError) -> Result<Table<'a>, AllocError>
 }
 
 /// Returns the other end.
-fn other_end(sender: Sender) -> Sender
+pub(super) fn other_end(sender: Sender) -> Sender
     ensures { result ≡ other_end sender }
 {
     match sender {

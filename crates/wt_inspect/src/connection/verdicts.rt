@@ -12,6 +12,7 @@ ghost use Rattle.wt_inspect_verdicts.specs.Findings.{EndOnce};
 ghost use Rattle.wt_inspection_views.specs.Objects.{AddsLines};
 
 use super::heads::sender_name;
+use super::tables::other_end;
 use crate::arguments::{Arguments, Output};
 use crate::drawing::bytes_of;
 use crate::failure::Failure;
@@ -22,7 +23,7 @@ use std::io::Write;
 use wt_inspect_connection::list::Sender;
 use wt_inspect_connection::piece::Piece;
 use wt_inspect_verdicts::judge::judge;
-use wt_inspect_verdicts::verdict::{Place, Verdict};
+use wt_inspect_verdicts::verdict::{Finding, Place, Verdict};
 use wt_inspection_views::json_lines::{Lines, VerdictLine, add_verdict};
 use wt_inspection_views::painting::Style;
 use wt_inspection_views::plain::PlainText;
@@ -171,19 +172,44 @@ fn style_of(verdict: &Verdict) -> Style {
     }
 }
 
-/// Returns the words of what an end would have said.
+/// Returns the words of what an end would have said, or that the other end closed a session.
 pub(super) fn words_of(alloc: Global, by: Sender, verdict: &Verdict) -> Result<String, AllocError> {
-    let by = sender_name(by);
-    let action = verdict.finding.action();
-    let (place, number) = place_of(verdict.place);
-    let why = verdict.finding.why(alloc)?;
-    let code = code_words(alloc, verdict.finding.code())?;
-    let mut words = format!(in alloc; "the {by} would {action}: {code}{place} {number}: {why}")?;
+    let mut words = match &verdict.finding {
+        Finding::Closed(code, _) => closed_words(alloc, other_end(by), verdict.place, *code)?,
+        finding => finding_words(alloc, by, verdict.place, finding)?,
+    };
     if let Some(reason) = verdict.finding.reason() {
         let reason = shown_bytes(alloc, reason)?;
         write!(words, ", \"{reason}\"")?;
     }
     Ok(words)
+}
+
+/// Returns that an end closed a session, and with which code.
+fn closed_words(
+    alloc: Global,
+    closer: Sender,
+    place: Place,
+    code: u32,
+) -> Result<String, AllocError> {
+    let closer = sender_name(closer);
+    let (place, number) = place_of(place);
+    format!(in alloc; "the {closer} closed the session: {place} {number}: code {code}")
+}
+
+/// Returns what an end would do, where, and why.
+fn finding_words(
+    alloc: Global,
+    by: Sender,
+    place: Place,
+    finding: &Finding,
+) -> Result<String, AllocError> {
+    let by = sender_name(by);
+    let action = finding.action();
+    let (place, number) = place_of(place);
+    let why = finding.why(alloc)?;
+    let code = code_words(alloc, finding.code())?;
+    format!(in alloc; "the {by} would {action}: {code}{place} {number}: {why}")
 }
 
 /// Returns the name of an error code, if there is one, and a comma.
