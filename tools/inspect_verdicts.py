@@ -17,7 +17,7 @@ from pathlib import Path
 from outcomes import Outcomes
 from program_cases import TOP, Case, run_cases
 from recorded_lists import connections_of, list_of
-from verdict_rows import NOTES, ROWS
+from verdict_rows import CLIENT, NOTES, ROWS, SERVER
 
 MARK = "\u258c "
 # The runs in which a test put bytes there that no stack sends, and what is wrong with them: a value
@@ -51,13 +51,24 @@ def verdicts_in(case):
     return found
 
 
-def text_fault(case, count):
-    """Returns what is wrong with the text of so many verdicts, after all else."""
+def words_of(verdict):
+    """Returns how the line of a verdict begins: what the end that judges would do, or which end
+    closed a session."""
+    kind, by, *_ = verdict
+    if kind == "closed session":
+        closer = SERVER if by == CLIENT else CLIENT
+        return f"{MARK}the {closer} closed the session: "
+    return f"{MARK}the {by} would "
+
+
+def text_fault(case, verdicts):
+    """Returns what is wrong with the text of these verdicts, after all else."""
     *_, text = case.output.decode().rpartition(f"{MARK}== verdicts\n")
     lines = text.splitlines()
-    if not count:
+    if not verdicts:
         return None if lines == [f"{MARK}no error"] else f"the text {lines}"
-    is_right = len(lines) == count and all(" would " in line for line in lines)
+    wanted = [words_of(verdict) for verdict in verdicts]
+    is_right = len(lines) == len(wanted) and all(map(str.startswith, lines, wanted))
     return None if is_right else f"the text {lines}"
 
 
@@ -68,7 +79,7 @@ def row_fault(row, as_json, as_text):
         return f"wanted {row.verdicts}, found {found}; {as_json.errors}"
     if row.status() == 2 and (as_json.status, as_text.status) != (2, 2):
         return f"status {as_json.status} and {as_text.status}"
-    return text_fault(as_text, len(found))
+    return text_fault(as_text, found)
 
 
 def recorded_fault(name, case):
