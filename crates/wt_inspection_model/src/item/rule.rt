@@ -194,6 +194,13 @@ impl Rule {
                 "the frame belongs on the control stream (RFC 9114, section 7, table 1)"
             }
             Rule::PromiseOfClient => "a client sends no PUSH_PROMISE (RFC 9114, section 7.2.5)",
+            _ => self.why_of_id(),
+        }
+    }
+
+    /// Returns the same for a rule of the IDs in frames.
+    fn why_of_id(self) -> &'static str {
+        match self {
             Rule::BadIdFrame => {
                 "the payload is not one variable-length integer (RFC 9114, sections 7.1 and 7.2)"
             }
@@ -215,6 +222,13 @@ impl Rule {
             Rule::LateSession => {
                 "a frame comes before the session ID (draft-ietf-webtrans-http3-02, section 4.2)"
             }
+            _ => self.why_of_stream(),
+        }
+    }
+
+    /// Returns the same for a rule of how a stream ends, of settings and of capsules.
+    fn why_of_stream(self) -> &'static str {
+        match self {
             Rule::ClosedControlStream => "the control stream ends (RFC 9114, section 6.2.1)",
             Rule::ClosedQpackStream => {
                 "the encoder or decoder stream ends (RFC 9204, section 4.2)"
@@ -229,12 +243,12 @@ impl Rule {
             Rule::BadCapsuleValue => {
                 "the value of a capsule is not that of its type (RFC 9297, section 3.3)"
             }
-            _ => self.why_of_message(),
+            _ => self.why_of_field(),
         }
     }
 
-    /// Returns the same for a rule of messages, or a hint.
-    fn why_of_message(self) -> &'static str {
+    /// Returns the same for a rule of the names and values of fields.
+    fn why_of_field(self) -> &'static str {
         match self {
             Rule::UpperCaseName => "a field name has an upper-case letter (RFC 9114, section 4.2)",
             Rule::BadName => "a field name has a forbidden character (RFC 9114, section 10.3)",
@@ -244,6 +258,13 @@ impl Rule {
             }
             Rule::ConnectionField => "a field is specific to a connection (RFC 9114, section 4.2)",
             Rule::BadTe => { "te is not in a request, or not trailers (RFC 9114, section 4.2)" }
+            _ => self.why_of_pseudo_header(),
+        }
+    }
+
+    /// Returns the same for a rule of where pseudo-header fields are, and which.
+    fn why_of_pseudo_header(self) -> &'static str {
+        match self {
             Rule::LatePseudoHeader => {
                 "a pseudo-header comes after a field (RFC 9114, section 4.3)"
             }
@@ -265,6 +286,13 @@ impl Rule {
             Rule::MissingAuthority => {
                 "there is no :authority or host, or it is empty (RFC 9114, sections 4.3.1 and 4.4)"
             }
+            _ => self.why_of_request(),
+        }
+    }
+
+    /// Returns the same for a rule of the values of pseudo-header fields of a request.
+    fn why_of_request(self) -> &'static str {
+        match self {
             Rule::TargetOfConnect => {
                 ":scheme or :path in a CONNECT without :protocol (RFC 9114, section 4.4)"
             }
@@ -286,7 +314,7 @@ impl Rule {
         }
     }
 
-    /// Returns the same for a rule of content, or a hint.
+    /// Returns the same for a rule of content and of responses.
     fn why_of_content(self) -> &'static str {
         match self {
             Rule::BadContentLength => {
@@ -310,6 +338,13 @@ impl Rule {
             Rule::ShortContent => {
                 "the content is shorter than content-length (RFC 9114, section 4.1.2)"
             }
+            _ => self.why_of_hint(),
+        }
+    }
+
+    /// Returns a hint as a sentence.
+    fn why_of_hint(self) -> &'static str {
+        match self {
             Rule::LikeControlStream => {
                 "the bytes begin as a control stream does, whose KIND is uni (RFC 9114, section 6.2.1)"
             }
