@@ -10,6 +10,7 @@ variable PROGRAM. Ends with a line 'N passed, M failed'.
 """
 
 import json
+import re
 import sys
 import tempfile
 from pathlib import Path
@@ -39,13 +40,20 @@ def write_list(folder, row):
     return "".join(lines).encode()
 
 
+def is_reason(verdict, why):
+    """Returns whether the reason of a verdict cites the section of its rule. The end of a session
+    breaks none."""
+    cited = re.search(r" \((?:RFC [0-9]+|draft-[a-z0-9-]+), sections? [0-9.]+", why)
+    return bool(why and (cited or verdict in ("closed session", "lost session")))
+
+
 def verdicts_in(case):
     """Returns the verdicts in the lines of JSON, each as it stands in a row."""
     found = []
     for line in case.output.splitlines():
         item = json.loads(line)
         if "verdict" in item:
-            assert item["why"]
+            assert is_reason(item["verdict"], item["why"]), item
             place = item["stream"] if "stream" in item else "datagram"
             found.append((item["verdict"], item["by"], place, item.get("code")))
     return found

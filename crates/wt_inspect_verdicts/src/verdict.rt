@@ -3,7 +3,7 @@ ghost use Rattle.std.specs.Prelude.{◌≡◌, IfOk};
 ghost use Rattle.wtp_webtransport.specs.Events.{told_of};
 ghost use Rattle.wt_inspect_verdicts.specs.Findings.{Says, SaysClosed, code_in, ends_connection, is_fault};
 
-use crate::words::fault_words;
+use crate::words::{fault_words, malformed_words};
 use std::alloc::{AllocError, Global};
 use wtp_core::error::Code;
 use wtp_messages::malformed::Malformed;
@@ -133,24 +133,25 @@ impl Finding {
             Finding::Connection(fault) | Finding::Stream(fault) | Finding::Rejected(fault) => {
                 fault_words(alloc, *fault)
             }
-            Finding::Malformed(rule) => format!(in alloc; "{rule}"),
-            Finding::NoDatagrams => {
-                String::from_str(alloc, "a datagram is for a request that has no use for it")
-            }
-            Finding::TooLarge => {
-                String::from_str(alloc, "a field section is larger than SETTINGS allow")
-            }
-            Finding::Blocked(required) => {
-                format!(in alloc;
-                    "a field section needs {required} insertions into the dynamic table, and there were fewer"
-                )
-            }
-            Finding::NoSession(session) => {
-                format!(in alloc; "session {session}, to which the stream belongs, did not come")
-            }
-            Finding::NoSettings => {
-                String::from_str(alloc, "a request for a session came, and no SETTINGS")
-            }
+            Finding::Malformed(rule) => malformed_words(alloc, *rule),
+            Finding::NoDatagrams => String::from_str(
+                alloc,
+                "a datagram is for a request that has no use for it (RFC 9297, section 2)",
+            ),
+            Finding::TooLarge => String::from_str(
+                alloc,
+                "a field section is larger than SETTINGS allow (RFC 9114, section 4.2.2)",
+            ),
+            Finding::Blocked(required) => format!(in alloc;
+                "a field section needs {required} insertions into the dynamic table, and there were fewer (RFC 9204, section 2.1.2)"
+            ),
+            Finding::NoSession(session) => format!(in alloc;
+                "session {session}, to which the stream belongs, did not come (draft-ietf-webtrans-http3-02, section 4.5)"
+            ),
+            Finding::NoSettings => String::from_str(
+                alloc,
+                "a request for a session came, and no SETTINGS (draft-ietf-webtrans-http3-02, section 3.1)",
+            ),
             Finding::Closed(code, _) => format!(in alloc;
                 "the session was closed with code {code}"
             ),
