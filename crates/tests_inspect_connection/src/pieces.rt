@@ -25,6 +25,7 @@ fn recorded(alloc: Global) -> Result<Vec<Piece<'static>>, AllocError> {
             channel: *channel,
             sender: *sender,
             file: "a",
+            line: 1,
         };
         let bytes = Vec::from_slice(alloc, bytes)?;
         pieces.push(Piece { entry, bytes })?;

@@ -14,10 +14,10 @@ abbrev pub encoder_failure : EncoderStreamError → Failure
 encoder_failure stream-is.Memory = failure-is.Memory
 encoder_failure fault = failure-is.Encoder fault
 
--- what an error of a list is
+-- what an error of a list is, once a message has said it
 abbrev pub list_failure : ListError → Failure
 list_failure error-is.Memory = failure-is.Memory
-list_failure error = failure-is.List error
+list_failure error = failure-is.Named
 
 -- of a failure
 abbrev pub failure_status : Failure → ℕ

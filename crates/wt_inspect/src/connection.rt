@@ -22,12 +22,11 @@ mod verdicts;
 
 use crate::arguments::{Arguments, Output};
 use crate::failure::Failure;
-use crate::files::read_bytes;
 use crate::sheet::Sheet;
 use crate::showing::{flush, show_lines, write, write_all_of};
 use heads::{Head, head_lines, origin_of};
 use kinds::{is_critical, recorded_of};
-use pieces::{list_in, read_entries, read_pieces};
+use pieces::{list_in, read_entries, read_pieces, read_text};
 use sessions::{is_session, parts_in, sessions_in};
 use std::alloc::{AllocError, Global};
 use std::io::Write;
@@ -56,11 +55,12 @@ pub fn show_connection(rt: &HostRuntime, arguments: &Arguments<'_>) -> Result<u8
         return Err(Failure::NotOfConnection);
     }
     let list = list_in(rt, alloc, arguments.file)?;
+    let in_folder = list.as_ref().map(|path| path.as_str());
+    let text = read_text(rt, alloc, in_folder, arguments.file)?;
     let arguments = &Arguments {
-        file: list.as_ref().map(|path| path.as_str()).or(arguments.file),
+        file: in_folder.or(arguments.file),
         ..*arguments
     };
-    let text = read_bytes(rt, alloc, arguments.file)?;
     let entries = read_entries(rt, alloc, arguments.file, text.as_slice())?;
     let pieces = read_pieces(rt, alloc, arguments, entries.as_slice())?;
     match arguments.output {

@@ -12,11 +12,11 @@ pub enum Failure {
     /// The arguments could not be read or are not UTF-8.
     #[error("an argument is not UTF-8; a file with such a name can be given as standard input")]
     Arguments,
-    /// A file could not be read, as a message with its name has said.
+    /// A file could not be read, or a text is no list of a connection, as a message has said.
     #[error("the file cannot be read")]
     Named,
     /// Reading failed.
-    #[error("the input cannot be read: is it a folder?")]
+    #[error("the input cannot be read: is it a folder? KIND connection takes one")]
     Input,
     /// The input is too long.
     #[error("the input is longer than 64 MiB (67108864 bytes)")]
@@ -25,11 +25,8 @@ pub enum Failure {
     #[error("the input is not hexadecimal text: pairs of digits, blanks, line ends and 0x alone")]
     NotHex,
     /// The list of a connection is not UTF-8.
-    #[error("the list is not UTF-8")]
+    #[error("the list is not UTF-8; it is a text of lines such as '0 client request.bin'")]
     NotText,
-    /// The text is no list of a connection.
-    #[error("{0}")]
-    List(ListError),
     /// The arguments have what is not for a connection.
     #[error("--encoder is not for a connection, whose list names the encoder streams")]
     NotOfConnection,
@@ -84,15 +81,15 @@ impl From<EncoderStreamError> for Failure {
     }
 }
 
-impl From<ListError> for Failure {
+impl From<ListError<'_>> for Failure {
     ghost use Rattle.wt_inspect.specs.Statuses.{list_failure};
 
     ghost from_gives = { λ error failure. failure ≡ list_failure error };
 
-    fn from(error: ListError) -> Self {
+    fn from(error: ListError<'_>) -> Self {
         match error {
             ListError::Memory => Failure::Memory,
-            _ => Failure::List(error),
+            _ => Failure::Named,
         }
     }
 }

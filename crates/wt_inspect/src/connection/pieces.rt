@@ -2,14 +2,25 @@
 
 use crate::arguments::Arguments;
 use crate::failure::Failure;
-use crate::files::{is_folder, name_failure, read_file};
+use crate::files::{
+    NO_NOTES, Notes, is_folder, name_failure, read_bytes, read_file, say, shown_bytes,
+};
 use crate::input::read_hex;
 use std::alloc::{AllocError, Global};
-use wt_inspect_connection::list::{Entry, read_list};
+use wt_inspect_connection::list::{Entry, ListError, read_list};
 use wt_inspect_connection::piece::Piece;
 
 /// The name of the list in a folder, as `tools/capture-streams` writes it.
 const LIST_NAME: &str = "list";
+
+/// What is said of a folder without a list.
+const NO_LIST: Notes<'static> = Notes {
+    before: "",
+    missing: "; write this file, with a line for each recorded file, such as '0 client request.bin' (--help has more)",
+};
+
+/// How many bytes of a wrong word are shown.
+const SHOWN: usize = 40;
 
 /// Returns the path of the list in a folder, or `None` if this is the path of no folder.
 pub(super) fn list_in(
@@ -27,6 +38,19 @@ pub(super) fn list_in(
     }
 }
 
+/// Reads the text of a list: that of a folder, if it is in one, or the input.
+pub(super) fn read_text(
+    rt: &HostRuntime,
+    alloc: Global,
+    in_folder: Option<&str>,
+    input: Option<&str>,
+) -> Result<Vec<u8>, Failure> {
+    match in_folder {
+        Some(path) => read_file(rt, alloc, path, &NO_LIST),
+        None => read_bytes(rt, alloc, input),
+    }
+}
+
 /// Reads the entries of a list.
 pub(super) fn read_entries<'a>(
     rt: &HostRuntime,
@@ -34,24 +58,55 @@ pub(super) fn read_entries<'a>(
     list: Option<&str>,
     text: &'a [u8],
 ) -> Result<Vec<Entry<'a>>, Failure> {
-    match entries_in(alloc, text) {
+    let Ok(text) = str::from_utf8(text) else {
+        let reason = Failure::NotText;
+        say(rt, named(list), "", format!(in alloc; "{reason}"));
+        return Err(Failure::Named);
+    };
+    match read_list(alloc, text) {
         Ok(entries) => Ok(entries),
-        Err(failure) => Err(match list {
-            None | Some("-") => failure,
-            Some(path) => name_failure(rt, path, failure),
-        }),
+        Err(ListError::Memory) => Err(Failure::Memory),
+        Err(error) => {
+            say(rt, named(list), "", reason_of(alloc, &error));
+            Err(Failure::from(error))
+        }
     }
 }
 
-/// Returns the entries of a list.
-fn entries_in(alloc: Global, text: &[u8]) -> Result<Vec<Entry<'_>>, Failure> {
-    match str::from_utf8(text) {
-        Ok(text) => match read_list(alloc, text) {
-            Ok(entries) => Ok(entries),
-            Err(error) => Err(Failure::from(error)),
-        },
-        Err(_) => Err(Failure::NotText),
+/// Returns the name of a list, unless it is standard input.
+fn named(list: Option<&str>) -> Option<&str> {
+    match list {
+        None | Some("-") => None,
+        Some(path) => Some(path),
     }
+}
+
+/// Returns why a text is no list, with the word that is wrong.
+fn reason_of(alloc: Global, error: &ListError<'_>) -> Result<String, AllocError> {
+    match error.word() {
+        Some(word) => {
+            let word = shown_word(alloc, word)?;
+            format!(in alloc; "{error}: '{word}'")
+        }
+        None => format!(in alloc; "{error}"),
+    }
+}
+
+/// Returns the displayed form of a word, of which two dots stand for what comes after `SHOWN` bytes.
+fn shown_word(alloc: Global, word: &str) -> Result<String, AllocError> {
+    let bytes = word.as_bytes();
+    let front = front_of(bytes);
+    let mut shown = shown_bytes(alloc, front)?;
+    if front.len() < bytes.len() {
+        shown.push_str("..")?;
+    }
+    Ok(shown)
+}
+
+/// Returns the first `SHOWN` bytes, or all if they are fewer.
+fn front_of(bytes: &[u8]) -> &[u8] {
+    let end = bytes.len().min(SHOWN);
+    &bytes[..end]
 }
 
 /// Reads the files of these entries.
@@ -63,7 +118,7 @@ pub(super) fn read_pieces<'a>(
 ) -> Result<Vec<Piece<'a>>, Failure> {
     let mut pieces = Vec::new(alloc);
     for entry in entries {
-        let bytes = read_piece(rt, alloc, arguments, entry.file)?;
+        let bytes = read_piece(rt, alloc, arguments, entry)?;
         let piece = Piece {
             entry: *entry,
             bytes,
@@ -76,21 +131,27 @@ pub(super) fn read_pieces<'a>(
     Ok(pieces)
 }
 
-/// Reads a file that the list names.
+/// Reads the file of an entry.
 fn read_piece(
     rt: &HostRuntime,
     alloc: Global,
     arguments: &Arguments<'_>,
-    file: &str,
+    entry: &Entry<'_>,
 ) -> Result<Vec<u8>, Failure> {
-    let path = path_of(alloc, arguments.file, file)?;
-    let bytes = read_file(rt, alloc, path.as_str())?;
+    let path = path_of(alloc, arguments.file, entry.file)?;
+    let line = entry.line;
+    let before = format!(in alloc; "line {line} of the list: ")?;
+    let notes = Notes {
+        before: before.as_str(),
+        ..NO_NOTES
+    };
+    let bytes = read_file(rt, alloc, path.as_str(), &notes)?;
     if !arguments.is_hex {
         return Ok(bytes);
     }
     match read_hex(alloc, bytes.as_slice()) {
         Ok(bytes) => Ok(bytes),
-        Err(failure) => Err(name_failure(rt, path.as_str(), failure)),
+        Err(failure) => Err(name_failure(rt, path.as_str(), &notes, failure)),
     }
 }
 
