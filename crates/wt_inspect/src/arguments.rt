@@ -16,73 +16,82 @@ const DEFAULT_CAPACITY: u64 = 4096;
 /// The version that the program names.
 const VERSION: &str = "0.8.0";
 
+/// What the program does, and the common uses.
+const ABOUT: &str = "\
+Shows what a recorded stream or datagram of HTTP/3 or WebTransport contains
+
+Examples:
+  wt_inspect connection DIR          a connection: its streams, sessions, errors
+  wt_inspect connection --html DIR   the same as one page for a browser
+  wt_inspect bi --open request.bin   one stream, which may go on
+DIR is a folder with the recorded files and a file 'list' of them (below). Why a
+session closed is in the last two parts, '== sessions' and '== verdicts'.";
+
 /// The text of the help after the list of arguments.
 const MORE: &str = "\
-KIND says what the bytes are, from the first one on, in one direction of one stream:
-  bi        a bidirectional stream, by the end that opened it: a request, or a WebTransport stream
-  response  the other direction of a request: a response
-  session-response  the response to a request for a session, and capsules in its DATA frames
-  uni       a unidirectional stream: control, QPACK encoder or decoder, WebTransport, push
-  datagram  the payload of one QUIC datagram
-  capsules  the content of the DATA frames of a session
-  section   an encoded field section, which is the payload of a HEADERS frame
-  settings  the payload of a SETTINGS frame
-  connection  a list of what was recorded of a connection, or a folder with a file 'list' (below)
-The other direction of a WebTransport stream is the application's bytes alone, so it has no KIND.
+KIND says what FILE has, from its first byte on, in one direction of a stream:
+  bi                a bidirectional stream, by the end that opened it
+  response          the other direction of a request
+  session-response  that of a request for a session, with its capsules
+  uni               a unidirectional stream: control, QPACK, WebTransport, push
+  datagram          the payload of one QUIC datagram
+  capsules          the content of the DATA frames of a session
+  section           an encoded field section: the payload of a HEADERS frame
+  settings          the payload of a SETTINGS frame
+  connection        a list of such files, or a folder with one, named 'list'
 
-The list of a connection has a line for each direction of a stream, and one for each datagram:
-STREAM DIRECTION FILE, with one blank between them. STREAM is the ID of the stream, or the word
-datagrams; DIRECTION is the end that sent the bytes, client or server; FILE has these bytes, from
-the first one on, and is relative to the folder of the list. For example:
-  0 client request.bin
-  0 server response.bin
-  datagrams client first-datagram.bin
-The control and QPACK streams are shown first, then each session with its streams and datagrams,
-then the other requests; last, below '== verdicts', what each end would have said of the other. The
-dynamic tables of QPACK are those of the encoder streams in the list. With --html it is one page:
-the verdicts, each a link to its stream, then the streams with both directions side by side.
+A list has a line STREAM DIRECTION FILE for each direction of a stream, and for
+each datagram, with one blank between them. A folder without a list needs one;
+this writes a list of three lines:
+  printf '%s\\n' '0 client request.bin' '0 server response.bin' \\
+    'datagrams client datagram.bin' > DIR/list
+STREAM is the ID of the stream, or the word datagrams. The client opens 0, 4, 8,
+.. for both directions, and 2, 6, .. for its own; the server 1, 5, .. and 3, 7,
+.. likewise. DIRECTION is the end that sent the bytes, client or server. FILE
+has the bytes, from the first one on; its path is relative to the folder of the
+list. The order of lines does not matter, but for the datagrams of an end; a
+line may end with CR LF. With --open, all streams of the connection may go on;
+without it, all have ended, but for the control streams and those of QPACK.
 
-Each line of the text begins with the mark '\u{258c} '; where a terminal wraps a line, the rest of it has
-no mark. An item has a line with its place in bytes, what it is, and mostly its size; below it,
-indented, are the field lines, settings, capsules or numbers that it contains. A line 'warning'
-below an item says what a standard forbids, though reading went on, and with which error code;
-'hint' says that the bytes may be of another KIND. The last line says how the bytes end: 'end',
-'cut' within an item, or 'fault' with the error code and why; bytes after the item with the fault
-are 'not read'. Of a connection, a line '== ' is the heading of a group, and a line '-- ' that of
-one direction of a stream, or of a datagram, with what it is for and its file.
-A 'reserved' setting, frame or stream is one that peers send to be ignored; an 'unknown' one has no
-name here.
+The text of a connection has a part '== ' for the control streams, for QPACK,
+for each session with its streams and datagrams, and for each other request. In
+it a line '-- ' begins each direction of a stream, and each datagram. Last come:
+  == sessions  of each session its path, status, streams and datagrams, and its
+               end: closed with code and reason, and by which end; refused;
+               ended without a close; or open
+  == verdicts  what each end would do on what the other sent, or 'no error'
+A verdict such as 'the client would close the connection: H3_ID_ERROR, stream 3'
+is what this library's client does on the server's bytes, and the rule that they
+break. 'would reset', 'would refuse' and 'would wait' are of one stream alone;
+'the server closed the session' says who closed it, with code and reason. After
+an error of the connection, nothing more is judged for that end.
 
-In a terminal headings are bold, first lines of items cyan, warnings yellow, hints blue, and faults
-and broken rules red. With '--color auto' the text has no colours if standard output is no
-terminal, if NO_COLOR is set and not empty, or if TERM is dumb. '--color' is for text alone.
+Each line of text begins with the mark '\u{258c} '; what a terminal wraps has none.
+An item has its offset in bytes, what it is, and mostly its size, and below it
+its field lines, settings or capsules. 'warning' is a rule that is broken, with
+its error code; 'hint' says that another KIND may fit. The last line is 'end',
+'cut' (within an item) or 'fault' (code and reason; the rest is 'not read'). A
+'reserved' type is sent to be ignored; an 'unknown' one has no name here. In a
+terminal, headings are bold, first lines of items cyan, warnings yellow, hints
+blue, faults and broken rules red; not if NO_COLOR is set, or TERM is dumb.
 
-To find a wrong setting in a recorded control stream, such as control.bin:
-  wt_inspect uni --open control.bin
-The settings are below the frame SETTINGS, each with its name, identifier and value. One that must
-not be sent, is there twice, or has a value that is not allowed says so in its line, and in a
-'warning' or in the last line, which then says 'fault'.
+With --json each line is an object. Its member 'item' says what it is: frame,
+capsule, datagram, warning, end and others. Of a connection, 'on_stream' and
+'from' are the ID of the stream and the end that sent it. The last objects have
+'session' or 'verdict'; a verdict has 'by' (who judges), 'stream', 'code' and
+'why'. INSPECTOR.md, which comes with the program, has all members and rules.
 
-To find out why a session closed, with the list of its connection:
-  wt_inspect connection list
-The verdicts say which end closed it, with which code and reason, or which rule was broken; after an
-error of the connection there are none. Either end may close a session: the capsule
-CLOSE_WEBTRANSPORT_SESSION is in one of the directions of its stream. With the request or the
-response alone:
-  wt_inspect bi --open request.bin
-  wt_inspect session-response --open response.bin
+Other examples:
+  wt_inspect uni --open control.bin                 settings, and what is wrong
+  wt_inspect session-response --open response.bin   whether the server closed
+  wt_inspect bi --encoder encoder.bin request.bin   with QPACK's dynamic table
+  echo 00 04 02 33 01 | wt_inspect uni --open --hex   bytes written as text
+Field lines may refer to QPACK's dynamic table, which the encoder stream of the
+same end fills, a unidirectional stream of type 2. Without it '(dynamic 5)' and
+'(dynamic post-base 0)' stand for its entries, by their distance from the Base.
 
-With the bytes as text:
-  echo 00 04 04 33 01 33 01 | wt_inspect uni --open --hex
-
-Field lines may refer to QPACK's dynamic table, which the encoder stream of the same direction
-fills, a unidirectional stream of type 2. To see them, give that stream too, whole:
-  wt_inspect bi --encoder encoder.bin request.bin
-Without it '(dynamic 5)' stands for the name and the value of an entry. The number counts back from
-the Base of the section: 0 is the entry just before it. '(dynamic post-base 0)' is the one at it.
-
-Exit status: 0 the bytes were shown, 1 wrong arguments, 2 the bytes have a fault (with --strict, or
-a warning), 3 input or output failed, 4 out of memory.";
+Exit status: 0 the bytes were shown, 1 wrong arguments, 2 the bytes have a fault
+(with --strict, or a warning), 3 input or output failed, 4 out of memory.";
 
 /// The names of the kinds of recordings.
 static KINDS: [&str; 9] = [
@@ -156,18 +165,25 @@ pub fn command<'a>(alloc: Global) -> Result<Command<'a>, Error> {
         .help("What was recorded")
         .value_parser(KINDS.as_slice());
     let file = Arg::new(alloc, "file").value_name("FILE").help(
-        "The recording, of at most 64 MiB; standard input if there is none, or it is -",
+        "The recording, up to 64 MiB; standard input if there is none, or -",
     );
     let command = Command::new(alloc, "wt_inspect")
         .version(VERSION)
-        .about("Shows what a recorded stream or datagram of HTTP/3 or WebTransport contains")
+        .about(ABOUT)
         .after_help(MORE)
         .arg(kind)?
-        .arg(file)?
+        .arg(file)?;
+    let command = add_flags(alloc, command)?;
+    add_table(alloc, command)
+}
+
+/// Adds the options without a value, and that of the colours.
+fn add_flags<'a>(alloc: Global, command: Command<'a>) -> Result<Command<'a>, Error> {
+    let command = command
         .arg(flag(
             alloc,
             "hex",
-            "The input is hexadecimal text; blanks, line ends and 0x are ignored",
+            "Read hexadecimal text; blanks and 0x are ignored",
         ))?
         .arg(flag(alloc, "json", "Write JSON, one object a line"))?
         .arg(flag(
@@ -179,7 +195,7 @@ pub fn command<'a>(alloc: Global) -> Result<Command<'a>, Error> {
         .arg(flag(
             alloc,
             "open",
-            "The stream was still open, so more bytes may follow",
+            "More bytes may follow, on all streams of a connection",
         ))?
         .arg(flag(
             alloc,
@@ -188,7 +204,7 @@ pub fn command<'a>(alloc: Global) -> Result<Command<'a>, Error> {
         ))?
         .arg(flag(alloc, "strict", "The exit status is 2 for a warning too"))?
         .arg(color(alloc))?;
-    add_table(alloc, command)
+    Ok(command)
 }
 
 /// Returns the option that says when text has colours.
@@ -197,7 +213,7 @@ fn color<'a>(alloc: Global) -> Arg<'a> {
         .long("color")
         .value_name("WHEN")
         .value_parser(WHENS.as_slice())
-        .help("Whether text has colours; auto, the default, in a terminal")
+        .help("Colours in text")
 }
 
 /// Adds the options of the dynamic table.
@@ -205,12 +221,12 @@ fn add_table<'a>(alloc: Global, command: Command<'a>) -> Result<Command<'a>, Err
     let encoder = Arg::new(alloc, "encoder")
         .long("encoder")
         .value_name("FILE")
-        .help("The whole QPACK encoder stream of the same sender: what the dynamic table has");
+        .help("The whole QPACK encoder stream of the same sender");
     let capacity = Arg::new(alloc, "capacity")
         .long("capacity")
         .value_name("N")
         .value_parser(value_parser!(u64).range(..1 << 60))
-        .help("What the other end allowed by SETTINGS_QPACK_MAX_TABLE_CAPACITY [default: 4096]")
+        .help("Table size that the other end allowed [default: 4096]")
         .requires_arg("encoder")?;
     Ok(command.arg(encoder)?.arg(capacity)?)
 }
