@@ -625,10 +625,11 @@ class Reader:
                 self.read_session(role, is_first, length, after)
                 return
             self.read_frame(role, kind, length, after)
-            is_first = is_first and not (kind in (DATA, HEADERS, SETTINGS) or is_reserved(kind))
+            is_first = False
 
     def read_session(self, role, is_first, session, after):
-        """Reads a WebTransport stream (draft-ietf-webtrans-http3-02, section 4.2)."""
+        """Reads a WebTransport stream, whose type and session ID are the very first bytes of its
+        stream (draft-ietf-webtrans-http3-02, section 4.2)."""
         if session % 4:
             raise faulted(self.at, "H3_ID_ERROR")
         if role != "bi":

@@ -29,6 +29,19 @@ ACKNOWLEDGMENTS = "03840148"
 # the head of a control stream and an empty SETTINGS
 SETTINGS = "000400"
 CLOSED = ("CLOSE_WEBTRANSPORT_SESSION, 7 bytes", "code = 7", "reason = bye")
+
+
+def late_session(before, item):
+    """Returns what is shown of a WebTransport stream of 6 bytes after this frame of a request."""
+    place = len(before) // 2
+    return (
+        f" {item}\n",
+        f"\u258c {place:<5} not read           6 bytes\n",
+        f"\u258c {place:<5} fault              H3_FRAME_ERROR (0x106): only the first bytes of a",
+        "(draft-ietf-webtrans-http3-02, section 4.2)\n",
+    )
+
+
 # the line below a capsule whose value is wrong
 WRONG_VALUE = "\u258c         warning: H3_MESSAGE_ERROR: the value of a capsule is not"
 
@@ -219,17 +232,6 @@ ROWS = [
         "bi",
         0,
         ("H3_MESSAGE_ERROR: bytes follow the close of the session",),
-    ),
-    (
-        "session-after-unknown",
-        "404200404100616263",
-        "bi",
-        0,
-        (
-            "session 0\n",
-            "H3_FRAME_ERROR: a frame comes before the session ID (draft-ietf-webtrans-http3-02",
-            "payload            3 bytes\n\u258c 9     end\n",
-        ),
     ),
     # push streams
     (
@@ -502,15 +504,26 @@ ROWS = [
         "404100616263",
         "response",
         2,
-        ("not read           6 bytes", "H3_FRAME_UNEXPECTED (0x105): only the first frame may"),
+        ("not read           6 bytes", "H3_FRAME_UNEXPECTED (0x105): only the first bytes of"),
     ),
     (
-        "session-after-reserved",
-        "2100404100616263",
-        "bi",
-        2,
-        ("reserved frame     0x21", "H3_FRAME_ERROR (0x106): only the first frame may begin"),
+        "session-of-no-frame",
+        "404100616263",
+        "bi --strict",
+        0,
+        ("0     WebTransport       session 0\n", "3     payload            3 bytes\n"),
     ),
+    *(
+        (f"session-after-{name}", before + "404100616263", "bi", 2, late_session(before, item))
+        for name, before, item in (
+            ("unknown", "404200", "unknown frame      0x42, 0 bytes"),
+            ("reserved", "2100", "reserved frame     0x21, 0 bytes"),
+            ("goaway", "070104", "GOAWAY             1 byte"),
+            ("unknown-and-reserved", "4042016121024142", "reserved frame     0x21, 2 bytes"),
+            ("data", "0000", "DATA               0 bytes"),
+        )
+    ),
+    ("odd-session-after-unknown", "404200404101", "bi", 2, ("H3_ID_ERROR (0x108): a session ID",)),
     (
         "session-3",
         "405403616263",

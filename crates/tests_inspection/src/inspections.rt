@@ -19,7 +19,7 @@ struct Row {
     end: (&'static str, u64),
 }
 
-static STREAMS: [Row; 25] = [
+static STREAMS: [Row; 28] = [
     Row {
         case: "a session request of Chromium, and a reserved capsule",
         kind: Recorded::Bi,
@@ -80,6 +80,30 @@ static STREAMS: [Row; 25] = [
         open: false,
         items: &[(0, 7, "unread")],
         end: ("fault", 0x108),
+    },
+    Row {
+        case: "a WebTransport stream after an unknown frame (draft-ietf-webtrans-http3-02, section 4.2)",
+        kind: Recorded::Bi,
+        bytes: b"\x40\x42\x00\x40\x41\x00abc",
+        open: false,
+        items: &[(0, 3, "unknown"), (3, 6, "unread")],
+        end: ("fault", 0x106),
+    },
+    Row {
+        case: "the same after a reserved frame",
+        kind: Recorded::Bi,
+        bytes: b"\x21\x00\x40\x41\x00abc",
+        open: false,
+        items: &[(0, 2, "reserved"), (2, 6, "unread")],
+        end: ("fault", 0x106),
+    },
+    Row {
+        case: "the same after DATA, open",
+        kind: Recorded::Bi,
+        bytes: b"\x00\x01a\x40\x41\x00abc",
+        open: true,
+        items: &[(0, 3, "DATA"), (3, 6, "unread")],
+        end: ("fault", 0x106),
     },
     Row {
         case: "a stream that ends within a frame",

@@ -39,7 +39,7 @@ use Rattle.wt_inspection.specs.DataCapsules.{Stage}
 use Rattle.wt_inspection.specs.ItemFrames.{frame_of, frames_at, frames_in, IsWithin, IsReadable, AreReadable}
 use Rattle.wt_inspection_model.specs.Names.{frame_name_of, named, other_name, is_http2}
 use Rattle.wtp_wire.specs.Settings.{pair_at}
-use Rattle.wt_inspection.specs.Recording.{Then, AfterSection, AfterSettings, HasParts, HasSignal, IsCut, IsCutPart, Judged, JudgedCut, IsFrameAt, IsNext, IsNoFrame, IsRefused, Reads, is_session, name_fault, still_first}
+use Rattle.wt_inspection.specs.Recording.{Then, AfterSection, AfterSettings, HasParts, HasSignal, IsCut, IsCutPart, Judged, JudgedCut, IsFrameAt, IsNext, IsNoFrame, IsRefused, Reads, is_session, name_fault, session_fault, still_first}
 
 -- ---- where the reading goes on, it goes on as after a frame that is allowed
 
@@ -281,7 +281,7 @@ refused_on place true (Some c) next h = h
 
 no_frame_on : (role : StreamRole) (first : Bool) (place : ℕ) (bytes : List ℕ) (pair : Option ((ℕ × ℕ) × List ℕ)) (next : Next) → IsNoFrame role first place bytes pair (Ok next) → ⊥
 no_frame_on role first place bytes None next h = h
-no_frame_on role first place bytes (Some ((number, id), rest)) next h = refused_on place (id % 4 == 0) (rule (role_of role) first kind-is.WebTransport) next h.1
+no_frame_on role first place bytes (Some ((number, id), rest)) next h = refused_on place (id % 4 == 0) (session_fault role first place) next h.1
 
 one_item : (content : Content) (role : StreamRole) (first : Bool) (place : ℕ) (bytes : List ℕ) (len : ℕ) (next : Next) (tail : Tail) → len ≤ length bytes → IsNext (next-is.Frames role first) place bytes len content (Ok next) → IsReadable content → (next ≡ next-is.Payload) ⊎ Goes role first bytes len content next tail
 one_item (content-is.Frame f) role first place bytes len next tail within r readable = elim (cases_lt f.present f.announced) [

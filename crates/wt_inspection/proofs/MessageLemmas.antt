@@ -147,9 +147,6 @@ no_frame_moves role first at bytes content-is.Unread after stage h = refl
 pub no_frame_leads : (phase : Phase) (role : StreamRole) (first : Bool) (at : ℕ) (bytes : List ℕ) (content : Content) (after : Then) → HasNoFrame content → Leads phase phase (MovesFrames role first at bytes content after) after
 no_frame_leads phase role first at bytes content after none = λ stage h. (stage, no_frame_moves role first at bytes content after stage none, any_after after phase stage h)
 
-pub no_frame_kept : (old new : Phase) (role : StreamRole) (first : Bool) (at : ℕ) (bytes : List ℕ) (content : Content) (after : Then) → new ≡ old → HasNoFrame content → Leads old new (MovesFrames role first at bytes content after) after
-no_frame_kept old new role first at bytes content after same none = rw same (no_frame_leads old role first at bytes content after none)
-
 -- a refused frame leaves the message as it is
 pub refused_takes : (fault : Option ErrorCode) (code : ErrorCode) (role : StreamRole) (name : FrameName) (at : ℕ) (payload : List ℕ) (parts : Parts) (on after : Then) (stage : Stage) → fault ≡ Some code → TakesWhole fault role name at payload parts on after stage stage
 refused_takes fault code role name at payload parts on after stage e = rw e refl

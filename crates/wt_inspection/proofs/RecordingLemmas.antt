@@ -6,8 +6,6 @@ use Rattle.wtp_core.specs.Varint.{number_at}
 use Rattle.wtp_core.specs.VarintLenNeeded.{varint_len_needed}
 use Rattle.wtp_wire.specs.Kind.{kind_of}
 use Rattle.wtp_wire.specs.StreamKind.{stream_kind_of}
-use Rattle.wtp_wire.specs.Role.{role_of}
-use Rattle.wtp_wire.specs.Rule.{rule}
 use Rattle.wtp_wire.specs.declared.frame.kind.FrameKind.{FrameKind}
 use Rattle.wtp_wire.specs.declared.frame.kind.FrameKind.TheVariants as kind-is
 use Rattle.wtp_wire.specs.declared.stream_header.StreamKind.{StreamKind}
@@ -22,7 +20,7 @@ use Rattle.wtp_wire.proofs.HeadPairLemmas.{two_at}
 use Rattle.wt_inspection.proofs.PairLemmas.{some_is}
 use Rattle.wt_inspection.specs.DataCapsules.{Stage}
 use Rattle.wtp_wire.specs.Settings.{pair_at}
-use Rattle.wt_inspection.specs.Recording.{Then, IsPart, IsCut, IsStep, IsNext, IsNoFrame, IsNoHead, IsNoSession, IsRefused, IsPushHead, IsSessionHead, Moves, Reads, has_session, is_push, is_session, pair_lacks}
+use Rattle.wt_inspection.specs.Recording.{Then, IsPart, IsCut, IsStep, IsNext, IsNoFrame, IsNoHead, IsNoSession, IsRefused, IsPushHead, IsSessionHead, Moves, Reads, has_session, is_push, is_session, pair_lacks, session_fault}
 
 -- no item yet
 pub reads_none : (items : List Item) (before last : Then) (stage : Stage) (bytes : List ℕ) (at : ℕ) → items ≡ [] → at ≡ 0 → last ≡ before → Reads before stage bytes items last stage (drop at bytes)
@@ -48,7 +46,7 @@ reads_more items more before mid after stage now next bytes held rest at end ite
 pub no_frame_cut : (role : StreamRole) (first : Bool) (place : ℕ) (bytes : List ℕ) (after : Then) → pair_at bytes ≡ None → IsCut place (codes "frame") (pair_lacks bytes) after → IsNoFrame role first place bytes (pair_at bytes) after
 no_frame_cut role first place bytes after e s = rw e s
 
-pub no_frame_refused : (role : StreamRole) (first : Bool) (place : ℕ) (bytes rest : List ℕ) (number id : ℕ) (after : Then) → pair_at bytes ≡ Some ((number, id), rest) → is_session (kind_of number) ≡ true → IsRefused place (id % 4 == 0) (rule (role_of role) first kind-is.WebTransport) after → IsNoFrame role first place bytes (pair_at bytes) after
+pub no_frame_refused : (role : StreamRole) (first : Bool) (place : ℕ) (bytes rest : List ℕ) (number id : ℕ) (after : Then) → pair_at bytes ≡ Some ((number, id), rest) → is_session (kind_of number) ≡ true → IsRefused place (id % 4 == 0) (session_fault role first place) after → IsNoFrame role first place bytes (pair_at bytes) after
 no_frame_refused role first place bytes rest number id after e k r = rw e (k, r)
 
 session_is : (k : Option FrameKind) → is_session k ≡ true → k ≡ Some kind-is.WebTransport

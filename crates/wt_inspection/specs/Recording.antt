@@ -185,6 +185,12 @@ pub record IsFrameAt (role : StreamRole) (first : Bool) (at : ℕ) (bytes : List
       → Judged (name_fault role first f.name) f.name at (take f.present (drop f.head bytes))
       f.parts (Ok (next-is.Frames role (still_first first f.name))) after
 
+-- the fault of a WebTransport stream that begins at this place, if it may not: its type and session
+-- ID are the first bytes of a bidirectional stream, and no frame comes before them, not even an
+-- unknown or a reserved one (draft-ietf-webtrans-http3-02, section 4.2)
+abbrev pub session_fault : StreamRole → Bool → ℕ → Option ErrorCode
+session_fault role first at = rule (role_of role) (first && (at == 0)) kind-is.WebTransport
+
 -- the head of a WebTransport stream has no session ID, or may not be here
 abbrev pub IsRefused : ℕ → Bool → Option ErrorCode → Then → Type 0
 IsRefused at false fault after = StopsWith at code-is.Id after
@@ -197,7 +203,7 @@ abbrev pub IsNoFrame :
 IsNoFrame role first at bytes None after = IsCut at (codes "frame") (pair_lacks bytes) after
 IsNoFrame role first at bytes (Some ((number, id), rest)) after =
     (is_session (kind_of number) ≡ true)
-    × IsRefused at (id % 4 == 0) (rule (role_of role) first kind-is.WebTransport) after
+    × IsRefused at (id % 4 == 0) (session_fault role first at) after
 
 -- ---- capsules
 
@@ -261,7 +267,7 @@ IsNext next-is.Head at bytes len content-is.Unread after =
 IsNext (next-is.Frames role first) at bytes len (content-is.Frame f) after =
     IsFrameAt role first at bytes len f after
 IsNext (next-is.Frames role first) at bytes len (content-is.Session id) after =
-    IsSessionItem bytes len id × (rule (role_of role) first kind-is.WebTransport ≡ None)
+    IsSessionItem bytes len id × (session_fault role first at ≡ None)
     × (after ≡ Ok next-is.Payload)
 IsNext (next-is.Frames role first) at bytes len content-is.Unread after =
     (len ≡ length bytes) × IsNoFrame role first at bytes (pair_at bytes) after

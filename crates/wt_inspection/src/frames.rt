@@ -62,7 +62,7 @@ pub(crate) fn next_frame(
         return Ok(Step::last(rest.len(), Content::Unread, end));
     };
     if is_session(pair.first) {
-        return session_item(reading, role, first, at, pair, rest);
+        return Ok(session_item(role, first, at, pair, rest));
     }
     let left = rest.len() - pair.size;
     if pair.second.into_inner() > left as u64 {

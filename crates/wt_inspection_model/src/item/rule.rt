@@ -39,8 +39,6 @@ pub enum Rule {
     ShrinkingMaxPushId,
     /// A priority of a request names the stream of one.
     PriorityOfNoRequest,
-    /// Only the first frame begins a WebTransport stream.
-    LateSession,
     /// A control stream does not end.
     ClosedControlStream,
     /// A stream of QPACK does not end.
@@ -156,7 +154,7 @@ impl Rule {
             | Rule::InTunnel
             | Rule::ControlFrame
             | Rule::PromiseOfClient => Some(Code::H3_FRAME_UNEXPECTED),
-            Rule::BadIdFrame | Rule::ShortPriority | Rule::ShortPromise | Rule::LateSession => {
+            Rule::BadIdFrame | Rule::ShortPriority | Rule::ShortPromise => {
                 Some(Code::H3_FRAME_ERROR)
             }
             Rule::GrowingGoaway | Rule::ShrinkingMaxPushId | Rule::PriorityOfNoRequest => {
@@ -218,9 +216,6 @@ impl Rule {
             }
             Rule::PriorityOfNoRequest => {
                 "the ID is not that of a request stream (RFC 9218, section 7.2)"
-            }
-            Rule::LateSession => {
-                "a frame comes before the session ID (draft-ietf-webtrans-http3-02, section 4.2)"
             }
             _ => self.why_of_stream(),
         }
