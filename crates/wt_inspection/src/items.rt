@@ -61,6 +61,7 @@ impl<'a> Inspecting<'a> {
     /// Returns the next item, or `None` after the last one.
     ///
     /// Returns [`AllocError`] if allocation fails. Nothing is known of the items after that.
+    #[inline(always)]
     pub fn next(&mut self) -> Result<Option<Item>, AllocError>
         ensures input { IfOk result (λ _. input_of self.new ≡ input_of self.old) }
         ensures gives { IfOk result (λ found. Gives found self.old self.new) }

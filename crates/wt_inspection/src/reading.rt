@@ -98,6 +98,7 @@ pub(crate) struct Reading {
 }
 
 /// Adds a warning of an item and of this line of it, if there is one.
+#[inline(always)]
 pub(crate) fn add_warning(
     warnings: &mut Vec<Warning>,
     at: usize,

@@ -78,6 +78,7 @@ pub(crate) fn next_step(
 
 /// Returns the next item, as long as the reading goes on.
 #[tactic(auto, using(crate::proofs::ResolvedLemmas::plain_content))]
+#[inline(always)]
 fn next_item(
     reading: &mut Reading,
     sent: Option<&Insertions<'_>>,

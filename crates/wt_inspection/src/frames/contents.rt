@@ -148,6 +148,7 @@ fn settings_parts(
 
 /// Returns the capsules that end in the payload of a DATA frame, which begins at this place. Their
 /// first fault ends the reading; without one, this follows.
+#[inline(always)]
 pub(super) fn data_parts(
     reading: &mut Reading,
     at: usize,
