@@ -19,9 +19,10 @@ use std::io::Write;
 use wt_inspect_connection::list::{Channel, Sender};
 use wt_inspect_connection::part::{Group, Part, Role};
 use wt_inspect_connection::piece::Piece;
+use wt_inspect_connection::purpose::Purpose;
 use wt_inspect_verdicts::verdict::{Place, Verdict};
 use wt_inspection::{Content, End, Inspection, Item, inspect_with};
-use wt_inspection_views::html::connection::{Anchor, ConnectionPage, Overview, Sent};
+use wt_inspection_views::html::connection::{Anchor, ConnectionPage, Overview, Row, Sent};
 
 /// A piece of a connection, and what its bytes contain.
 #[derive(Drop)]
@@ -175,7 +176,8 @@ impl Connection<'_> {
     {
         let mut before = None;
         for view in views {
-            begin_stream(self.alloc, page, before, view)?;
+            let row = row_of(self.purpose_of(view.piece));
+            begin_stream(self.alloc, page, before, view, row)?;
             self.add_view(page, view)?;
             before = Some(view.part);
         }
@@ -328,19 +330,21 @@ fn datagram_at(index: usize) -> Anchor {
     Anchor::Datagram((index as u64).saturating_add(1))
 }
 
-/// Begins the group of a piece and its stream or datagram, unless the piece before it is of the same.
+/// Begins the group of a piece and its stream or datagram in this row, unless the piece before it is
+/// of the same.
 fn begin_stream(
     alloc: Global,
     page: &mut ConnectionPage,
     before: Option<Part>,
     view: &View<'_>,
+    row: Row,
 ) -> Result<(), AllocError>
     ensures { IfOk result (λ _. KeepsEntries page.old.page page.new.page) }
 {
     let is_new_group = is_new(before.map(|part| part.group), view.part.group);
     let is_new_stream = is_new_group || !is_of_stream(before, view.part);
     begin_group(alloc, page, is_new_group, view.part.group)?;
-    begin_at(page, is_new_stream, place_of_view(view));
+    begin_at(page, is_new_stream, place_of_view(view), row);
     Ok(())
 }
 
@@ -361,12 +365,22 @@ fn begin_group(
     Ok(())
 }
 
-/// Begins a stream or a datagram, if it is new.
-fn begin_at(page: &mut ConnectionPage, is_new_stream: bool, place: Anchor)
+/// Begins a stream or a datagram in this row, if it is new.
+fn begin_at(page: &mut ConnectionPage, is_new_stream: bool, place: Anchor, row: Row)
     ensures { KeepsEntries page.old.page page.new.page }
 {
     if is_new_stream {
-        page.stream(place);
+        page.stream(place, row);
+    }
+}
+
+/// Returns the row of a stream that is for this, or of a datagram.
+fn row_of(purpose: Option<Purpose>) -> Row {
+    match purpose {
+        Some(Purpose::Control) => Row::Control,
+        Some(Purpose::Encoder) => Row::Encoder,
+        Some(Purpose::Decoder) => Row::Decoder,
+        _ => Row::Own,
     }
 }
 

@@ -32,6 +32,19 @@ pub enum Anchor {
     Datagram(u64),
 }
 
+/// The row of a page in which a stream or a datagram is shown.
+#[derive(Clone, Copy, Debug, PartialEq, Eq)]
+pub enum Row {
+    /// That of the control streams of both ends.
+    Control,
+    /// That of the QPACK encoder streams of both ends.
+    Encoder,
+    /// That of the QPACK decoder streams of both ends.
+    Decoder,
+    /// A row of its own.
+    Own,
+}
+
 /// What an end sent on a stream, or in a datagram.
 #[derive(Clone, Copy)]
 pub struct Sent<'a> {
@@ -65,7 +78,9 @@ enum Begun {
 ///
 /// At the top is the title, with the numbers of streams, datagrams, bytes and items. What the client
 /// sent on a stream is on the left, and what the server sent on the right, each as on the page of one
-/// stream, but that the bytes come last and are folded. Items after the first 10000 of the page are
+/// stream, but that the bytes come last and are folded. Each group has headings for both sides. The
+/// control streams of both ends are beside each other, and so are their encoder streams and their
+/// decoder streams. Items after the first 10000 of the page are
 /// counted. If the connection has more than 65536 bytes, payloads are shown by their lengths. What a
 /// peer sent stands in escaped text alone.
 ///
@@ -120,13 +135,13 @@ impl ConnectionPage {
         self.begun = Begun::Group;
     }
 
-    /// Begins a stream or a datagram of the group.
-    pub fn stream(&mut self, place: Anchor)
+    /// Begins a stream or a datagram of the group, in this row.
+    pub fn stream(&mut self, place: Anchor, row: Row)
         ensures { KeepsEntries self.old.page self.new.page }
     {
         let mut fragment = Fragment::new(self.alloc);
         end_stream(&mut fragment, self.begun);
-        fragment.markup(Markup::StreamAt);
+        fragment.markup(begin_stream(row));
         add_name(&mut fragment, place);
         self.page.fragment(fragment);
         self.begun = Begun::Stream;
@@ -166,6 +181,18 @@ fn begin_verdict(is_fault: bool) -> Markup
         Markup::FaultAt
     } else {
         Markup::RemarkAt
+    }
+}
+
+/// Returns what begins a stream or a datagram.
+fn begin_stream(row: Row) -> Markup
+    ensures { entry_of result ≡ [] }
+{
+    match row {
+        Row::Control => Markup::ControlAt,
+        Row::Encoder => Markup::EncoderAt,
+        Row::Decoder => Markup::DecoderAt,
+        Row::Own => Markup::StreamAt,
     }
 }
 

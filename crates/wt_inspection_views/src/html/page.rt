@@ -14,35 +14,47 @@ pub(super) const HEAD: &str =
     urity-Policy\" content=\"default-src 'none'; style-src 'unsafe-inline'; script-src 'sha256-1Cl\
     9EBWx7w4TdqntkYkriFPPhHwuasbmB4+3oDV0ypg='\"><meta name=\"viewport\" content=\"width=device-wi\
     dth\"><title>wt_inspect</title><style>:root{color-scheme:light dark;font:14px/1.4 ui-monospace\
-    ,monospace}body{margin:1rem}header{display:flex;flex-wrap:wrap;gap:.5rem 2rem;align-items:base\
-    line;margin-bottom:1rem}h1{margin:0;font:inherit;font-weight:bold;overflow-wrap:anywhere}p{mar\
-    gin:0}input,button{font:inherit}[hidden]{display:none !important}main:has(>.bytes){display:gri\
-    d;grid-template-columns:max-content minmax(0,1fr);gap:2rem;align-items:start}pre{margin:0;font\
-    :inherit}.bytes{max-height:94vh;overflow:auto;scrollbar-gutter:stable;position:sticky;top:1rem\
-    }.bytes>span{display:block}h2{margin:1.5rem 0 .5rem;border-bottom:1px solid;font:inherit;font-\
-    weight:bold}nav>h2{margin-top:0}nav>*{overflow-wrap:anywhere}nav>a{display:block;color:inherit\
-    ;padding-left:4ch;text-indent:-4ch}.stream{display:grid;grid-template-columns:repeat(2,minmax(\
-    0,1fr));gap:0 2rem;align-items:start;margin-bottom:1rem}.stream:target{outline:2px solid;outli\
-    ne-offset:.25rem}.server{grid-column:2}h3{margin:0;font:inherit;font-style:italic;overflow-wra\
-    p:anywhere;padding-left:4ch;text-indent:-4ch}article>.fault{white-space:pre-wrap;overflow-wrap\
-    :anywhere}.folded[open]{position:sticky;bottom:0;background:Canvas}.folded>summary{display:lis\
-    t-item;list-style:inside disclosure-closed;padding-left:calc(.5rem + 3px);text-indent:0;cursor\
-    :pointer}.folded[open]>summary{list-style-type:disclosure-open}.folded>.bytes{max-height:35vh;\
+    ,monospace;scroll-padding:2rem}body{margin:1rem}header{display:flex;flex-wrap:wrap;gap:.5rem 2\
+    rem;align-items:baseline;margin-bottom:1rem}h1{margin:0;font:inherit;font-weight:bold;overflow\
+    -wrap:anywhere}p{margin:0}input,button{font:inherit}header>details[open]{flex-basis:100%}heade\
+    r summary{cursor:pointer}body:not(:has(nav)) .others{display:none}[hidden]{display:none !impor\
+    tant}main:has(>.bytes){display:grid;grid-template-columns:max-content minmax(0,1fr);gap:2rem;a\
+    lign-items:start}pre{margin:0;font:inherit}.bytes{max-height:94vh;overflow:auto;scrollbar-gutt\
+    er:stable;position:sticky;top:1rem}.bytes>span{display:block}h2{margin:1.5rem 0 .5rem;border-b\
+    ottom:1px solid;font:inherit;font-weight:bold}nav>h2{margin-top:0}nav>*{overflow-wrap:anywhere\
+    }nav>a{display:block;color:inherit;padding-left:4ch;text-indent:-4ch}nav>.fault,nav>.remark{bo\
+    rder-left:3px solid;padding-left:calc(4ch + .5rem)}.remark{color:light-dark(#00695c,#5fd3bc)}n\
+    av>.remark{border-left-style:dotted}.ends,.stream,section:has(>.paired){display:grid;grid-temp\
+    late-columns:repeat(2,minmax(0,1fr));gap:0 2rem;align-items:start}.ends{position:sticky;top:0;\
+    z-index:1;background:Canvas;border-bottom:1px dotted;margin-bottom:.5rem}.stream{margin-bottom\
+    :1rem}.stream:target{outline:2px solid;outline-offset:.25rem}.server{grid-column:2}section:has\
+    (>.paired)>*{grid-column:1/-1}section:has(>.paired)>.paired{display:block;grid-column:1;order:\
+    1}section:has(>.paired)>.paired:has(>.server){grid-column:2;order:2}section:has(>.paired){marg\
+    in-bottom:-1rem}section:has(>.paired)::after{content:\"\";grid-column:1/-1;order:3}section>.pa\
+    ired.decoder{order:4}section>.paired.decoder:has(>.server){order:5}h3{margin:0;font:inherit;fo\
+    nt-style:italic;overflow-wrap:anywhere;padding-left:4ch;text-indent:-4ch}article>.fault{white-\
+    space:pre-wrap;overflow-wrap:anywhere}.folded[open]{position:sticky;bottom:0;background:Canvas\
+    }.folded>summary{padding-left:calc(.5rem + 3px);cursor:pointer}.folded>.bytes{max-height:35vh;\
     padding-left:calc(.5rem + 3px);position:static}i{font-style:normal;color:light-dark(#0050a0,#7\
     ab8ff)}.items>*{white-space:pre-wrap;overflow-wrap:anywhere;border-left:3px solid transparent;\
-    padding-left:.5rem}summary,.items span{display:block;padding-left:16ch;text-indent:-16ch}detai\
-    ls:has(>summary+span)>summary{cursor:pointer}details:not([open]):has(>summary+span)>summary::a\
-    fter{content:\"...\"}.on{background:light-dark(#ffe08a,#5c4a00)}.items b{color:light-dark(#8a4\
+    padding-left:.5rem}.items summary,.items span{display:block;padding-left:16ch;text-indent:-16c\
+    h}details:has(>summary+span)>summary{cursor:pointer}details:not([open]):has(>summary+span)>sum\
+    mary::after{content:\"...\"}.on{background:light-dark(#ffe08a,#5c4a00)}b{color:light-dark(#8a4\
     b00,#ffb454);font-weight:normal}.fault{color:light-dark(#b00020,#ff7b88);border-color:currentC\
-    olor;font-weight:bold}@media print{.bytes{max-height:none;overflow:visible;position:static}}@m\
-    edia(max-width:68rem){main:has(>.bytes),.stream{grid-template-columns:minmax(0,1fr);gap:1rem}.\
-    server{grid-column:auto}main>.items{order:-1}main>.bytes{top:auto;bottom:0;max-height:35vh;bor\
-    der-top:1px solid;background:Canvas}}</style></head><body><header><h1>";
+    olor;font-weight:bold}@media print{.bytes,.ends{max-height:none;overflow:visible;position:stat\
+    ic}}@media(max-width:68rem){main:has(>.bytes),.stream{grid-template-columns:minmax(0,1fr);gap:\
+    1rem}.server{grid-column:auto}.ends{display:none}section:has(>.paired){display:block;margin-bo\
+    ttom:0}main>.items{order:-1}main>.bytes{top:auto;bottom:0;max-height:35vh;border-top:1px solid\
+    ;background:Canvas}}</style></head><body><header><h1>";
 
 /// The page between its title and what it shows, which `tools/html-page` makes.
 pub(super) const MAIN: &str =
     "</h1><p><input type=\"search\" placeholder=\"Search\" aria-label=\"Search\"> <button>Fold</bu\
-    tton> <button>Unfold</button></p></header><main>";
+    tton> <button>Unfold</button></p><details><summary>Legend</summary><p><i>types and lengths</i>\
+    , <b>warnings and hints</b>, <span class=\"fault\">faults</span><span class=\"others\">, <span \
+    class=\"remark\">other verdicts</span></span></p><p>Pointing at an item marks its bytes, and t\
+    he other way round. A click scrolls them into view. A click on the first line of an item folds \
+    it.</p></details></header><main>";
 
 /// The page after what it shows, which `tools/html-page` makes. The script marks what has the same
 /// number as what is pointed at.
@@ -117,10 +129,16 @@ pub(super) enum Markup {
     VerdictsEnd,
     /// Begins a group with its heading.
     Group,
-    /// Ends a heading.
+    /// Ends that heading, and names the ends on both sides.
     GroupNamed,
     /// Begins a stream or a datagram, as the place whose name follows.
     StreamAt,
+    /// Begins a control stream, as the place whose name follows.
+    ControlAt,
+    /// Begins a QPACK encoder stream, as the place whose name follows.
+    EncoderAt,
+    /// Begins a QPACK decoder stream, as the place whose name follows.
+    DecoderAt,
     /// Ends a stream or a datagram, or a group.
     SectionEnd,
     /// Begins what the client sent there, with its heading.
@@ -169,12 +187,17 @@ impl Markup {
             Markup::ItemsEnd => "</pre></div>",
             Markup::Verdicts => "<nav><h2>verdicts</h2>",
             Markup::FaultAt => "<a class=\"fault\" href=\"#",
-            Markup::RemarkAt => "<a href=\"#",
+            Markup::RemarkAt => "<a class=\"remark\" href=\"#",
             Markup::LinkEnd => "</a>",
             Markup::VerdictsEnd => "</nav>",
             Markup::Group => "<section><h2>",
-            Markup::GroupNamed => "</h2>",
+            Markup::GroupNamed => {
+                "</h2><p class=\"ends\"><span>client</span><span>server</span></p>"
+            }
             Markup::StreamAt => "<section class=\"stream\" id=\"",
+            Markup::ControlAt => "<section class=\"stream paired control\" id=\"",
+            Markup::EncoderAt => "<section class=\"stream paired encoder\" id=\"",
+            Markup::DecoderAt => "<section class=\"stream paired decoder\" id=\"",
             Markup::SectionEnd => "</section>",
             Markup::Client => "<article><h3>",
             Markup::Server => "<article class=\"server\"><h3>",
