@@ -13,8 +13,10 @@ take_first verdicts v = grind (arith, common_steps)
 pub any_more : (verdicts : List Verdict) (v : Verdict) → list_any is_end verdicts ≡ false → list_any is_end (verdicts ++ v ∷ []) ≡ is_end v
 any_more verdicts v none = grind (arith, none, list_any-append is_end verdicts (v ∷ []))
 
-pub found_more : (verdicts : List Verdict) (v : Verdict) (over : Bool) → list_any is_end verdicts ≡ false → over ≡ is_end v → AreFound over (verdicts ++ v ∷ [])
-found_more verdicts v over none e = record {
-  once = ap (list_any is_end) (take_first verdicts v) ∙ none;
-  open_yet = λ more. any_more verdicts v none ∙ (sym e ∙ more);
-}
+pub found_more : (verdicts : List Verdict) (v : Verdict) (old over : Bool) → AreFound old verdicts → old ≡ false → over ≡ is_end v → AreFound over (verdicts ++ v ∷ [])
+found_more verdicts v old over are was e =
+    let none : list_any is_end verdicts ≡ false = sym are.over_is ∙ was in
+    record {
+      once = ap (list_any is_end) (take_first verdicts v) ∙ none;
+      over_is = e ∙ sym (any_more verdicts v none);
+    }

@@ -63,4 +63,4 @@ EndOnce verdicts = list_any is_end (take (length verdicts - 1) verdicts) ≡ fal
 -- what was found so far, and whether an error ended the connection
 pub record AreFound (over : Bool) (verdicts : List Verdict) : Type 0 where
   pub once : EndOnce verdicts
-  pub open_yet : over ≡ false → list_any is_end verdicts ≡ false
+  pub over_is : over ≡ list_any is_end verdicts

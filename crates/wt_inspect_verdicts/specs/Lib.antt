@@ -1,4 +1,5 @@
 pub mod Findings
+pub mod Noting
 pub mod Players
 pub mod Streams
 pub mod Turns

@@ -16,11 +16,16 @@ pub(crate) struct Findings {
 }
 
 impl Findings {
-    ghost use Rattle.std.specs.Prelude.{◌≡◌, false};
+    ghost use Rattle.std.specs.Prelude.{◌≡◌, false, [], IfOk, OnErr, Some};
+    ghost use Rattle.wtp_webtransport.specs.Events.{told_of};
     ghost use Rattle.wt_inspect_verdicts.specs.Findings.{EndOnce, is_end};
+    ghost use Rattle.wt_inspect_verdicts.specs.Noting.{Adds, FindsNothing, FindsSaid, Notes};
 
     /// Creates no findings.
-    pub(crate) fn new(alloc: Global) -> Self {
+    pub(crate) fn new(alloc: Global) -> Self
+        ensures none { result.verdicts.items ≡ [] }
+        ensures open { result.is_over ≡ false }
+    {
         Findings {
             alloc,
             verdicts: Vec::new(alloc),
@@ -37,8 +42,11 @@ impl Findings {
 
     /// Notes what an event says of the peer.
     ///
-    /// Returns [`AllocError`] if allocation fails.
-    pub(crate) fn note(&mut self, place: Place, event: &Event<'_>) -> Result<(), AllocError> {
+    /// Returns [`AllocError`] if allocation fails; then nothing was found.
+    pub(crate) fn note(&mut self, place: Place, event: &Event<'_>) -> Result<(), AllocError>
+        ensures noted { IfOk result (λ _. Notes place (told_of event.now) self.old self.new) }
+        ensures kept { OnErr result (FindsNothing self.old self.new) }
+    {
         match finding_of(self.alloc, event)? {
             Some(finding) => self.find(place, finding),
             None => Ok(()),
@@ -47,8 +55,11 @@ impl Findings {
 
     /// Notes what was found, unless an error ended the connection before.
     ///
-    /// Returns [`AllocError`] if allocation fails.
-    pub(crate) fn find(&mut self, place: Place, finding: Finding) -> Result<(), AllocError> {
+    /// Returns [`AllocError`] if allocation fails; then nothing was found.
+    pub(crate) fn find(&mut self, place: Place, finding: Finding) -> Result<(), AllocError>
+        ensures found { IfOk result (λ _. FindsSaid place (Some finding) self.old self.new) }
+        ensures kept { OnErr result (FindsNothing self.old self.new) }
+    {
         if self.is_over {
             return Ok(());
         }
@@ -57,10 +68,14 @@ impl Findings {
     }
 
     /// Appends a verdict, which ends the connection or not.
+    ///
+    /// Returns [`AllocError`] if allocation fails; then nothing was found.
     #[tactic(auto, using(crate::proofs::FindingLemmas::found_more))]
     fn add(&mut self, verdict: Verdict, ends: bool) -> Result<(), AllocError>
         requires open { self.old.is_over ≡ false }
         requires ends { ends ≡ is_end verdict }
+        ensures added { IfOk result (λ _. Adds verdict self.old self.new) }
+        ensures kept { OnErr result (FindsNothing self.old self.new) }
     {
         self.verdicts.push(verdict)?;
         self.is_over = ends;
@@ -69,7 +84,8 @@ impl Findings {
 
     /// Returns what was found.
     pub(crate) fn into_verdicts(self) -> Vec<Verdict>
-        ensures { EndOnce result.items }
+        ensures once { EndOnce result.items }
+        ensures all { result.items ≡ self.verdicts.items }
     {
         self.verdicts
     }
