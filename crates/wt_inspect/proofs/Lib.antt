@@ -3,3 +3,4 @@ pub mod HexLemmas
 pub mod SheetLemmas
 pub mod ConnectionLemmas
 pub mod ViewLemmas
+pub mod SummaryLemmas

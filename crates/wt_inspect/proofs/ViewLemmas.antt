@@ -59,7 +59,7 @@ adds_then a b old mid new p q = λ entries has.
 pub adds_sent : (a b : Bool) (old new : Page) → a ≡ b → AddsEntries (sent_entry a ∷ []) old new → AddsEntries (sent_entry b ∷ []) old new
 adds_sent a b old new e adds = subst (λ (x : Bool). AddsEntries (sent_entry x ∷ []) old new) e adds
 
-keeps_then : (a : List Entry) (old mid new : Page) → KeepsEntries old mid → AddsEntries a mid new → AddsEntries a old new
+pub keeps_then : (a : List Entry) (old mid new : Page) → KeepsEntries old mid → AddsEntries a mid new → AddsEntries a old new
 keeps_then a old mid new p q = λ entries has. q entries (p entries has)
 
 pub keeps_both : (old mid new : Page) → KeepsEntries old mid → KeepsEntries mid new → KeepsEntries old new

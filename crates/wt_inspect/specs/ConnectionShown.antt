@@ -17,6 +17,7 @@ use Rattle.wt_inspect_connection.specs.declared.purpose.Purpose.TheVariants as p
 use Rattle.wtp_dynamic.specs.declared.error.EncoderStreamError.{EncoderStreamError}
 use Rattle.wt_inspect.specs.Connections.{AreSessions, IsTable, fault_of, is_critical_one, is_new}
 use Rattle.wt_inspect.specs.Connections.{parts_from, purpose_on, recorded_on, sent_of, worse}
+use Rattle.wt_inspect.specs.SessionsShown.{ShowsSessions}
 use Rattle.wt_inspect.specs.Sheets.{AreLinesOf}
 use Rattle.wt_inspect.specs.Shown.{IsView, Shows, shown_input}
 use Rattle.wt_inspect.specs.declared.arguments.Arguments.{Arguments}
@@ -117,7 +118,7 @@ ShowsParts c before (part ∷ parts) text status =
     × ShowsParts c (Some part.group) parts more other
 
 -- what is shown of these pieces of a connection by these arguments, in this order of their parts, and
--- the status
+-- then of its sessions; and the status
 pub record ShowsConnection (cmp : Part → Part → Ordering) (arguments : Arguments)
     (pieces : List Piece) (text : List ℕ) (status : ℕ) : Type 0 where
   pub known : Connection
@@ -129,4 +130,8 @@ pub record ShowsConnection (cmp : Part → Part → Ordering) (arguments : Argum
   pub sessions : AreSessions pieces known.sessions.now
   pub parts_are : IsPermutation (parts_from 0 pieces known.sessions.now pieces) parts
   pub order : IsSorted cmp parts
-  pub shows : ShowsParts known None parts text status
+  pub shown : List ℕ
+  pub rest : List ℕ
+  pub text_is : text ≡ shown ++ rest
+  pub shows : ShowsParts known None parts shown status
+  pub sums : ShowsSessions known rest

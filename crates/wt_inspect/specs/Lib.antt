@@ -8,6 +8,7 @@ pub mod Sheets
 pub mod Shown
 pub mod Showings
 pub mod Connections
+pub mod SessionsShown
 pub mod ConnectionShown
 pub mod VerdictsShown
 pub mod PageShown

@@ -8,7 +8,8 @@ use Rattle.wt_inspection.specs.Items.{IsInspection}
 use Rattle.wt_inspection.specs.Results.{Inspection}
 use Rattle.wt_inspection.specs.declared.reading.Recorded.{Recorded}
 use Rattle.wt_inspection_model.specs.declared.item.ending.End.TheVariants as end-is
-use Rattle.wt_inspection_views.specs.Html.{Entry, IsPageOf, sent_entry, verdict_entry}
+use Rattle.wt_inspection_views.specs.Html.{Entry, IsPageOf, sent_entry, summary}
+use Rattle.wt_inspection_views.specs.Html.{verdict_entry}
 use Rattle.wt_inspect_connection.specs.declared.list.Channel.{Channel}
 use Rattle.wt_inspect_connection.specs.declared.list.Sender.{Sender}
 use Rattle.wt_inspect_connection.specs.declared.list.Sender.TheVariants as sender-is
@@ -18,6 +19,7 @@ use Rattle.wt_inspect_verdicts.specs.Findings.{EndOnce}
 use Rattle.wt_inspect_verdicts.specs.declared.verdict.Verdict.{Verdict}
 use Rattle.wt_inspect.specs.ConnectionShown.{arguments_for, fault_in, payload_items, table_of}
 use Rattle.wt_inspect.specs.Connections.{AreSessions, IsTable, parts_from, recorded_on, sent_of}
+use Rattle.wt_inspect.specs.SessionsShown.{AreSummaries}
 use Rattle.wt_inspect.specs.Shown.{shown_input}
 use Rattle.wt_inspect.specs.Statuses.{end_status}
 use Rattle.wt_inspect.specs.VerdictsShown.{breaks_rule, has_fault_in}
@@ -25,6 +27,7 @@ use Rattle.wt_inspect.specs.declared.arguments.Arguments.{Arguments}
 use Rattle.wt_inspect.specs.declared.connection.Connection.{Connection}
 use Rattle.wt_inspect.specs.declared.connection.Known.{Known}
 use Rattle.wt_inspect.specs.declared.connection.page.View.{View}
+use Rattle.wt_inspect.specs.declared.connection.summary.Summary.{Summary}
 use Rattle.wt_inspect.specs.declared.connection.verdicts.Verdicts.{Verdicts}
 
 -- what these pieces say of their connection: the tables, the sessions, and the parts in their order
@@ -106,11 +109,16 @@ view_entry view = sent_entry (is_server view.piece.now.entry.sender)
 abbrev pub verdict_entries : List Verdict → List Entry
 verdict_entries = map (λ verdict. verdict_entry (breaks_rule verdict))
 
--- the entries of a page: the verdicts of the server, those of the client, and what each end sent
-abbrev pub page_entries : Verdicts → List View → List Entry
-page_entries verdicts views =
+-- the entries of how sessions went
+abbrev pub session_entries : List Summary → List Entry
+session_entries = map (λ _. summary)
+
+-- the entries of a page: the verdicts of the server, those of the client, how the sessions went, and
+-- what each end sent
+abbrev pub page_entries : Verdicts → List Summary → List View → List Entry
+page_entries verdicts summaries views =
     verdict_entries verdicts.server.items ++ verdict_entries verdicts.client.items
-    ++ map view_entry views
+    ++ session_entries summaries ++ map view_entry views
 
 -- ---- the status
 
@@ -124,11 +132,13 @@ fails c view =
 abbrev pub status_by : Connection → Verdicts → List View → ℕ
 status_by c verdicts views = if has_fault_in verdicts || list_any (fails c) views then 2 else 0
 
--- what is shown of these parts and verdicts: a page that has an entry for each, and no other
+-- what is shown of these parts and verdicts, and of the sessions: a page that has an entry for each, and
+-- no other
 abbrev pub ShowsViews : Connection → Verdicts → List Part → List ℕ → ℕ → Type 0
 ShowsViews c verdicts parts text status =
-    (views : List View) × AreViews c parts views × IsPageOf (page_entries verdicts views) text
-    × (status ≡ status_by c verdicts views)
+    (summaries : List Summary) × (views : List View)
+    × AreSummaries c summaries × AreViews c parts views
+    × IsPageOf (page_entries verdicts summaries views) text × (status ≡ status_by c verdicts views)
 
 -- the page of these pieces of a connection by these arguments, in this order of their parts, and the
 -- status

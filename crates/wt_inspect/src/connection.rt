@@ -12,11 +12,14 @@ ghost use Rattle.wt_inspect.specs.Sheets.{AddsTo, HasSheet, is_lines, lines_for}
 ghost use Rattle.wt_inspect.specs.Shown.{IsView, StopsShowing};
 ghost use Rattle.wt_inspect.specs.declared.arguments.Output.{Output as OutputValue};
 
+mod ending;
 mod heads;
 mod kinds;
 mod page;
 mod pieces;
+mod session_lines;
 mod sessions;
+mod summary;
 mod tables;
 mod verdicts;
 
@@ -39,9 +42,9 @@ use wt_inspect_connection::purpose::Purpose;
 use wt_inspection::{Content, End, Item, Recorded};
 use wtp_dynamic::error::EncoderStreamError;
 
-/// Shows the connection whose list, or whose folder with a file `list`, the arguments name, and what
-/// each end would have said of the other. Returns the exit status: 0, or 2 if something of it contains
-/// an error.
+/// Shows the connection whose list, or whose folder with a file `list`, the arguments name, how its
+/// sessions went, and what each end would have said of the other. Returns the exit status: 0, or 2 if
+/// something of it contains an error.
 ///
 /// # Errors
 ///
@@ -94,7 +97,7 @@ struct Connection<'a> {
     sessions: &'a [u64],
 }
 
-/// Shows these pieces of a connection. Returns the exit status.
+/// Shows these pieces of a connection, and how its sessions went. Returns the exit status.
 fn show_pieces<W: Write>(
     alloc: Global,
     arguments: &Arguments<'_>,
@@ -110,11 +113,13 @@ fn show_pieces<W: Write>(
 {
     let known = Known::read(alloc, pieces)?;
     let connection = known.connection(alloc, arguments, pieces);
-    connection.show_parts(known.parts.as_slice(), output)
+    let status = connection.show_parts(known.parts.as_slice(), output)?;
+    connection.show_sessions(output)?;
+    Ok(status)
 }
 
-/// Shows these pieces of a connection, and what each end would have said of the other, as a page.
-/// Returns the exit status.
+/// Shows these pieces of a connection, how its sessions went, and what each end would have said of the
+/// other, as a page. Returns the exit status.
 fn show_page<W: Write>(
     alloc: Global,
     arguments: &Arguments<'_>,

@@ -48,6 +48,8 @@ markup_bytes markup-is.FaultAt = codes "<a class=\"fault\" href=\"#"
 markup_bytes markup-is.RemarkAt = codes "<a class=\"remark\" href=\"#"
 markup_bytes markup-is.LinkEnd = codes "</a>"
 markup_bytes markup-is.VerdictsEnd = codes "</nav>"
+markup_bytes markup-is.Sessions = codes "<nav><h2>sessions</h2>"
+markup_bytes markup-is.SessionAt = codes "<a class=\"session\" href=\"#"
 markup_bytes markup-is.Group = codes "<section><h2>"
 markup_bytes markup-is.GroupNamed =
     codes "</h2><p class=\"ends\"><span>client</span><span>server</span></p>"
@@ -83,11 +85,12 @@ IsPage bytes =
 
 -- ---- the page of a connection
 
--- an entry of such a page: a verdict on a fault, another verdict, or what an end sent on a stream or
--- in a datagram
+-- an entry of such a page: a verdict on a fault, another verdict, how a session went, or what an end
+-- sent on a stream or in a datagram
 pub data Entry : Type 0 where
   fault : Entry
   remark : Entry
+  summary : Entry
   client : Entry
   server : Entry
 
@@ -95,6 +98,7 @@ pub data Entry : Type 0 where
 abbrev pub entry_of : Markup → List Entry
 entry_of markup-is.FaultAt = fault ∷ []
 entry_of markup-is.RemarkAt = remark ∷ []
+entry_of markup-is.SessionAt = summary ∷ []
 entry_of markup-is.Client = client ∷ []
 entry_of markup-is.Server = server ∷ []
 entry_of _ = []

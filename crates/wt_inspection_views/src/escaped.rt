@@ -32,7 +32,9 @@ pub fn add_escaped(line: &mut String, bytes: &[u8]) -> Result<(), AllocError>
 
 /// Appends a name: each byte other than printable ASCII, each blank and each backslash as `\xNN`. So
 /// a name is never written from right to left, and the first blank after it ends it.
-pub(crate) fn add_name(line: &mut String, name: &[u8]) -> Result<(), AllocError>
+///
+/// Returns [`AllocError`] if allocation fails.
+pub fn add_name(line: &mut String, name: &[u8]) -> Result<(), AllocError>
     ensures { IfOk result (λ _. string_bytes line.new
         ≡ string_bytes line.old ++ flat_map name_byte name.now) }
 {

@@ -6,6 +6,7 @@ ghost use Rattle.wt_inspection_views.specs.Objects.{AddsLines, AddsMembers, IsAt
 mod head;
 mod object;
 mod parts;
+mod session;
 mod verdict;
 
 use crate::split_warnings;
@@ -14,6 +15,7 @@ pub use head::{PartHead, add_part};
 use object::Object;
 pub use object::{Lines, Origin};
 use parts::{add_capsule, add_capsules, add_instruction, add_section, add_settings, add_signal};
+pub use session::{SessionClose, SessionLine, add_session_line};
 use std::alloc::{AllocError, Global};
 pub use verdict::{VerdictLine, add_verdict};
 use wt_inspection_model::item::{

@@ -10,6 +10,7 @@ ghost use Rattle.wt_inspect.specs.Shown.{StopsShowing};
 ghost use Rattle.wt_inspection_views.specs.Html.{AddsEntries, IsPageOf, KeepsEntries};
 
 use super::heads::{fault_words, group_heading, piece_heading};
+use super::summary::Summary;
 use super::verdicts::{Verdicts, breaks_rule, has_fault_in, words_of};
 use super::{Connection, is_new};
 use crate::failure::Failure;
@@ -36,7 +37,8 @@ pub(super) struct View<'a> {
 }
 
 impl Connection<'_> {
-    /// Writes these parts, and what each end would have said, as a page. Returns the exit status.
+    /// Writes these parts, how the sessions went, and what each end would have said, as a page. Returns
+    /// the exit status.
     pub(super) fn show_page<W: Write>(
         &self,
         parts: &[Part],
@@ -51,7 +53,9 @@ impl Connection<'_> {
     {
         let found = self.views_of(parts)?;
         let views = found.as_slice();
-        let page = self.page_of(verdicts, views)?;
+        let sums = self.summaries()?;
+        let summaries = sums.as_slice();
+        let page = self.page_of(verdicts, summaries, views)?;
         write(output, page.as_slice())?;
         flush(output)?;
         Ok(self.status_by(verdicts, views))
@@ -156,8 +160,14 @@ impl Connection<'_> {
     }
 
     /// Returns the page.
-    fn page_of(&self, verdicts: &Verdicts, views: &[View<'_>]) -> Result<Vec<u8>, AllocError>
-        ensures { IfOk result (λ page. IsPageOf (page_entries verdicts.now views.now) page.items) }
+    fn page_of(
+        &self,
+        verdicts: &Verdicts,
+        summaries: &[Summary],
+        views: &[View<'_>],
+    ) -> Result<Vec<u8>, AllocError>
+        ensures { IfOk result (λ page. IsPageOf (page_entries verdicts.now summaries.now views.now)
+            page.items) }
     {
         let title = title_of(self.alloc, self.arguments)?;
         let mut page = ConnectionPage::new(self.alloc, &overview_of(title.as_str(), views));
@@ -165,6 +175,7 @@ impl Connection<'_> {
         let client = verdicts.client.as_slice();
         add_verdicts(self.alloc, &mut page, Sender::Server, server)?;
         add_verdicts(self.alloc, &mut page, Sender::Client, client)?;
+        self.add_sessions(&mut page, summaries)?;
         self.add_views(&mut page, views)?;
         page.finish()
     }

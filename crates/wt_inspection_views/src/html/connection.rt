@@ -1,7 +1,8 @@
 //! A connection as one page of HTML.
 ghost use Rattle.std.specs.Prelude.{◌≡◌, ℕ, List, [], ◌∷◌, IfOk};
 ghost use Rattle.wt_inspection_views.specs.Html.{AddsEntries, Entry, HasEntries, IsPageOf};
-ghost use Rattle.wt_inspection_views.specs.Html.{KeepsEntries, entry_of, sent_entry, verdict_entry};
+ghost use Rattle.wt_inspection_views.specs.Html.{KeepsEntries, entry_of, sent_entry, summary};
+ghost use Rattle.wt_inspection_views.specs.Html.{verdict_entry};
 
 use super::page::{Fragment, Markup, Page};
 use super::{MAX_ITEMS, MAX_SHOWN_LEN, add_bytes, add_end, add_items, add_others};
@@ -65,7 +66,7 @@ pub struct Sent<'a> {
 enum Begun {
     /// The verdicts, of which there are none so far.
     NoVerdict,
-    /// The verdicts.
+    /// The verdicts, or the sessions.
     Verdicts,
     /// A group.
     Group,
@@ -73,8 +74,8 @@ enum Begun {
     Stream,
 }
 
-/// A page of a connection, to which its verdicts are added first, and then its groups, streams and
-/// what each end sent on them. It needs no other file.
+/// A page of a connection, to which its verdicts are added first, then how its sessions went, and then
+/// its groups, streams and what each end sent on them. It needs no other file.
 ///
 /// At the top is the title, with the numbers of streams, datagrams, bytes and items. What the client
 /// sent on a stream is on the left, and what the server sent on the right, each as on the page of one
@@ -118,6 +119,26 @@ impl ConnectionPage {
     {
         self.begun = Begun::Verdicts;
         self.page.markup(begin_verdict(is_fault));
+        self.page
+            .fragment(verdict_fragment(self.alloc, place, words));
+    }
+
+    /// Ends the verdicts, and begins how the sessions went.
+    pub fn sessions(&mut self)
+        ensures { KeepsEntries self.old.page self.new.page }
+    {
+        let mut fragment = Fragment::new(self.alloc);
+        end_group(&mut fragment, self.begun);
+        fragment.markup(Markup::Sessions);
+        self.page.fragment(fragment);
+        self.begun = Begun::Verdicts;
+    }
+
+    /// Adds how a session went, which is the link to this place.
+    pub fn session(&mut self, place: Anchor, words: &str)
+        ensures { AddsEntries (summary ∷ []) self.old.page self.new.page }
+    {
+        self.page.markup(Markup::SessionAt);
         self.page
             .fragment(verdict_fragment(self.alloc, place, words));
     }
@@ -216,7 +237,7 @@ fn overview_fragment(alloc: Global, overview: &Overview<'_>) -> Fragment {
     fragment
 }
 
-/// Returns what comes after the beginning of a verdict.
+/// Returns what comes after the beginning of a verdict, or of how a session went.
 fn verdict_fragment(alloc: Global, place: Anchor, words: &str) -> Fragment {
     let mut fragment = Fragment::new(alloc);
     add_name(&mut fragment, place);
@@ -272,7 +293,7 @@ fn add_name(fragment: &mut Fragment, place: Anchor) {
     fragment.markup(Markup::TagEnd);
 }
 
-/// Ends the verdicts or the group.
+/// Ends the verdicts, the sessions or the group.
 fn end_group(fragment: &mut Fragment, begun: Begun) {
     match begun {
         Begun::NoVerdict => {

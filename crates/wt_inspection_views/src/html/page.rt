@@ -123,10 +123,14 @@ pub(super) enum Markup {
     FaultAt,
     /// Begins another verdict: a link to the place whose name follows.
     RemarkAt,
-    /// Ends a verdict.
+    /// Ends a verdict, or how a session went.
     LinkEnd,
-    /// Ends the verdicts.
+    /// Ends the verdicts, or the sessions.
     VerdictsEnd,
+    /// Begins the sessions.
+    Sessions,
+    /// Begins how a session went: a link to the place whose name follows.
+    SessionAt,
     /// Begins a group with its heading.
     Group,
     /// Ends that heading, and names the ends on both sides.
@@ -190,6 +194,8 @@ impl Markup {
             Markup::RemarkAt => "<a class=\"remark\" href=\"#",
             Markup::LinkEnd => "</a>",
             Markup::VerdictsEnd => "</nav>",
+            Markup::Sessions => "<nav><h2>sessions</h2>",
+            Markup::SessionAt => "<a class=\"session\" href=\"#",
             Markup::Group => "<section><h2>",
             Markup::GroupNamed => {
                 "</h2><p class=\"ends\"><span>client</span><span>server</span></p>"
