@@ -5,7 +5,8 @@ say.
     tools/inspect_lists.py [DIR]
 
 DIR (default: tools/recordings.d) has the recordings and an index.tsv, from which comes what is
-expected: of each stream and datagram the same as in tools/check-recordings, and where it is shown.
+expected: of each stream and datagram the same as in tools/check-recordings, where it is shown, and
+how each session went.
 Each connection is read twice from its list (tools/recorded_lists.py): with --open, as if no stream
 had ended, and without, as if all but the control streams and those of QPACK had. The program is
 built once, without proof, or is the one named by the environment variable PROGRAM. Ends with a line
@@ -18,8 +19,10 @@ from pathlib import Path
 
 from outcomes import Outcomes
 from program_cases import TOP, Case, run_cases
-from recorded_checks import compare, compare_payload
+from recorded_checks import CLOSE, compare, compare_payload, wanted_capsules
 from recorded_lists import connections_of, list_of
+from session_summaries import DATAGRAMS, as_found, is_interim, is_summary, summaries_of
+from session_summaries import Recording as RecordedBytes
 from verdict_rows import NOTES
 
 # The kinds of the index that last as long as the connection.
@@ -108,9 +111,38 @@ class Wanted:
             "file": file,
         }
 
+    def summaries(self, is_open):
+        """Returns how each session went: with the fields and the first close of the index, and the
+        rest as an independent reader finds it."""
+        by_message = {(entry.stream, entry.sender): entry.recording for entry in self.entries}
+        found = summaries_of(RecordedBytes([self.bytes_of(one) for one in self.entries]), is_open)
+        for summary in found:
+            for end, said in summary.ends():
+                recording = by_message[summary.session, end]
+                said.fields = final_fields(recording.said)
+                closes = (one[1:] for one in wanted_capsules(recording.found) if one[0] == CLOSE)
+                said.close = next(closes, None)
+        return [summary.shown() for summary in found]
+
+    def bytes_of(self, entry):
+        """Returns the stream of a piece, who sent it, and its bytes."""
+        stream = DATAGRAMS if entry.stream is None else entry.stream
+        return stream, entry.sender, (self.folder / entry.recording.file).read_bytes()
+
     def is_open(self, entry, is_open):
         """Returns whether more bytes may follow a piece."""
         return is_open or self.purpose(entry) in CRITICAL
+
+
+def final_fields(said):
+    """Returns the fields of the first header section that is not of an interim response, as the
+    index has them, with one character for each byte."""
+    sections = ([encoded(line) for line in thing["HEADERS"]] for thing in said if "HEADERS" in thing)
+    return next((fields for fields in sections if not is_interim(fields)), None)
+
+
+def encoded(line):
+    return [part.encode("latin-1") for part in line]
 
 
 def split_by(items, origins):
@@ -169,7 +201,11 @@ def connection_faults(wanted, case, is_open):
     items = [json.loads(line) for line in case.output.splitlines()]
     # (tools/inspect_verdicts.py compares these)
     verdicts = [item["verdict"] for item in items if "verdict" in item]
-    items = [item for item in items if "verdict" not in item]
+    sessions = [as_found(item) for item in items if is_summary(item)]
+    summaries = wanted.summaries(is_open)
+    fault = None if sessions == summaries else f"wanted {summaries}, found {sessions}"
+    yield "sessions", fault
+    items = [item for item in items if "item" in item]
     pieces = list(wanted.pieces())
     *found, rest = split_by(items, [origin for _, origin in pieces])
     status = 0 if NOTES.issuperset(verdicts) else 2

@@ -1,10 +1,12 @@
 #!/usr/bin/env -S python3 -B
-"""Tests what `wt_inspect connection` says of the rules that a connection breaks across its streams.
+"""Tests what `wt_inspect connection` says of the rules that a connection breaks across its streams, and
+of how its sessions went.
 
     tools/inspect_verdicts.py [DIR]
 
-Each row of tools/verdict_rows.py is a list of recordings that are made for it. Then come the
-connections of DIR (default: tools/recordings.d), whose streams are still open: no real stack
+Each row of tools/verdict_rows.py and tools/summary_rows.py is a list of recordings that are made for
+it. The sessions of each are those that an independent reader finds (tools/session_summaries.py), and
+those of the latter rows are written there, too. Then come the connections of DIR (default: tools/recordings.d), whose streams are still open: no real stack
 breaks a rule. The program is built once, without proof, or is the one named by the environment
 variable PROGRAM. Ends with a line 'N passed, M failed'.
 """
@@ -18,6 +20,9 @@ from pathlib import Path
 from outcomes import Outcomes
 from program_cases import TOP, Case, run_cases
 from recorded_lists import connections_of, list_of
+from session_summaries import Recording, as_found, is_summary, summaries_of
+from summary_rows import LINES
+from summary_rows import ROWS as SUMMARY_ROWS
 from verdict_rows import CLIENT, NOTES, ROWS, SERVER
 
 MARK = "\u258c "
@@ -80,9 +85,33 @@ def text_fault(case, verdicts):
     return None if is_right else f"the text {lines}"
 
 
+def sessions_fault(row, as_json, as_text):
+    """Returns what is wrong with what is said of the sessions of a row, in JSON before the verdicts,
+    and in the text as the part before them."""
+    recording = Recording([(at, end, content) for (at, end), content in row.sent.items()])
+    wanted = summaries_of(recording, row.options == "--open")
+    items = [json.loads(line) for line in as_json.output.splitlines()]
+    last = [item for item in items if "item" not in item]
+    found = [as_found(item) for item in last[: len(wanted)] if is_summary(item)]
+    if found != [one.shown() for one in wanted] or any(map(is_summary, last[len(wanted) :])):
+        return f"wanted {[one.shown() for one in wanted]}, found {last}"
+    words = [one.words() for one in wanted]
+    if words != LINES.get(row.name, words):
+        return f"the reader finds {words}"
+    lines = ["== sessions", *words] if words else []
+    part = "".join(f"{MARK}{line}\n" for line in [*lines, "== verdicts"])
+    text = as_text.output.decode()
+    is_right = f"\n{part}" in text and text.count("== sessions") == min(1, len(words))
+    return None if is_right else f"wanted {part}, found {text}"
+
+
 def row_fault(row, as_json, as_text):
     """Returns what is wrong with a row."""
+    if fault := sessions_fault(row, as_json, as_text):
+        return fault
     found = verdicts_in(as_json)
+    if row.name in LINES:
+        return text_fault(as_text, found)
     if found != row.verdicts:
         return f"wanted {row.verdicts}, found {found}; {as_json.errors}"
     if row.status() == 2 and (as_json.status, as_text.status) != (2, 2):
@@ -104,7 +133,7 @@ def main():
         place = Path(place)
         place.chmod(0o755)
         cases = {}
-        for row in ROWS:
+        for row in [*ROWS, *SUMMARY_ROWS]:
             content, options = write_list(place, row), row.options.split()
             cases[row.name, "json"] = Case(row.name, content, ["connection", "--json", *options])
             cases[row.name, "text"] = Case(f"{row.name}-text", content, ["connection", *options])
@@ -113,7 +142,7 @@ def main():
             content = list_of(folder, entries).encode()
             cases[name, "json"] = Case(name, content, ["connection", "--json", "--open"])
         run_cases("wt_inspect", list(cases.values()))
-    for row in ROWS:
+    for row in [*ROWS, *SUMMARY_ROWS]:
         fault = row_fault(row, cases[row.name, "json"], cases[row.name, "text"])
         outcomes.add(row.name, fault)
     for name in connections:

@@ -83,6 +83,8 @@ SHOWN_SESSION = SHOWN_CONTROLS + """\
         :authority = a
         :path = /
 54    end
+== sessions
+session 0: / at a, status 200, 2 streams, 1 datagram; closed by the client: code 7, "bye"
 == verdicts
 the client closed the session: stream 0: code 7, "bye"
 """
