@@ -168,7 +168,7 @@ class Summary:
         found["status"] = number_of(self.status())
         found |= {"streams": self.streams, "datagrams": self.datagrams}
         found |= {f"{end}_{state}": at for end, state, at in self.broken()}
-        found |= {"end": ending.encode(), "by": by and by.encode()}
+        found |= {"end": ending.encode(), "ended_by": by and by.encode()}
         if ending == "closed":
             first, *others = self.closes()
             found |= close_of(*first)
@@ -219,7 +219,7 @@ class Summary:
 
 def close_of(end, code, reason):
     """Returns the members of a close."""
-    return {"by": end.encode(), "code": code, "reason": reason}
+    return {"closed_by": end.encode(), "code": code, "reason": reason}
 
 
 def closed_words(end, code, reason):

@@ -78,8 +78,8 @@ blue, faults and broken rules red; not if NO_COLOR is set, or TERM is dumb.
 With --json each line is an object. Its member 'item' says what it is: frame,
 capsule, datagram, warning, end and others. Of a connection, 'on_stream' and
 'from' are the ID of the stream and the end that sent it. The last objects have
-'session' or 'verdict'; a verdict has 'by' (who judges), 'stream', 'code' and
-'why'. INSPECTOR.md, which comes with the program, has all members and rules.
+'session' or 'verdict'; a verdict has 'by' (who judges), 'stream', 'why', and the
+'code' of an error. INSPECTOR.md, which comes with the program, has all members.
 
 Other examples:
   wt_inspect uni --open control.bin                 settings, and what is wrong

@@ -21,31 +21,31 @@ pub(super) const HEAD: &str =
     tant}main:has(>.bytes){display:grid;grid-template-columns:max-content minmax(0,1fr);gap:2rem;a\
     lign-items:start}pre{margin:0;font:inherit}.bytes{max-height:94vh;overflow:auto;scrollbar-gutt\
     er:stable;position:sticky;top:1rem}.bytes>span{display:block}h2{margin:1.5rem 0 .5rem;border-b\
-    ottom:1px solid;font:inherit;font-weight:bold}nav>h2{margin-top:0}nav>*{overflow-wrap:anywhere\
-    }nav>a{display:block;color:inherit;padding-left:4ch;text-indent:-4ch}nav>.fault,nav>.remark{bo\
-    rder-left:3px solid;padding-left:calc(4ch + .5rem)}.remark{color:light-dark(#00695c,#5fd3bc)}n\
-    av>.remark{border-left-style:dotted}.ends,.stream,section:has(>.paired){display:grid;grid-temp\
-    late-columns:repeat(2,minmax(0,1fr));gap:0 2rem;align-items:start}.ends{position:sticky;top:0;\
-    z-index:1;background:Canvas;border-bottom:1px dotted;margin-bottom:.5rem}.stream{margin-bottom\
-    :1rem}.stream:target{outline:2px solid;outline-offset:.25rem}.server{grid-column:2}section:has\
-    (>.paired)>*{grid-column:1/-1}section:has(>.paired)>.paired{display:block;grid-column:1;order:\
-    1}section:has(>.paired)>.paired:has(>.server){grid-column:2;order:2}section:has(>.paired){marg\
-    in-bottom:-1rem}section:has(>.paired)::after{content:\"\";grid-column:1/-1;order:3}section>.pa\
-    ired.decoder{order:4}section>.paired.decoder:has(>.server){order:5}h3{margin:0;font:inherit;fo\
-    nt-style:italic;overflow-wrap:anywhere;padding-left:4ch;text-indent:-4ch}article>.fault{white-\
-    space:pre-wrap;overflow-wrap:anywhere}.folded[open]{position:sticky;bottom:0;background:Canvas\
-    }.folded>summary{padding-left:calc(.5rem + 3px);cursor:pointer}.folded>.bytes{max-height:35vh;\
-    padding-left:calc(.5rem + 3px);position:static}i{font-style:normal;color:light-dark(#0050a0,#7\
-    ab8ff)}.items>*{white-space:pre-wrap;overflow-wrap:anywhere;border-left:3px solid transparent;\
-    padding-left:.5rem}.items summary,.items span{display:block;padding-left:16ch;text-indent:-16c\
-    h}details:has(>summary+span)>summary{cursor:pointer}details:not([open]):has(>summary+span)>sum\
-    mary::after{content:\"...\"}.on{background:light-dark(#ffe08a,#5c4a00)}b{color:light-dark(#8a4\
-    b00,#ffb454);font-weight:normal}.fault{color:light-dark(#b00020,#ff7b88);border-color:currentC\
-    olor;font-weight:bold}@media print{.bytes,.ends{max-height:none;overflow:visible;position:stat\
-    ic}}@media(max-width:68rem){main:has(>.bytes),.stream{grid-template-columns:minmax(0,1fr);gap:\
-    1rem}.server{grid-column:auto}.ends{display:none}section:has(>.paired){display:block;margin-bo\
-    ttom:0}main>.items{order:-1}main>.bytes{top:auto;bottom:0;max-height:35vh;border-top:1px solid\
-    ;background:Canvas}}</style></head><body><header><h1>";
+    ottom:1px solid;font:inherit;font-weight:bold}nav>h2{margin-top:0}nav+nav{margin-top:1.5rem}na\
+    v>*{overflow-wrap:anywhere}nav>a{display:block;color:inherit;padding-left:4ch;text-indent:-4ch\
+    }nav>.fault,nav>.remark{border-left:3px solid;padding-left:calc(4ch + .5rem)}.remark{color:lig\
+    ht-dark(#00695c,#5fd3bc)}nav>.remark{border-left-style:dotted}.ends,.stream,section:has(>.pair\
+    ed){display:grid;grid-template-columns:repeat(2,minmax(0,1fr));gap:0 2rem;align-items:start}.e\
+    nds{position:sticky;top:0;z-index:1;background:Canvas;border-bottom:1px dotted;margin-bottom:.\
+    5rem}.stream{margin-bottom:1rem}.stream:target{outline:2px solid;outline-offset:.25rem}.server\
+    {grid-column:2}section:has(>.paired)>*{grid-column:1/-1}section:has(>.paired)>.paired{display:\
+    block;grid-column:1;order:1}section:has(>.paired)>.paired:has(>.server){grid-column:2;order:2}\
+    section:has(>.paired){margin-bottom:-1rem}section:has(>.paired)::after{content:\"\";grid-colum\
+    n:1/-1;order:3}section>.paired.decoder{order:4}section>.paired.decoder:has(>.server){order:5}h\
+    3{margin:0;font:inherit;font-style:italic;overflow-wrap:anywhere;padding-left:4ch;text-indent:\
+    -4ch}article>.fault{white-space:pre-wrap;overflow-wrap:anywhere}.folded[open]{position:sticky;\
+    bottom:0;background:Canvas}.folded>summary{padding-left:calc(.5rem + 3px);cursor:pointer}.fold\
+    ed>.bytes{max-height:35vh;padding-left:calc(.5rem + 3px);position:static}i{font-style:normal;c\
+    olor:light-dark(#0050a0,#7ab8ff)}.items>*{white-space:pre-wrap;overflow-wrap:anywhere;border-l\
+    eft:3px solid transparent;padding-left:.5rem}.items summary,.items span{display:block;padding-\
+    left:16ch;text-indent:-16ch}details:has(>summary+span)>summary{cursor:pointer}details:not([ope\
+    n]):has(>summary+span)>summary::after{content:\"...\"}.on{background:light-dark(#ffe08a,#5c4a0\
+    0)}b{color:light-dark(#8a4b00,#ffb454);font-weight:normal}.fault{color:light-dark(#b00020,#ff7\
+    b88);border-color:currentColor;font-weight:bold}@media print{.bytes,.ends{max-height:none;over\
+    flow:visible;position:static}}@media(max-width:68rem){main:has(>.bytes),.stream{grid-template-\
+    columns:minmax(0,1fr);gap:1rem}.server{grid-column:auto}.ends{display:none}section:has(>.paire\
+    d){display:block;margin-bottom:0}main>.items{order:-1}main>.bytes{top:auto;bottom:0;max-height\
+    :35vh;border-top:1px solid;background:Canvas}}</style></head><body><header><h1>";
 
 /// The page between its title and what it shows, which `tools/html-page` makes.
 pub(super) const MAIN: &str =

@@ -82,7 +82,7 @@ fn add_ended(object: &mut Object, line: &SessionLine<'_>)
 {
     object.add_text("end", line.end);
     match line.by {
-        Some(by) => object.add_text("by", by),
+        Some(by) => object.add_text("ended_by", by),
         None => {}
     }
     match line.close {
@@ -154,7 +154,7 @@ fn add_place(object: &mut Object, place: Option<(&str, u64)>)
 fn add_close(object: &mut Object, close: SessionClose<'_>)
     ensures { AddsMembers object.old object.new }
 {
-    object.add_text("by", close.by);
+    object.add_text("closed_by", close.by);
     object.add_number("code", close.code);
     object.add_text("reason", close.reason)
 }
