@@ -228,6 +228,18 @@ CONNECTION = [
         {**CONTROLS, **ASKED, (6, CLIENT): bytes.fromhex(OF_CLIENT)},
         [error(SERVER, 6, CREATION)],
     ),
+    # (6.2.1; RFC 9000, section 2.1: the stream with the lower ID was opened first, and its SETTINGS
+    # count, by which the request for a session is valid or malformed)
+    Row(
+        "a-second-control-stream-of-the-server",
+        {**OPEN, (7, SERVER): control()},
+        [error(CLIENT, 7, CREATION)],
+    ),
+    Row(
+        "a-second-control-stream-that-is-listed-first",
+        {(7, SERVER): control(), **OPEN},
+        [error(CLIENT, 7, CREATION)],
+    ),
     Row(
         "no-first-settings",
         {**CONTROLS, **ASKED, (2, CLIENT): b"\0" + goaway(0)},

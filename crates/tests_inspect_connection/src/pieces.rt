@@ -17,10 +17,30 @@ static RECORDED: [(Channel, Sender, &[u8]); 4] = [
     (Channel::Stream(3), Sender::Server, b"\x00\x04\x00"),
 ];
 
+/// What was recorded of a server that opened two control streams, which is an error.
+static CONTROLS: [(Channel, Sender, &[u8]); 2] = [
+    (Channel::Stream(3), Sender::Server, b"\x00\x04\x00"),
+    (Channel::Stream(7), Sender::Server, b"\x00\x04\x02\x33\x01"),
+];
+
+/// The same in the other order.
+static CONTROLS_REVERSED: [(Channel, Sender, &[u8]); 2] = [
+    (Channel::Stream(7), Sender::Server, b"\x00\x04\x02\x33\x01"),
+    (Channel::Stream(3), Sender::Server, b"\x00\x04\x00"),
+];
+
 /// Returns what was recorded as pieces.
 fn recorded(alloc: Global) -> Result<Vec<Piece<'static>>, AllocError> {
+    pieces_of(alloc, &RECORDED)
+}
+
+/// Returns these as pieces.
+fn pieces_of(
+    alloc: Global,
+    recorded: &[(Channel, Sender, &'static [u8])],
+) -> Result<Vec<Piece<'static>>, AllocError> {
     let mut pieces = Vec::new(alloc);
-    for (channel, sender, bytes) in &RECORDED {
+    for (channel, sender, bytes) in recorded {
         let entry = Entry {
             channel: *channel,
             sender: *sender,
@@ -50,6 +70,19 @@ fn streams_are_known_by_the_end_that_opened_them(rt: HostRuntime) -> Result<(), 
         false,
         "control stream of the client",
     );
+    Ok(())
+}
+
+#[test]
+fn of_two_control_streams_the_first_one_opened_counts(rt: HostRuntime) -> Result<(), AllocError> {
+    for (recorded, order) in [
+        (&CONTROLS, "the first one first"),
+        (&CONTROLS_REVERSED, "the first one last"),
+    ] {
+        let pieces = pieces_of(rt.alloc(), recorded)?;
+        let control = stream_for(pieces.as_slice(), Sender::Server, Purpose::Control);
+        assert_same(&rt, control.map(|bytes| bytes.len()), Some(3), order);
+    }
     Ok(())
 }
 

@@ -1,6 +1,6 @@
 -- What was recorded of a connection: the entries of a list, and the bytes of their files.
-use Rattle.std.specs.Prelude.{ℕ, ◌==◌, ◌&&◌, Bool, true, false, if◌then◌else◌}
-use Rattle.std.specs.Prelude.{List, [], ◌∷◌, Option, Some, None}
+use Rattle.std.specs.Prelude.{ℕ, nat_lt, ◌==◌, ◌&&◌, Bool, true, false, if◌then◌else◌}
+use Rattle.std.specs.Prelude.{List, [], ◌∷◌, Option, Some, None, option_map}
 use Rattle.wtp_core.specs.Varint.{number_at}
 use Rattle.wt_inspect_connection.specs.Lists.{has_opened, is_same_sender}
 use Rattle.wt_inspect_connection.specs.Parts.{group_by_quarter, group_of, role_of}
@@ -41,22 +41,34 @@ is_same_critical purpose-is.Encoder purpose-is.Encoder = true
 is_same_critical purpose-is.Decoder purpose-is.Decoder = true
 is_same_critical _ _ = false
 
--- this end sent these bytes on its stream for this
-abbrev pub is_sent_for : Sender → Purpose → List ℕ → Sender → Channel → Bool
-is_sent_for sender purpose bytes by (channel-is.Stream id) =
-    is_same_sender by sender && is_same_critical (purpose_of id bytes) purpose
-is_sent_for _ purpose bytes by channel-is.Datagram = false
+-- the ID of the stream and these bytes, if this end sent them there and the stream is for this
+abbrev pub sent_on : Sender → Purpose → List ℕ → Sender → Channel → Option (ℕ × List ℕ)
+sent_on sender purpose bytes by (channel-is.Stream id) =
+    if is_same_sender by sender && is_same_critical (purpose_of id bytes) purpose
+    then Some (id, bytes) else None
+sent_on _ _ _ _ channel-is.Datagram = None
 
-abbrev pub is_for : Sender → Purpose → Piece → Bool
-is_for sender purpose piece =
-    is_sent_for sender purpose piece.bytes.items piece.entry.sender piece.entry.channel
+-- the ID of an end's stream for this, and what it sent there, if a piece is that
+abbrev pub sent_for : Sender → Purpose → Piece → Option (ℕ × List ℕ)
+sent_for sender purpose piece =
+    sent_on sender purpose piece.bytes.items piece.entry.sender piece.entry.channel
 
--- what an end sent on its stream for this, a control stream or one of QPACK, if it was recorded
+-- of two streams the one with the lower ID, which was opened first (RFC 9000, section 2.1)
+abbrev pub first_of : Option (ℕ × List ℕ) → Option (ℕ × List ℕ) → Option (ℕ × List ℕ)
+first_of None other = other
+first_of (Some one) None = Some one
+first_of (Some one) (Some other) = if nat_lt other.0 one.0 then Some other else Some one
+
+-- the ID of the first stream that an end opened for this, and what it sent there
+abbrev pub first_for : Sender → Purpose → List Piece → Option (ℕ × List ℕ)
+first_for _ _ [] = None
+first_for sender purpose (piece ∷ pieces) =
+    first_of (sent_for sender purpose piece) (first_for sender purpose pieces)
+
+-- what an end sent on its stream for this, a control stream or one of QPACK, if it was recorded;
+-- that on the stream with the lowest ID, if it sent several
 abbrev pub stream_for : Sender → Purpose → List Piece → Option (List ℕ)
-stream_for _ _ [] = None
-stream_for sender purpose (piece ∷ pieces) =
-    if is_for sender purpose piece then Some piece.bytes.items
-    else stream_for sender purpose pieces
+stream_for sender purpose pieces = option_map (λ one. one.1) (first_for sender purpose pieces)
 
 abbrev pub session_in_purpose : Purpose → Option ℕ
 session_in_purpose (purpose-is.Session id) = Some id

@@ -2,7 +2,7 @@
 ghost use Rattle.std.specs.Prelude.{◌≡◌, IfOk, option_map};
 ghost use Rattle.wt_inspect_connection.specs.Pieces.{is_opening, opening_bytes, part_of, purpose_in};
 ghost use Rattle.wt_inspect_connection.specs.Pieces.{session_in_group, session_in_purpose, session_of};
-ghost use Rattle.wt_inspect_connection.specs.Pieces.{is_for, is_same_critical, session_ids};
+ghost use Rattle.wt_inspect_connection.specs.Pieces.{first_of, is_same_critical, sent_for, session_ids};
 ghost use Rattle.wt_inspect_connection.specs.Pieces.{stream_for};
 
 use crate::list::{Channel, Entry, Sender, is_same_sender};
@@ -49,28 +49,46 @@ pub fn purpose_in(pieces: &[Piece<'_>], id: u64) -> Purpose
 }
 
 /// Returns what an end sent on its stream for this, a control stream or one of QPACK, or `None` if
-/// that was not recorded.
+/// that was not recorded. If the end opened several, which is an error, the one with the lowest ID
+/// counts, which was opened first (RFC 9000, section 2.1).
+#[tactic(auto, using(crate::proofs::PieceLemmas::first_assoc, crate::proofs::PieceLemmas::first_alone))]
 pub fn stream_for<'p>(pieces: &'p [Piece<'_>], sender: Sender, purpose: Purpose) -> Option<&'p [u8]>
     ensures { option_map (λ bytes. bytes.now) result ≡ stream_for sender purpose pieces.now }
 {
+    let mut first = None;
     for piece in pieces {
-        if is_for(sender, purpose, piece) {
-            return Some(piece.bytes.as_slice());
-        }
+        first = first_of(first, sent_for(sender, purpose, piece));
     }
-    None
+    let (_, bytes) = first?;
+    Some(bytes)
 }
 
-/// Returns whether a piece is what an end sent on its stream for this.
-fn is_for(sender: Sender, purpose: Purpose, piece: &Piece<'_>) -> bool
-    ensures { result ≡ is_for sender purpose piece.now }
+/// Returns the one with the lower ID of two streams, each with its ID and its bytes.
+fn first_of<'p>(
+    one: Option<(u64, &'p [u8])>,
+    other: Option<(u64, &'p [u8])>,
+) -> Option<(u64, &'p [u8])>
+    ensures { option_map (λ s. (s.0, s.1.now)) result
+        ≡ first_of (option_map (λ s. (s.0, s.1.now)) one.entry)
+        (option_map (λ s. (s.0, s.1.now)) other.entry) }
 {
+    match (one, other) {
+        (Some((one_id, _)), Some((other_id, _))) if other_id < one_id => other,
+        (None, _) => other,
+        _ => one,
+    }
+}
+
+/// Returns the ID of an end's stream for this, and what it sent there, if a piece is that.
+fn sent_for<'p>(sender: Sender, purpose: Purpose, piece: &'p Piece<'_>) -> Option<(u64, &'p [u8])>
+    ensures { option_map (λ s. (s.0, s.1.now)) result ≡ sent_for sender purpose piece.now }
+{
+    let bytes = piece.bytes.as_slice();
     match piece.entry.channel {
-        Channel::Stream(id) => {
-            is_same_sender(piece.entry.sender, sender)
-                && is_same_critical(purpose_of(id, piece.bytes.as_slice()), purpose)
-        }
-        Channel::Datagram => false,
+        Channel::Stream(id)
+            if is_same_sender(piece.entry.sender, sender)
+                && is_same_critical(purpose_of(id, bytes), purpose) => { Some((id, bytes)) }
+        _ => None,
     }
 }
 
