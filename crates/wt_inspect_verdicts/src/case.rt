@@ -119,10 +119,25 @@ impl<'a> Case<'a> {
     /// type.
     fn limit(&self, player: &mut Player<'a>, id: u64, purpose: Purpose, bytes: &[u8]) {
         match purpose {
-            Purpose::Encoder => player.set_encoder(id),
+            Purpose::Encoder if self.is_first_encoder(id) => player.set_encoder(id),
             Purpose::Decoder if !self.has_decoder => player.limit(id, size_of_type(bytes)),
             _ => {}
         }
+    }
+
+    /// Returns whether the peer opened no encoder stream before this one.
+    fn is_first_encoder(&self, id: u64) -> bool {
+        for piece in self.pieces {
+            match piece.entry.channel {
+                Channel::Stream(other) if other < id && is_of_peer(self.by, piece) => {
+                    if purpose_in(self.pieces, other) == Purpose::Encoder {
+                        return false;
+                    }
+                }
+                _ => {}
+            }
+        }
+        true
     }
 
     /// Adds what the end that judges sent: the requests that the peer sent nothing on, or the answers.
