@@ -1,5 +1,5 @@
 -- Lines without characters that need an escape: escaped bytes contain none.
-use Rattle.std.proofs.Common.{arith, suc, inl, inr, ◌≡◌, ℕ, ◌+◌, ◌<◌, ◌≤◌, ◌/◌, ◌%◌, ◌^◌, ◌&&◌, not, cond, Bool, true, false, nat_eq, nat_lt, nat_le, List, [], ◌∷◌, ◌++◌, get_or, refl, sym, ap, subst}
+use Rattle.std.proofs.Common.{arith, suc, decimal, length, inl, inr, ◌≡◌, ℕ, ◌+◌, ◌<◌, ◌≤◌, ◌/◌, ◌%◌, ◌^◌, ◌&&◌, not, cond, Bool, true, false, nat_eq, nat_lt, nat_le, List, [], ◌∷◌, ◌++◌, get_or, refl, sym, ap, subst}
 use Rattle.std.specs.List.{flat_map, list_any}
 use Rattle.std.specs.Str.{NonePass, NoCharPasses}
 use Rattle.std.proofs.lemmas.Bool.{and_parts, and_left, and_right, or_from, or_parts, ltb-true, ltb-false, leb-true, leb-false, lt-leb}
@@ -7,6 +7,8 @@ use Rattle.std.proofs.lemmas.Str.{encode_ascii, NoCharPasses-nil, NoCharPasses-a
 use Rattle.wt_inspection_views.specs.Escaped.{AreLines, ArePlain, IsLine, IsPlain, IsShown, escaped_byte, is_other_byte, is_plain_byte, digit_of, marked_line}
 use Rattle.wt_inspection_views.specs.Characters.{needs_escape}
 use Rattle.std.proofs.lemmas.List.{flat_map_more}
+use Rattle.std.proofs.lemmas.Fmt.{decimal_is_IsNumeral}
+use Rattle.std.proofs.lemmas.Str.Parse.{digit_at}
 use Rattle.std.specs.Char.{is_control}
 
 pub none_from_any : (p : ℕ → Bool) (cs : List ℕ) → list_any p cs ≡ false → NonePass p cs
@@ -101,3 +103,23 @@ ascii_needs_none (b ∷ text) e =
     let range = other_parts b both.0 in
     let low : b < 127 = range.1 in
     NoCharPasses-append needs_escape (b ∷ []) text (no_escape-one b (omega (arith, low)) (printable b range.0 low)) (ascii_needs_none text both.1)
+
+-- digits need no escape
+digits_plain : (ds : List ℕ) → ((i : ℕ) → i < length ds → (48 ≤ get_or ds i 0) × (get_or ds i 0 ≤ 57)) → NoCharPasses needs_escape ds
+digits_plain [] h = NoCharPasses-nil needs_escape
+digits_plain (d ∷ ds) h =
+    let first = h 0 (omega arith) in
+    NoCharPasses-append needs_escape (d ∷ []) ds (no_escape-one d (omega (arith, first.1)) (printable d (omega (arith, first.0)) (omega (arith, first.1)))) (digits_plain ds (λ i l. h (suc i) (omega (arith, l))))
+
+pub decimal_then : (n : ℕ) (words : List ℕ) → n < 2 ^ 64 → NoCharPasses needs_escape words → NoCharPasses needs_escape (decimal n ++ words)
+decimal_then n words h clean =
+    NoCharPasses-append needs_escape (decimal n) words (digits_plain (decimal n) (λ i l. digit_at _ i (decimal_is_IsNumeral n h).0.1 l)) clean
+
+-- words of which no character needs an escape are shown as they are
+pub no_escape-clean : (words plain : List ℕ) → NoCharPasses needs_escape words → IsPlain words plain → NoCharPasses needs_escape plain
+no_escape-clean words plain clean (inl s) = subst (NoCharPasses needs_escape) (sym s.0) s.1
+no_escape-clean words plain clean (inr s) = absurd (s.1 clean)
+
+pub AreLines-clean : (old words line : List ℕ) → NoCharPasses needs_escape words → AreLines old → IsLine words line → AreLines (old ++ line)
+AreLines-clean old words line clean o l =
+    (o.0 ++ l.0 ∷ [], rw (o.1, l.2) (flat_map_more marked_line [] o.0 l.0), ArePlain-push o.0 l.0 o.2 (no_escape-clean words l.0 clean l.1))

@@ -1,6 +1,7 @@
 pub mod FrontLemmas
 pub mod CleanLemmas
 pub mod JsonLemmas
+pub mod KeptLemmas
 pub mod PageLemmas
 pub mod ShownLemmas
 pub mod LineLemmas

@@ -6,7 +6,7 @@ use Rattle.std.proofs.lemmas.List.Sums.{sum_by-append}
 use Rattle.std.proofs.lemmas.Str.{NoCharPasses-byte}
 use Rattle.wt_inspection_views.specs.Escaped.{AddsLine, AreLines, IsLine, line_mark, marked_line}
 use Rattle.wt_inspection_views.specs.Escaped.{line_count}
-use Rattle.wt_inspection_views.proofs.CleanLemmas.{AreLines-pushed, no_escape-plain}
+use Rattle.wt_inspection_views.proofs.CleanLemmas.{AreLines-clean, AreLines-pushed, no_escape-clean, no_escape-plain}
 use Rattle.std.proofs.lemmas.List.Sums.{sum_by-cons}
 
 no_feeds : (bytes : List ℕ) → ((i : ℕ) → i < length bytes → nat_eq (get_or bytes i 0) 10 ≡ false) → line_count bytes ≡ 0
@@ -47,3 +47,21 @@ adds_lines old new words (Err e) fits are added kept = subst AreLines (sym kept)
 pub adds_one : {A E : Type 0} (old new words : List ℕ) (r : Result A E) → ((k : ℕ) → get_or words k 0 < 2 ^ 8) → IfOk r (λ _. AddsLine words old new) → IfOk r (λ _. line_count new ≡ line_count old + 1)
 adds_one old new words (Ok a) fits (line, is, e) = line_count-pushed {A = ℕ} {E = ℕ} old new line (Ok 0) (line_count-line words line fits is) e
 adds_one old new words (Err e) fits added = tt
+
+-- ---- the same for words of which no character needs an escape
+
+line_count-clean : (words line : List ℕ) → NoCharPasses needs_escape words → IsLine words line → line_count line ≡ 1
+line_count-clean words line clean l =
+    let is_feed = λ (c : ℕ). cond (nat_eq c 10) 1 0 in
+    let more = sum_by-append is_feed l.0 (10 ∷ []) in
+    let free = no_feeds-no_escape l.0 (no_escape-clean words l.0 clean l.1) in
+    let one : line_count (l.0 ++ 10 ∷ []) ≡ 1 = more ∙ ap (λ (x : ℕ). x + 1) free in
+    ap line_count l.2 ∙ (sum_by-append is_feed line_mark (l.0 ++ 10 ∷ []) ∙ ap (λ (x : ℕ). line_count line_mark + x) one)
+
+pub adds_clean_lines : {A E : Type 0} (old new words : List ℕ) (r : Result A E) → NoCharPasses needs_escape words → AreLines old → IfOk r (λ _. AddsLine words old new) → OnErr r (new ≡ old) → AreLines new
+adds_clean_lines old new words (Ok a) clean are (line, is, e) kept = subst AreLines (sym e) (AreLines-clean old words line clean are is)
+adds_clean_lines old new words (Err e) clean are added kept = subst AreLines (sym kept) are
+
+pub adds_one_clean : {A E : Type 0} (old new words : List ℕ) (r : Result A E) → NoCharPasses needs_escape words → IfOk r (λ _. AddsLine words old new) → IfOk r (λ _. line_count new ≡ line_count old + 1)
+adds_one_clean old new words (Ok a) clean (line, is, e) = line_count-pushed {A = ℕ} {E = ℕ} old new line (Ok 0) (line_count-clean words line clean is) e
+adds_one_clean old new words (Err e) clean added = tt

@@ -1,11 +1,11 @@
 -- Lines of JSON, one object per line.
 use Rattle.std.specs.Prelude.{◌≡◌, ℕ, ◌+◌, Bool, true, false, List, [], ◌∷◌, ◌++◌, ◌&&◌, ◌||◌, nat_le, fold}
-use Rattle.std.specs.Prelude.{length, if◌then◌else◌}
+use Rattle.std.specs.Prelude.{length, if◌then◌else◌, ◌==◌, codes, decimal, get_or}
 use Rattle.std.specs.List.{flat_map, list_any}
 use Rattle.std.specs.Str.{IsUtf8, chars}
 use Rattle.json.specs.Token.{Token}
 use Rattle.json.specs.Lex.{tokens}
-use Rattle.json.specs.Print.{print}
+use Rattle.json.specs.Print.{print, print_from, ArePrintable}
 use Rattle.wt_inspection_model.specs.declared.item.Inspection.{Inspection}
 use Rattle.wt_inspection_views.specs.Characters.{is_invisible}
 
@@ -100,6 +100,21 @@ ReadsBack ts = (tokens (print ts) ≡ ts) × IsUtf8 (print ts)
 -- the bytes are one line of JSON, which contains an object and reads back as the same tokens
 abbrev pub IsJsonLine : List ℕ → Type 0
 IsJsonLine line = (ts : List Token) × (line ≡ json_line ts) × ReadsBack ts × IsObject ts
+
+-- the bytes complete a line of JSON after the first member of its object
+abbrev pub CompletesLine : List ℕ → Type 0
+CompletesLine bytes =
+    (rest : List Token)
+    × (bytes ≡ print_from true rest ++ 10 ∷ []) × IsUtf8 (print_from true rest)
+    × ArePrintable rest × (fold next_place (in_object []) rest ≡ done)
+
+-- members of an object without the brace before them, after a comma unless there are none
+abbrev pub with_comma : List ℕ → List ℕ
+with_comma members = if get_or members 0 0 == 34 then 44 ∷ members else members
+
+-- a line whose object begins with this offset, and its other members
+abbrev pub placed_line : ℕ → List ℕ → List ℕ
+placed_line at rest = codes "{\"at\":" ++ (decimal at ++ rest)
 
 -- each token list is an object and reads back as the same tokens
 abbrev pub AreObjects : List (List Token) → Type 0

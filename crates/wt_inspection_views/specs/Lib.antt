@@ -6,3 +6,5 @@ pub mod TextLines
 pub mod Lines
 pub mod Painting
 pub mod Objects
+pub mod Shapes
+pub mod Sources

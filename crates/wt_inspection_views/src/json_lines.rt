@@ -4,17 +4,23 @@ ghost use Rattle.wt_inspection_views.specs.JsonLines.{AreJsonLines, in_object, o
 ghost use Rattle.wt_inspection_views.specs.Objects.{AddsLines, AddsMembers, IsAt};
 
 mod head;
+mod kept;
 mod object;
 mod parts;
 mod session;
 mod verdict;
 
+use crate::shape::{FrameShape, Shape};
 use crate::split_warnings;
 use crate::text::shown_of;
 pub use head::{PartHead, add_part};
+use kept::Source;
 use object::Object;
 pub use object::{Lines, Origin};
-use parts::{add_capsule, add_capsules, add_instruction, add_section, add_settings, add_signal};
+use parts::{
+    add_capsule, add_capsule_head, add_capsules, add_instruction, add_section, add_settings,
+    add_signal,
+};
 pub use session::{SessionClose, SessionLine, add_session_line};
 use std::alloc::{AllocError, Global};
 pub use verdict::{VerdictLine, add_verdict};
@@ -94,6 +100,18 @@ pub fn add_item_lines(
 
 /// Appends the line of an item, with `shown` as its payload bytes.
 fn write_item(lines: &mut Lines, item: &Item, shown: &[u8])
+    ensures { AddsLines 1 lines.old lines.new }
+{
+    match Source::of(item) {
+        Some(source) if shown.is_empty() && lines.keeps(item.at) => lines.add_kept(
+            item.at, &source,
+        ),
+        _ => write_object(lines, item, shown),
+    }
+}
+
+/// Appends the line of an item, with `shown` as its payload bytes, member by member.
+fn write_object(lines: &mut Lines, item: &Item, shown: &[u8])
     ensures { AddsLines 1 lines.old lines.new }
 {
     let mut object = lines.begin();
@@ -184,16 +202,49 @@ fn add_stream(object: &mut Object, head: StreamHead)
 fn add_frame(object: &mut Object, frame: &FrameItem)
     ensures { AddsMembers object.old object.new }
 {
+    add_frame_head(object, &FrameShape::of(frame));
+    add_parts(object, &frame.parts)
+}
+
+/// Appends an item without contents, but for its offset.
+fn add_shape(object: &mut Object, source: &Source)
+    ensures { AddsMembers object.old object.new }
+{
+    object.add_number("length", source.length as u64);
+    match &source.shape {
+        Shape::Frame(frame) => {
+            add_frame_head(object, frame);
+            add_no_capsules(object, source.has_capsules)
+        }
+        Shape::Capsule(capsule) => {
+            object.add_text("item", "capsule");
+            add_capsule_head(object, capsule)
+        }
+    }
+}
+
+/// Appends that a frame has no capsules, if it could have some.
+fn add_no_capsules(object: &mut Object, has_capsules: bool)
+    ensures { AddsMembers object.old object.new }
+{
+    if has_capsules {
+        add_capsules(object, &[]);
+    }
+}
+
+/// Appends a frame without the contents of its payload.
+fn add_frame_head(object: &mut Object, frame: &FrameShape)
+    ensures { AddsMembers object.old object.new }
+{
     object.add_text("item", "frame");
     object.add_text("type", frame.name.as_str());
     object.add_number("number", frame.number);
     object.add_number("payload", frame.announced);
-    add_present(object, frame);
-    add_parts(object, &frame.parts)
+    add_present(object, frame)
 }
 
 /// Appends the number of payload bytes that are present, unless all are.
-fn add_present(object: &mut Object, frame: &FrameItem)
+fn add_present(object: &mut Object, frame: &FrameShape)
     ensures { AddsMembers object.old object.new }
 {
     if frame.present as u64 != frame.announced {

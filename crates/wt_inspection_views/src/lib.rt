@@ -10,6 +10,7 @@ ghost use Rattle.std.specs.Prelude.{◌≡◌, ◌++◌};
 ghost use Rattle.wt_inspection_views.specs.TextLines.{bytes_at};
 
 mod characters;
+mod clean;
 pub mod escaped;
 pub mod html;
 pub mod json_lines;
@@ -17,6 +18,7 @@ mod latch;
 pub mod laws;
 pub mod painting;
 pub mod plain;
+mod shape;
 pub mod text;
 
 use wt_inspection_model::item::{Item, Warning};

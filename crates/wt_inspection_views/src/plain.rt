@@ -1,13 +1,15 @@
 //! Text for a terminal.
-ghost use Rattle.std.specs.Prelude.{◌≡◌, ◌+◌, ℕ, List, [], IfOk, OnErr, length, string_bytes};
+ghost use Rattle.std.specs.Prelude.{◌≡◌, ◌+◌, ◌++◌, ℕ, List, [], IfOk, OnErr, length, decimal, string_bytes};
 ghost use Rattle.std.specs.Str.{NoCharPasses};
 ghost use Rattle.wt_inspection_views.specs.Characters.{needs_escape};
 ghost use Rattle.wt_inspection_views.specs.Escaped.{AddsLine, AreLines, IsLine, line_count};
 ghost use Rattle.wt_inspection_views.specs.Escaped.{line_mark};
 ghost use Rattle.wt_inspection_views.specs.Painting.{IsPainted};
 
+use crate::clean::CleanWords;
 use crate::escaped::{add_escaped, needs_no_escape};
 use crate::painting::{Style, StyledLine, paint};
+use itoa::Buffer;
 use std::alloc::{AllocError, Global};
 use std::marker::Model;
 
@@ -79,6 +81,29 @@ impl PlainText {
         push_styled(self.alloc, &mut self.text, &mut self.styled, style, words)
     }
 
+    /// Appends a line in this style, whose words are a number and these after it.
+    ///
+    /// Returns [`AllocError`] if allocation fails. The text is then unchanged.
+    pub(crate) fn add_numbered(
+        &mut self,
+        style: Style,
+        number: u64,
+        words: &CleanWords,
+    ) -> Result<(), AllocError>
+        ensures added { IfOk result
+            (λ _. AddsLine (decimal number ++ words.now) self.old self.new) }
+        ensures one_line { IfOk result (λ _. line_count self.new ≡ line_count self.old + 1) }
+        ensures kept { OnErr result (self.new ≡ self.old) }
+    {
+        push_numbered(
+            &mut self.text,
+            &mut self.styled,
+            style,
+            number,
+            words.as_str(),
+        )
+    }
+
     /// Returns the text with the escape sequences of its styles.
     ///
     /// Returns [`AllocError`] if allocation fails.
@@ -124,6 +149,63 @@ fn push_styled(
         let _ = styled.pop();
     }
     added
+}
+
+/// Appends a line whose words are a number and these, and notes its style. No character of the words
+/// needs an escape.
+///
+/// Returns [`AllocError`] if allocation fails. The text is then unchanged.
+fn push_numbered(
+    text: &mut String,
+    styled: &mut Vec<StyledLine>,
+    style: Style,
+    number: u64,
+    words: &str,
+) -> Result<(), AllocError>
+    requires { NoCharPasses needs_escape words.now }
+    ensures added { IfOk result (λ _.
+        AddsLine (decimal number ++ words.now) (string_bytes text.old) (string_bytes text.new)) }
+    ensures kept { OnErr result (string_bytes text.new ≡ string_bytes text.old) }
+{
+    styled.push(StyledLine {
+        at: text.len(),
+        style,
+    })?;
+    let added = add_digits(text, number, words);
+    if added.is_err() {
+        let _ = styled.pop();
+    }
+    added
+}
+
+/// Appends a line whose words are a number and these, of which no character needs an escape.
+///
+/// Returns [`AllocError`] if allocation fails. The text is then unchanged.
+fn add_digits(text: &mut String, number: u64, words: &str) -> Result<(), AllocError>
+    requires { NoCharPasses needs_escape words.now }
+    ensures added { IfOk result (λ _.
+        AddsLine (decimal number ++ words.now) (string_bytes text.old) (string_bytes text.new)) }
+    ensures kept { OnErr result (string_bytes text.new ≡ string_bytes text.old) }
+{
+    let mut buffer = Buffer::new();
+    add_both(text, buffer.format(number), words)
+}
+
+/// Appends a line with these words, in two pieces. No character of them needs an escape.
+///
+/// Returns [`AllocError`] if allocation fails. The text is then unchanged.
+fn add_both(text: &mut String, first: &str, second: &str) -> Result<(), AllocError>
+    requires { NoCharPasses needs_escape (first.now ++ second.now) }
+    ensures added { IfOk result (λ _.
+        AddsLine (first.now ++ second.now) (string_bytes text.old) (string_bytes text.new)) }
+    ensures kept { OnErr result (string_bytes text.new ≡ string_bytes text.old) }
+{
+    let length = first.len().saturating_add(second.len());
+    text.reserve(length.saturating_add(LINE_OVERHEAD))?;
+    text.push_str(mark_text())?;
+    text.push_str(first)?;
+    text.push_str(second)?;
+    text.push('\n')
 }
 
 /// Appends a line with these words.

@@ -8,6 +8,7 @@ ghost use Rattle.wt_inspection_views.specs.TextLines.{item_lines as lines_of_ite
 ghost use Rattle.wt_inspection_views.specs.TextLines.{payload_of as payload_of_item};
 ghost use Rattle.wt_inspection_views.specs.TextLines.{shown_of as shown_of_item};
 
+mod kept;
 mod lines;
 pub(crate) mod parts;
 mod words;

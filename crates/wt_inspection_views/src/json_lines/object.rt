@@ -7,6 +7,7 @@ ghost use Rattle.wt_inspection_views.specs.Escaped.{hex_byte};
 ghost use Rattle.wt_inspection_views.specs.JsonLines.{has_unseen, is_late_byte, is_unseen};
 
 use super::head::add_origin;
+use super::kept::{KeptLine, Source};
 use crate::characters::is_invisible;
 use crate::escaped::add_hex_byte;
 use crate::latch::Latch;
@@ -41,6 +42,8 @@ pub struct Lines {
     text: Vec<u8>,
     /// Room for an object, which is empty between objects.
     room: Vec<u8>,
+    /// The line of the last item without contents.
+    kept: Option<KeptLine>,
     is_whole: Latch,
 }
 
@@ -68,6 +71,7 @@ impl Lines {
             origin,
             text: Vec::new(alloc),
             room: Vec::new(alloc),
+            kept: None,
             is_whole: Latch::new(),
         }
     }
@@ -135,6 +139,47 @@ impl Lines {
         Ok(())
     }
 
+    /// Returns whether the line of an item without contents at this offset may be kept: it begins with
+    /// the offset, as a number.
+    pub(super) fn keeps(&self, at: usize) -> bool {
+        self.origin.is_none() && at as u64 <= LARGEST_NUMBER
+    }
+
+    /// Appends the line of an item without contents. Records a failed allocation.
+    #[tactic(auto, unfolding(crate::specs::Objects::HasLines))]
+    pub(super) fn add_kept(&mut self, at: usize, source: &Source)
+        ensures { AddsLines 1 self.old self.new }
+    {
+        let added = self.try_kept(at as u64, source);
+        self.is_whole.note(added);
+    }
+
+    /// Appends the line of an item without contents.
+    ///
+    /// Returns [`AllocError`] if an allocation failed. The lines are then unchanged.
+    fn try_kept(&mut self, at: u64, source: &Source) -> Result<(), AllocError>
+        ensures added { OnOk result (AddsLines 1 self.old self.new) }
+        ensures kept { OnErr result (self.new.text.items ≡ self.old.text.items) }
+    {
+        match &self.kept {
+            Some(kept) if kept.is_of(source) => kept.add_to(&mut self.text, at, source),
+            _ => self.add_new(at, source),
+        }
+    }
+
+    /// Appends the line of an item without contents, and keeps it.
+    ///
+    /// Returns [`AllocError`] if an allocation failed. The lines are then unchanged.
+    fn add_new(&mut self, at: u64, source: &Source) -> Result<(), AllocError>
+        ensures added { OnOk result (AddsLines 1 self.old self.new) }
+        ensures kept { OnErr result (self.new.text.items ≡ self.old.text.items) }
+    {
+        let kept = KeptLine::new(self.alloc, source)?;
+        kept.add_to(&mut self.text, at, source)?;
+        self.kept = Some(kept);
+        Ok(())
+    }
+
     /// Returns the lines, or [`AllocError`] if an allocation failed.
     #[tactic(auto, unfolding(crate::specs::Objects::HasLines))]
     pub fn into_bytes(self) -> Result<Vec<u8>, AllocError>
@@ -165,7 +210,7 @@ impl Object {
 
     /// Creates an empty object, which is written to this room.
     #[tactic(auto, unfolding(crate::specs::Objects::IsAt))]
-    fn new(alloc: Global, room: Vec<u8>) -> Self
+    pub(super) fn new(alloc: Global, room: Vec<u8>) -> Self
         requires { room.items ≡ [] }
         ensures { IsAt (in_object []) result }
     {
@@ -363,7 +408,7 @@ impl Object {
 
     /// Ends the object and returns its line, or [`AllocError`] if an allocation failed.
     #[tactic(auto, unfolding(crate::specs::Objects::IsAt))]
-    fn into_line(self) -> Result<Vec<u8>, AllocError>
+    pub(super) fn into_line(self) -> Result<Vec<u8>, AllocError>
         requires { IsAt (in_object []) self }
         ensures { IfOk result (λ line. IsJsonLine line.items) }
     {

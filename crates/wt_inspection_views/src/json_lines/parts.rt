@@ -3,6 +3,7 @@ ghost use Rattle.std.specs.Prelude.{List, Bool};
 ghost use Rattle.wt_inspection_views.specs.Objects.{AddsElements, AddsMembers, AddsValue};
 
 use super::object::Object;
+use crate::shape::CapsuleShape;
 use crate::text::parts::name_setting;
 use wt_inspection_model::item::{
     CapsuleItem, CloseReason, FieldSection, FlowLimit, Index, Instruction, Line, SectionFault,
@@ -231,14 +232,21 @@ fn add_placed_capsule(object: &mut Object, capsule: &CapsuleItem)
 pub(super) fn add_capsule(object: &mut Object, capsule: &CapsuleItem)
     ensures { AddsMembers object.old object.new }
 {
-    object.add_text("type", capsule.name);
-    object.add_number("number", capsule.number);
-    object.add_number("payload", capsule.announced);
+    add_capsule_head(object, &CapsuleShape::of(capsule));
     match &capsule.close {
         None => {}
         Some(close) => add_close(object, close),
     }
     add_limit(object, capsule.limit)
+}
+
+/// Appends a capsule without its value.
+pub(super) fn add_capsule_head(object: &mut Object, capsule: &CapsuleShape)
+    ensures { AddsMembers object.old object.new }
+{
+    object.add_text("type", capsule.name);
+    object.add_number("number", capsule.number);
+    object.add_number("payload", capsule.announced)
 }
 
 /// Appends a limit of flow control, if there is one.

@@ -1,13 +1,15 @@
 //! Lines of text that record a failed allocation.
-ghost use Rattle.std.specs.Prelude.{◌≡◌, ℕ, false, true, IfOk, IsTrue, length, string_bytes};
+ghost use Rattle.std.specs.Prelude.{◌≡◌, ◌+◌, ℕ, false, true, IfOk, IsTrue, OnErr, OnOk, length, string_bytes};
 ghost use Rattle.wt_inspection_views.specs.Escaped.{AreLines, line_count};
 ghost use Rattle.wt_inspection_views.specs.Lines.{Gains, HasTextLines, TakesPainted};
 ghost use Rattle.wt_inspection_views.specs.Painting.{IsPainted};
 
-use super::words::{add_capsule_words, add_frame_words, add_size_words, add_warning_words};
+use super::kept::{KeptWords, place_len};
+use super::words::{add_indented_words, add_labelled_words, add_size_words, add_warning_words};
 use crate::latch::Latch;
 use crate::painting::Style;
 use crate::plain::PlainText;
+use crate::shape::{CapsuleShape, FrameShape, Shape};
 use std::alloc::{AllocError, Global};
 use std::mem;
 use wt_inspection_model::item::{CapsuleItem, FrameItem, Warning};
@@ -21,6 +23,8 @@ pub struct Lines {
     text: PlainText,
     /// Room for the words of a line.
     words: String,
+    /// The words of the last item without contents.
+    kept: Option<KeptWords>,
     is_whole: Latch,
 }
 
@@ -35,6 +39,7 @@ impl Lines {
             alloc,
             text: PlainText::new(alloc),
             words: String::new(alloc),
+            kept: None,
             is_whole: Latch::new(),
         }
     }
@@ -168,8 +173,19 @@ impl Lines {
     pub(super) fn add_frame(&mut self, at: usize, frame: &FrameItem, label: Option<&str>)
         ensures { Gains 1 self.old self.new }
     {
+        let frame = FrameShape::of(frame);
+        match label {
+            Some(label) => self.add_labelled(at, &frame, label),
+            None => self.add_shape(at, &Shape::Frame(frame)),
+        }
+    }
+
+    /// Appends the first line of a frame with fields, which `label` describes.
+    fn add_labelled(&mut self, at: usize, frame: &FrameShape, label: &str)
+        ensures { Gains 1 self.old self.new }
+    {
         self.words.clear();
-        let built = add_frame_words(&mut self.words, at, frame, label);
+        let built = add_labelled_words(&mut self.words, at, frame, label);
         self.add_words(Style::Item, built)
     }
 
@@ -177,14 +193,52 @@ impl Lines {
     pub(super) fn add_capsule(&mut self, at: Option<usize>, capsule: &CapsuleItem)
         ensures { Gains 1 self.old self.new }
     {
+        let capsule = CapsuleShape::of(capsule);
+        match at {
+            Some(at) => self.add_shape(at, &Shape::Capsule(capsule)),
+            None => self.add_indented(&capsule),
+        }
+    }
+
+    /// Appends the first line of a capsule in a frame.
+    fn add_indented(&mut self, capsule: &CapsuleShape)
+        ensures { Gains 1 self.old self.new }
+    {
         self.words.clear();
-        let built = add_capsule_words(&mut self.words, at, capsule);
-        let style = if at.is_some() {
-            Style::Item
-        } else {
-            Style::Plain
-        };
-        self.add_words(style, built)
+        let built = add_indented_words(&mut self.words, capsule);
+        self.add_words(Style::Plain, built)
+    }
+
+    /// Appends the first line of an item of this shape.
+    fn add_shape(&mut self, at: usize, shape: &Shape)
+        ensures { Gains 1 self.old self.new }
+    {
+        let added = self.try_shape(at, shape);
+        self.is_whole.note(added);
+    }
+
+    /// Appends the first line of an item of this shape.
+    ///
+    /// Returns [`AllocError`] if allocation fails. The text is then unchanged.
+    fn try_shape(&mut self, at: usize, shape: &Shape) -> Result<(), AllocError>
+        ensures one { OnOk result (line_count self.new.text ≡ line_count self.old.text + 1) }
+        ensures kept { OnErr result (self.new.text ≡ self.old.text) }
+        ensures whole { self.new.is_whole ≡ self.old.is_whole }
+    {
+        let place = place_len(at);
+        match &self.kept {
+            Some(kept) if kept.follows(place, shape) => {
+                return self
+                    .text
+                    .add_numbered(Style::Item, at as u64, kept.words(place, shape));
+            }
+            _ => {}
+        }
+        let kept = KeptWords::new(self.alloc, place, shape)?;
+        self.text
+            .add_numbered(Style::Item, at as u64, kept.words(place, shape))?;
+        self.kept = Some(kept);
+        Ok(())
     }
 
     /// Appends the line of a warning.

@@ -1,8 +1,9 @@
 //! The words of lines, which are built in place.
 
+use crate::shape::{CapsuleShape, FrameShape, Shape};
 use itoa::Buffer;
 use std::alloc::AllocError;
-use wt_inspection_model::item::{CapsuleItem, FrameItem, FrameName, Warning};
+use wt_inspection_model::item::{FrameName, Warning};
 use wtp_core::error::Code;
 use wtp_wire::frame::FrameKind;
 
@@ -10,7 +11,7 @@ use wtp_wire::frame::FrameKind;
 const BLANKS: &str = "                  ";
 
 /// The width of the column of offsets.
-const PLACE_WIDTH: usize = 5;
+pub(super) const PLACE_WIDTH: usize = 5;
 
 /// The width of the column that says what an item is.
 const KIND_WIDTH: usize = 18;
@@ -44,13 +45,22 @@ fn add_hex_number(words: &mut String, number: u64) -> Result<(), AllocError> {
     words.push_str(text.as_str())
 }
 
-/// Appends the offset of an item and what it is.
-fn add_head(words: &mut String, at: usize, what: &str) -> Result<(), AllocError> {
+/// Appends the offset of an item.
+fn add_place(words: &mut String, at: usize) -> Result<(), AllocError> {
     let mut buffer = Buffer::new();
     let place = buffer.format(at);
     words.push_str(place)?;
-    add_blanks(words, place.len(), PLACE_WIDTH)?;
-    words.push_str(" ")?;
+    add_gap(words, place.len())
+}
+
+/// Appends what separates an offset of this length from what the item is.
+fn add_gap(words: &mut String, length: usize) -> Result<(), AllocError> {
+    add_blanks(words, length, PLACE_WIDTH)?;
+    words.push_str(" ")
+}
+
+/// Appends what an item is.
+fn add_kind(words: &mut String, what: &str) -> Result<(), AllocError> {
     words.push_str(what)?;
     add_blanks(words, what.len(), KIND_WIDTH)?;
     words.push_str(" ")
@@ -63,33 +73,61 @@ pub(super) fn add_size_words(
     what: &str,
     size: u64,
 ) -> Result<(), AllocError> {
-    add_head(words, at, what)?;
+    add_place(words, at)?;
+    add_kind(words, what)?;
     add_count(words, size)
 }
 
-/// Appends the words of the first line of a frame. The number of a type without a unique name is
-/// shown. `label` says what its fields are, if it has some.
-pub(super) fn add_frame_words(
+/// Appends the words of the first line of a frame with fields: `label` says what they are.
+pub(super) fn add_labelled_words(
     words: &mut String,
     at: usize,
-    frame: &FrameItem,
-    label: Option<&str>,
+    frame: &FrameShape,
+    label: &str,
 ) -> Result<(), AllocError> {
-    match (numbered_name(frame.name), label) {
-        (Some(what), _) => {
-            add_head(words, at, what)?;
-            add_hex_number(words, frame.number)?;
-            words.push_str(", ")?;
-        }
-        (None, Some(label)) => {
-            add_head(words, at, label)?;
+    add_place(words, at)?;
+    match numbered_name(frame.name) {
+        Some(what) => add_numbered_kind(words, what, frame.number)?,
+        None => {
+            add_kind(words, label)?;
             words.push_str(frame.name.as_str())?;
             words.push_str(", ")?;
         }
-        (None, None) => add_head(words, at, frame.name.as_str())?,
     }
-    add_count(words, frame.announced)?;
-    add_present(words, frame)
+    add_sizes(words, frame)
+}
+
+/// Appends the words of the first line of a frame or a capsule, after its offset, which has this
+/// length.
+pub(super) fn add_shape_words(
+    words: &mut String,
+    place: usize,
+    shape: &Shape,
+) -> Result<(), AllocError> {
+    add_gap(words, place)?;
+    match shape {
+        Shape::Frame(frame) => add_frame_words(words, frame),
+        Shape::Capsule(capsule) => {
+            add_kind(words, "capsule")?;
+            add_capsule_details(words, capsule)
+        }
+    }
+}
+
+/// Appends what a frame is. The number of a type without a unique name is shown.
+fn add_frame_words(words: &mut String, frame: &FrameShape) -> Result<(), AllocError> {
+    match numbered_name(frame.name) {
+        Some(what) => add_numbered_kind(words, what, frame.number)?,
+        None => add_kind(words, frame.name.as_str())?,
+    }
+    add_sizes(words, frame)
+}
+
+/// Appends what a frame is, and the number of its type.
+fn add_numbered_kind(words: &mut String, what: &str, number: u64) -> Result<(), AllocError> {
+    add_kind(words, what)?;
+    add_hex_number(words, number)?;
+    words.push_str(", ")
 }
 
 /// Returns what a frame is whose type has no unique name.
@@ -102,8 +140,10 @@ fn numbered_name(name: FrameName) -> Option<&'static str> {
     }
 }
 
-/// Appends how many bytes of the payload of a frame are present, unless all are.
-fn add_present(words: &mut String, frame: &FrameItem) -> Result<(), AllocError> {
+/// Appends the length of the payload of a frame, and how many bytes of it are present, unless all
+/// are.
+fn add_sizes(words: &mut String, frame: &FrameShape) -> Result<(), AllocError> {
+    add_count(words, frame.announced)?;
     if frame.present as u64 == frame.announced {
         return Ok(());
     }
@@ -112,16 +152,17 @@ fn add_present(words: &mut String, frame: &FrameItem) -> Result<(), AllocError> 
     words.push_str(" of them present")
 }
 
-/// Appends the words of the first line of a capsule: its type and size.
-pub(super) fn add_capsule_words(
+/// Appends the words of the first line of a capsule in a frame.
+pub(super) fn add_indented_words(
     words: &mut String,
-    at: Option<usize>,
-    capsule: &CapsuleItem,
+    capsule: &CapsuleShape,
 ) -> Result<(), AllocError> {
-    match at {
-        Some(at) => add_head(words, at, "capsule")?,
-        None => words.push_str("        capsule          ")?,
-    }
+    words.push_str("        capsule          ")?;
+    add_capsule_details(words, capsule)
+}
+
+/// Appends the type and the size of a capsule.
+fn add_capsule_details(words: &mut String, capsule: &CapsuleShape) -> Result<(), AllocError> {
     words.push_str(capsule.name)?;
     match capsule.name {
         "reserved" | "unknown" => {
