@@ -78,7 +78,7 @@ blue, faults and broken rules red; not if NO_COLOR is set, or TERM is dumb.
 With --json each line is an object. Its member 'item' says what it is: frame,
 capsule, datagram, warning, end and others. Of a connection, 'on_stream' and
 'from' are the ID of the stream and the end that sent it. The last objects have
-'session' or 'verdict'; a verdict has 'by' (who judges), 'stream', 'why', and the
+'session' or 'verdict'; a verdict has 'by' (who judges), 'stream', 'why' and the
 'code' of an error. INSPECTOR.md, which comes with the program, has all members.
 
 Other examples:
