@@ -9,6 +9,8 @@ use std::fmt;
 use std::marker::Model;
 use std::str::FromStr;
 
+mod statuses;
+
 /// The ID of a QUIC stream.
 #[derive(Clone, Copy, PartialEq, Eq, PartialOrd, Ord, Hash)]
 pub struct StreamId {
@@ -272,18 +274,6 @@ impl StatusCode {
     /// The smallest code, 100.
     pub const MIN: StatusCode = StatusCode { code: 100 };
 
-    /// 200 (OK).
-    pub const OK: StatusCode = StatusCode { code: 200 };
-
-    /// 403 (Forbidden).
-    pub const FORBIDDEN: StatusCode = StatusCode { code: 403 };
-
-    /// 404 (Not Found).
-    pub const NOT_FOUND: StatusCode = StatusCode { code: 404 };
-
-    /// 429 (Too Many Requests).
-    pub const TOO_MANY_REQUESTS: StatusCode = StatusCode { code: 429 };
-
     /// Returns the status code with this number, or an error if it is not from 100 to 599.
     pub fn try_from_u32(value: u32) -> Result<Self, InvalidStatusCode>
         ensures { OkIff result (IsStatus value) value }
@@ -467,7 +457,7 @@ impl fmt::Debug for StatusCode {
     }
 }
 
-// The bounds, and the status codes of RFC 9110, section 15, and RFC 6585, section 4.
+// The bounds.
 const _: () = prove!(StreamId::MAX.id.value == 0x3fff_ffff_ffff_ffff);
 
 const _: () = prove!(QStreamId::MAX.id.value == 0x0fff_ffff_ffff_ffff);
@@ -475,11 +465,3 @@ const _: () = prove!(QStreamId::MAX.id.value == 0x0fff_ffff_ffff_ffff);
 const _: () = prove!(StatusCode::MAX.code == 599);
 
 const _: () = prove!(StatusCode::MIN.code == 100);
-
-const _: () = prove!(StatusCode::OK.code == 200);
-
-const _: () = prove!(StatusCode::FORBIDDEN.code == 403);
-
-const _: () = prove!(StatusCode::NOT_FOUND.code == 404);
-
-const _: () = prove!(StatusCode::TOO_MANY_REQUESTS.code == 429);
