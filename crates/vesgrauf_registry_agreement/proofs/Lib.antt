@@ -1,2 +1,3 @@
 pub mod FrameLemmas
 pub mod TableLemmas
+pub mod ConnectionLemmas

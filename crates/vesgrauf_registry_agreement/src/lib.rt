@@ -20,6 +20,8 @@ ghost use Rattle.wtp_wire.specs.Kind.{is_exercise, registered_kind};
 ghost use Rattle.wtp_wire.specs.SettingId.{is_reserved, setting_id_of, setting_name_of};
 ghost use Rattle.wtp_wire.specs.StreamKind.{stream_kind_of};
 
+pub mod connections;
+
 /// Frame types: `wtp_frames` chooses the rules of a frame by the kind of its row, and these rules
 /// follow from the columns of the row; `wtp_wire` names the same types.
 pub fn frame_types_agree()
