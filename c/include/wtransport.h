@@ -77,7 +77,7 @@ uint32_t wt_version(void);
 #define WT_QPACK_DECODER_STREAM_ERROR            UINT64_C(0x0202)
 #define WT_WEBTRANSPORT_BUFFERED_STREAM_REJECTED UINT64_C(0x3994bd84) /* draft-ietf-webtrans-http3-07 */
 #define WT_WEBTRANSPORT_SESSION_GONE             UINT64_C(0x170d7b68)
-#define WT_WT_FLOW_CONTROL_ERROR                 UINT64_C(0x045d4487) /* later drafts */
+#define WT_WT_FLOW_CONTROL_ERROR                 UINT64_C(0x045d4487) /* later drafts of WebTransport over HTTP/3 */
 #define WT_WT_ALPN_ERROR                         UINT64_C(0x0817b3dd)
 #define WT_WT_REQUIREMENTS_NOT_MET               UINT64_C(0x212c0d48)
 
@@ -236,7 +236,7 @@ int wt_session_frame_write(uint64_t session, uint8_t *out, size_t room, size_t *
 #define WT_SETTING_QPACK_BLOCKED_STREAMS     UINT64_C(0x07) /* RFC 9204, section 5 */
 #define WT_SETTING_ENABLE_CONNECT_PROTOCOL   UINT64_C(0x08) /* RFC 9220, section 3 */
 #define WT_SETTING_H3_DATAGRAM               UINT64_C(0x33) /* RFC 9297, section 2.1.1 */
-#define WT_SETTING_ENABLE_WEBTRANSPORT       UINT64_C(0x2b603742) /* draft-ietf-webtrans-http3-02 */
+#define WT_SETTING_ENABLE_WEBTRANSPORT       UINT64_C(0x2b603742) /* draft-ietf-webtrans-http3-02, section 3.1 */
 #define WT_SETTING_WEBTRANSPORT_MAX_SESSIONS UINT64_C(0xc671706a) /* draft-ietf-webtrans-http3-07 */
 
 typedef struct wt_setting {

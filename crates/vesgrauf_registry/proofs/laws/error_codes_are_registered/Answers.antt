@@ -1,0 +1,33 @@
+use Rattle.std.proofs.Common.{◌≡◌, ℕ, ◌+◌, ◌*◌, true, Some, None, refl}
+use Rattle.std.specs.Prelude.{not, IsTrue}
+use Rattle.vesgrauf_registry.specs.Codes.{Code}
+use Rattle.vesgrauf_registry.specs.Codes.{code_of, registered}
+use Rattle.vesgrauf_registry.specs.Table.{Entry, IsEntry, are_distinct, all_entries}
+use Rattle.vesgrauf_registry.proofs.TableLemmas.{among-is, among-misses}
+use Rattle.vesgrauf_registry.proofs.ReservedLemmas.{has_form, form_is}
+use Rattle.vesgrauf_registry.proofs.laws.error_codes_are_registered.Goals as goal
+
+found : (n : ℕ) (e : Entry Code) → code_of n ≡ Some e → (n ≡ e.number) × IsEntry e registered
+unfolding code_of
+found n e h = among-is registered n e h
+
+distinct : IsTrue (are_distinct registered)
+unfolding registered
+distinct = refl
+
+no_entry : all_entries (λ e. not (has_form 0x1f 0x21 e.number)) registered ≡ true
+unfolding registered
+no_entry = refl
+
+none_reserved : (n : ℕ) → code_of (0x1f * n + 0x21) ≡ None
+unfolding code_of
+none_reserved n = among-misses (has_form 0x1f 0x21) registered (0x1f * n + 0x21) no_entry (form_is 0x1f 0x21 n)
+
+pub returns-clause-found : goal.returns-clause-found
+returns-clause-found c = found
+
+pub returns-clause-one : goal.returns-clause-one
+returns-clause-one c = distinct
+
+pub returns-clause-none_reserved : goal.returns-clause-none_reserved
+returns-clause-none_reserved c = none_reserved
