@@ -4,6 +4,7 @@ pub mod Tables
 pub mod Storing
 pub mod Cuts
 pub mod Texts
+pub mod Needs
 pub mod Streams
 pub mod Histories
 pub mod Pieces

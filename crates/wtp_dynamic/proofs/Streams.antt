@@ -73,10 +73,10 @@ Stops t bytes = (i : Instruction) (behind : List ℕ) (next : Table) → first_o
 cut_stops : (t : Table) (bytes : List ℕ) → IsCut t bytes → Stops t bytes
 cut_stops t bytes cut i behind next found did = cc (cut, found)
 
-first_same : (i j : Instruction) (a b : List ℕ) → Whole i a ≡ Whole j b → (i ≡ j) × (a ≡ b)
+pub first_same : (i j : Instruction) (a b : List ℕ) → Whole i a ≡ Whole j b → (i ≡ j) × (a ≡ b)
 first_same i j a b e = (cc e, cc e)
 
-fault_stops : (t : Table) (bytes : List ℕ) (e : EncoderStreamError) → HasFault t bytes e → Stops t bytes
+pub fault_stops : (t : Table) (bytes : List ℕ) (e : EncoderStreamError) → HasFault t bytes e → Stops t bytes
 fault_stops t bytes e (inl (long, same)) i behind next found did = cc (long, found)
 fault_stops t bytes e (inr (inl (f, is, same))) i behind next found did = cc (is, found)
 fault_stops t bytes e (inr (inr (j, after, there, fails))) i behind next found did =

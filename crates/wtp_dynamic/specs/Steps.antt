@@ -1,5 +1,5 @@
 -- What the instructions of the encoder stream do to the table (RFC 9204, sections 3.2 and 4.3).
-use Rattle.std.specs.Prelude.{◌≡◌, ◌≢◌, ℕ, ◌^◌, nat_lt, nat_le, if◌then◌else◌, Bool, true, false, List, Result, Ok, Err, MatchResult}
+use Rattle.std.specs.Prelude.{◌≡◌, ◌≢◌, ◌⊎◌, ℕ, ◌^◌, nat_lt, nat_le, if◌then◌else◌, ◌&&◌, ◌||◌, Bool, true, false, IsTrue, List, length, Result, Ok, Err, MatchResult}
 use Rattle.wtp_qpack.specs.Field.{Field}
 use Rattle.wtp_qpack.specs.StaticTable.{entry_at}
 use Rattle.wtp_qpack.specs.StringLiteral.{huffman_text}
@@ -76,3 +76,35 @@ abbrev pub Makes : {X Y : Type 0} → (X → Y) → Result X EncoderStreamError
     → Result Y EncoderStreamError → Type 0
 Makes view result made =
     MatchResult result (λ x. made ≡ Ok (view x)) (λ e. e ≢ fault.Memory → made ≡ Err e)
+
+-- ---- which instructions need memory
+
+-- a string of Huffman text, which is decoded unless it is empty
+abbrev pub is_decoded : Coded → Bool
+is_decoded string = string.0 && nat_lt 0 (length string.1)
+
+-- the instruction has Huffman text to decode, and no fault before it
+abbrev pub HasText : Instruction → Table → Type 0
+HasText (SetCapacity capacity) table = ⊥
+HasText (InsertNamed is_static index value) table =
+    IsTrue (is_decoded value) × (named : Field) × (referred is_static index table ≡ Ok named)
+HasText (InsertLiteral name value) table = IsTrue (is_decoded name || is_decoded value)
+HasText (Duplicate index) table = ⊥
+
+-- the instruction inserts an entry
+abbrev pub AddsEntry : Instruction → Table → Type 0
+AddsEntry instruction table = (entry : Field) × (step instruction table ≡ Ok (inserted entry table))
+
+-- The instruction needs memory: for Huffman text, or for the entry that it inserts. To set the
+-- capacity needs none, nor does a fault, unless Huffman text comes before it.
+abbrev pub NeedsMemory : Instruction → Table → Type 0
+NeedsMemory instruction table = HasText instruction table ⊎ AddsEntry instruction table
+
+-- what was made for an instruction: the entry that it inserts, if it may be inserted; or its fault;
+-- or nothing, since allocation failed
+abbrev pub MakesEntry : {X : Type 0} → (X → Field) → Instruction → Table
+    → Result X EncoderStreamError → Type 0
+MakesEntry view instruction table result =
+    MatchResult result (λ entry. step instruction table ≡ insert_step (view entry) table)
+    (λ e. (e ≢ fault.Memory → step instruction table ≡ Err e)
+    × (e ≡ fault.Memory → NeedsMemory instruction table))

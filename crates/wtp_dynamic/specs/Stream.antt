@@ -1,13 +1,13 @@
 -- The encoder stream: its instructions, one after the other (RFC 9204, section 4.3).
-use Rattle.std.specs.Prelude.{◌≡◌, ◌≢◌, ◌⊎◌, ℕ, List, [], ◌∷◌, Result, Ok, Err, MatchResult}
+use Rattle.std.specs.Prelude.{◌≡◌, ◌≢◌, ◌⊎◌, ℕ, ◌<◌, List, [], ◌∷◌, ◌++◌, length, Result, Ok, Err, MatchResult}
 use Rattle.wtp_qpack.specs.declared.qpack.DecodingError.{DecodingError}
 use Rattle.wtp_qpack.specs.declared.qpack.DecodingError.TheVariants as reading
 use Rattle.wtp_dynamic.specs.declared.error.EncoderStreamError.{EncoderStreamError}
 use Rattle.wtp_dynamic.specs.declared.error.EncoderStreamError.TheVariants as fault
 use Rattle.wtp_dynamic.specs.Table.{Table}
-use Rattle.wtp_dynamic.specs.Instruction.{Instruction}
+use Rattle.wtp_dynamic.specs.Instruction.{Instruction, SetCapacity}
 use Rattle.wtp_dynamic.specs.Front.{Front, Whole, Cut, TooLong, Faulty, most_bytes, front_at}
-use Rattle.wtp_dynamic.specs.Steps.{step}
+use Rattle.wtp_dynamic.specs.Steps.{step, HasText, NeedsMemory as InstructionNeeds}
 
 -- the first instruction of bytes, by the limit of a table
 abbrev pub first_of : Table → List ℕ → Front
@@ -65,3 +65,44 @@ abbrev pub StreamRead : {X : Type 0} → (X → List ℕ) → (old : Table) → 
 StreamRead held old bytes new result =
     MatchResult result (λ x. Stands old bytes new (held x))
     (λ e. Reaches old bytes new × (e ≢ fault.Memory → Breaks old bytes new e))
+
+-- ---- memory
+
+-- the first instruction needs memory, or one that is cut is kept
+abbrev pub NeedsMemory : Table → List ℕ → Type 0
+NeedsMemory table bytes =
+    ((0 < length bytes) × IsCut table bytes)
+    ⊎ ((first : Instruction) × (behind : List ℕ) × (first_of table bytes ≡ Whole first behind)
+    × InstructionNeeds first table)
+
+-- The stream needs memory after the instructions that led to a table.
+pub record Lacks (start : Table) (bytes : List ℕ) (table : Table) : Type 0 where
+  pub instructions : List Instruction
+  pub rest : List ℕ
+  pub leads : Leads instructions start bytes table rest
+  pub needs : NeedsMemory table rest
+
+-- The same of a piece after bytes of a cut instruction that are held. The piece is joined to these
+-- before an instruction is read.
+abbrev pub PieceLacks : Table → (held piece : List ℕ) → Table → Type 0
+PieceLacks start held piece table =
+    ((0 < length held) × (0 < length piece) × (table ≡ start))
+    ⊎ Lacks start (held ++ piece) table
+
+-- why reading a piece stopped: the stream has a fault, or allocation failed and the piece needs memory
+abbrev pub Stops : Table → (held piece : List ℕ) → Table → EncoderStreamError → Type 0
+Stops start held piece table e =
+    (e ≢ fault.Memory → Breaks start (held ++ piece) table e)
+    × (e ≡ fault.Memory → PieceLacks start held piece table)
+
+-- these instructions set the capacity
+abbrev pub OnlyCapacities : List Instruction → Type 0
+OnlyCapacities [] = Unit {0}
+OnlyCapacities (SetCapacity capacity ∷ others) = OnlyCapacities others
+OnlyCapacities (first ∷ others) = ⊥
+
+-- the first instruction has no Huffman text that is decoded
+abbrev pub HasNoText : Table → List ℕ → Type 0
+HasNoText table bytes =
+    (first : Instruction) (behind : List ℕ) → first_of table bytes ≡ Whole first behind
+    → ¬ HasText first table

@@ -4,7 +4,8 @@ ghost use Rattle.wtp_dynamic.specs.declared.error.EncoderStreamError.{EncoderStr
 ghost use Rattle.wtp_dynamic.specs.Table.{Table, Change, History, SetsCapacity, Inserts, Shows, Later, insert_count, table_size, entry_size, resized, inserted, empty_table};
 ghost use Rattle.wtp_qpack.specs.Field.{Field};
 ghost use Rattle.std.specs.List.{flat_map};
-ghost use Rattle.wtp_dynamic.specs.Instruction.{Instruction, IsInstruction, instruction_at};
+ghost use Rattle.wtp_dynamic.specs.Instruction.{Instruction, SetCapacity, IsInstruction, instruction_at};
+ghost use Rattle.wtp_dynamic.specs.Steps.{NeedsMemory as InstructionNeeds};
 ghost use Rattle.wtp_dynamic.specs.InsertCount.{most_entries, IsMeant, encoded_count};
 ghost use Rattle.wtp_dynamic.specs.Section.{Prefix, prefix_at, AreTableLines, is_never};
 ghost use Rattle.wtp_dynamic.specs.Plans.{Plan, planned_line, planned_prefix, is_never_plan, ArePlans};
@@ -13,7 +14,7 @@ ghost use Rattle.wtp_dynamic.specs.Pair.{section_of, Paired};
 ghost use Rattle.wtp_dynamic.specs.declared.ledger.Sent.{Sent};
 ghost use Rattle.wtp_dynamic.specs.EncoderState.{Encoder, Owes, may_insert, may_resize, taken, with_entry, with_capacity, with_section, acknowledged, cancelled, incremented, IsOpen, AreFrom};
 ghost use Rattle.wtp_dynamic.specs.Writing.{Order, written, Carries};
-ghost use Rattle.wtp_dynamic.specs.Stream.{Leads, Stands, Breaks};
+ghost use Rattle.wtp_dynamic.specs.Stream.{Leads, Stands, Breaks, HasFault, Lacks, OnlyCapacities, HasNoText};
 
 /// However a stream is cut: what pieces lead to one after the other, they lead to joined; and there
 /// is one result. What follows a fault changes nothing.
@@ -33,6 +34,19 @@ pub fn pieces_of_streams()
         (e : EncoderStreamError) → Stands start bytes table held → ¬ Breaks start bytes other e }
     ensures one_fault { (start : Table) (bytes : List ℕ) (table other : Table) (e f : EncoderStreamError)
         → Breaks start bytes table e → Breaks start bytes other f → (table ≡ other) × (e ≡ f) }
+{}
+
+/// Memory is lacking only before the first fault: to set the capacity needs none, and an instruction
+/// at fault needs none, unless it has Huffman text to decode. So where instructions that set the
+/// capacity come first, or none, such a fault is returned however little memory there is.
+pub fn faults_need_no_memory()
+    ensures capacity { (capacity : ℕ) (table : Table)
+        → ¬ InstructionNeeds (SetCapacity capacity) table }
+    ensures fault { (table : Table) (bytes : List ℕ) (e : EncoderStreamError) (after : Table)
+        → HasFault table bytes e → HasNoText table bytes → ¬ Lacks table bytes after }
+    ensures later { (instructions : List Instruction) (start : Table) (bytes : List ℕ) (table : Table)
+        (rest : List ℕ) (after : Table) → Leads instructions start bytes table rest
+        → OnlyCapacities instructions → Lacks start bytes after → Lacks table rest after }
 {}
 
 /// The table is that of the standard: what is left after changes are the entries that are live by

@@ -1,15 +1,16 @@
 //! The encoder stream, read from pieces that are cut anywhere (RFC 9204, section 4.3).
 
-ghost use Rattle.std.specs.Prelude.{◌≡◌, ◌≢◌, ℕ, List, [], ◌++◌, ◌^◌, ◌≤◌, ◌<◌, length, take, drop, OnOk, IfOk, Ok, Err, MatchResult, MatchOption, false};
+ghost use Rattle.std.specs.Prelude.{◌≡◌, ◌≢◌, ℕ, List, [], ◌++◌, ◌^◌, ◌≤◌, ◌<◌, ◌&&◌, ◌||◌, IsTrue, length, take, drop, OnOk, IfOk, Ok, Err, MatchResult, MatchOption, false};
 ghost use Rattle.std.specs.List.{flat_map};
 ghost use Rattle.std.specs.Vec.{vec_len};
 ghost use Rattle.wtp_dynamic.specs.declared.error.EncoderStreamError.TheVariants.{Memory};
 ghost use Rattle.wtp_dynamic.specs.Table.{empty_table};
 ghost use Rattle.wtp_dynamic.specs.InstructionView.{coded, instruction};
-ghost use Rattle.wtp_dynamic.specs.Steps.{text_of, referred, named_entry, referring_entry, literal_entry, step, Steps, Makes};
+ghost use Rattle.wtp_dynamic.specs.Instruction.{InsertNamed, InsertLiteral, Duplicate};
+ghost use Rattle.wtp_dynamic.specs.Steps.{text_of, referred, step, Steps, Makes, is_decoded, MakesEntry, NeedsMemory as InstructionNeeds};
 ghost use Rattle.wtp_dynamic.specs.FrontView.{front_seen};
 ghost use Rattle.wtp_dynamic.specs.Front.{most_bytes};
-ghost use Rattle.wtp_dynamic.specs.Stream.{first_of, reading_fault, IsCut, StreamRead};
+ghost use Rattle.wtp_dynamic.specs.Stream.{first_of, reading_fault, IsCut, StreamRead, Lacks, PieceLacks};
 
 use crate::error::EncoderStreamError;
 use crate::front::{self, Front};
@@ -40,29 +41,67 @@ fn append_text(texts: &mut Vec<u8>, string: Coded<'_>) -> Result<(), EncoderStre
     }
 }
 
-/// Makes an entry of a name and the text of a value.
-fn name_entry(alloc: Global, name: &[u8], value: Coded<'_>) -> Result<Entry, EncoderStreamError>
-    ensures { Makes (λ entry. entry) result (named_entry name.now (coded value.entry)) }
+/// Returns whether one of two strings has to be decoded.
+fn has_text(name: Coded<'_>, value: Coded<'_>) -> bool
+    ensures { result ≡ (is_decoded (coded name.entry) || is_decoded (coded value.entry)) }
 {
-    let mut texts = Vec::new(alloc);
-    texts.extend_from_slice(name)?;
-    append_text(&mut texts, value)?;
-    Ok(Entry::from_parts(texts, name.len()))
+    (name.is_huffman && !name.bytes.is_empty()) || (value.is_huffman && !value.bytes.is_empty())
 }
 
-/// Makes an entry of the texts of a name and a value.
+/// Makes an entry of the texts of a name and a value. If none has to be decoded, the entry is
+/// checked first, and memory is allocated only for one that may be inserted.
 fn spell_entry(
     alloc: Global,
+    table: &DynamicTable,
     name: Coded<'_>,
     value: Coded<'_>,
 ) -> Result<Entry, EncoderStreamError>
-    ensures { Makes (λ entry. entry) result (literal_entry (coded name.entry) (coded value.entry)) }
+    ensures { MakesEntry (λ entry. entry) (InsertLiteral (coded name.entry) (coded value.entry))
+        table.now result }
 {
+    if !has_text(name, value) {
+        return match table.admits(name.bytes.len() + value.bytes.len()) {
+            Ok(()) => Ok(Entry::new(alloc, name.bytes, value.bytes)?),
+            Err(fault) => Err(fault),
+        };
+    }
     let mut texts = Vec::new(alloc);
     append_text(&mut texts, name)?;
     let middle = texts.len();
     append_text(&mut texts, value)?;
     Ok(Entry::from_parts(texts, middle))
+}
+
+/// A text as it is.
+fn plain(bytes: &[u8]) -> Coded<'_>
+    ensures { coded result ≡ (false, bytes.now) }
+{
+    Coded {
+        is_huffman: false,
+        bytes,
+    }
+}
+
+/// Finds an entry of the static table, or the latest of the dynamic table at 0.
+fn find<'a>(
+    table: &'a DynamicTable,
+    is_static: bool,
+    index: u64,
+) -> Result<(&'a [u8], &'a [u8]), EncoderStreamError>
+    ensures { MatchResult result (λ e. referred is_static index table.now ≡ Ok (e.0.now, e.1.now))
+        (λ e. (e ≢ Memory) × (referred is_static index table.now ≡ Err e)) }
+{
+    if is_static {
+        match static_entry(index) {
+            Some((name, value)) => Ok((name.as_bytes(), value.as_bytes())),
+            None => Err(EncoderStreamError::IndexNotFound),
+        }
+    } else {
+        match table.get_relative(table.insert_count(), index) {
+            Some(entry) => Ok(entry),
+            None => Err(EncoderStreamError::EntryNotFound),
+        }
+    }
 }
 
 /// Makes an entry with the name of another, and the text of a value.
@@ -73,29 +112,22 @@ fn refer_entry(
     index: u64,
     value: Coded<'_>,
 ) -> Result<Entry, EncoderStreamError>
-    ensures { Makes (λ entry. entry) result
-        (referring_entry is_static index (coded value.entry) table.now) }
+    ensures { MakesEntry (λ entry. entry) (InsertNamed is_static index (coded value.entry))
+        table.now result }
 {
-    if is_static {
-        match static_entry(index) {
-            Some((name, _)) => name_entry(alloc, name.as_bytes(), value),
-            None => Err(EncoderStreamError::IndexNotFound),
-        }
-    } else {
-        match table.get_relative(table.insert_count(), index) {
-            Some((name, _)) => name_entry(alloc, name, value),
-            None => Err(EncoderStreamError::EntryNotFound),
-        }
+    match find(table, is_static, index) {
+        Ok((name, _)) => spell_entry(alloc, table, plain(name), value),
+        Err(fault) => Err(fault),
     }
 }
 
 /// Copies an entry.
 fn copy_entry(alloc: Global, table: &DynamicTable, index: u64) -> Result<Entry, EncoderStreamError>
-    ensures { Makes (λ entry. entry) result (referred false index table.now) }
+    ensures { MakesEntry (λ entry. entry) (Duplicate index) table.now result }
 {
-    match table.get_relative(table.insert_count(), index) {
-        Some((name, value)) => Ok(Entry::new(alloc, name, value)?),
-        None => Err(EncoderStreamError::EntryNotFound),
+    match find(table, false, index) {
+        Ok((name, value)) => spell_entry(alloc, table, plain(name), plain(value)),
+        Err(fault) => Err(fault),
     }
 }
 
@@ -105,14 +137,15 @@ fn apply(
     table: &mut DynamicTable,
     next: Instruction<'_>,
 ) -> Result<(), EncoderStreamError>
-    ensures { Steps (step (instruction next.entry) table.old) table.old table.new result }
+    ensures step { Steps (step (instruction next.entry) table.old) table.old table.new result }
+    ensures memory { result ≡ Err Memory → InstructionNeeds (instruction next.entry) table.old }
 {
     let entry = match next {
         Instruction::SetCapacity(capacity) => return table.set_capacity(capacity),
         Instruction::InsertNamed(is_static, index, value) => {
             refer_entry(alloc, table, is_static, index, value)
         }
-        Instruction::InsertLiteral(name, value) => spell_entry(alloc, name, value),
+        Instruction::InsertLiteral(name, value) => spell_entry(alloc, table, name, value),
         Instruction::Duplicate(index) => copy_entry(alloc, table, index),
     };
     match entry {
@@ -144,7 +177,8 @@ fn read_instructions<'a>(
     table: &mut DynamicTable,
     bytes: &'a [u8],
 ) -> Result<&'a [u8], EncoderStreamError>
-    ensures { StreamRead (λ rest. rest.now) table.old bytes.now table.new result }
+    ensures read { StreamRead (λ rest. rest.now) table.old bytes.now table.new result }
+    ensures memory { result ≡ Err Memory → Lacks table.old bytes.now table.new }
 {
     let mut rest = bytes;
     'instructions: loop {
@@ -240,10 +274,16 @@ impl EncoderStream {
 
     /// Reads the next piece of the stream: does the instructions that are now complete.
     ///
-    /// Returns the fault of the stream, if it has one. The stream cannot be read on after an error.
-    #[tactic(auto, using(crate::proofs::Streams::cut_nothing))]
+    /// Returns the fault of the stream, if it has one. Returns [`EncoderStreamError::Memory`] only if
+    /// allocation failed for Huffman text, for an entry that may be inserted, for the bytes of a cut
+    /// instruction, or to join the piece to such bytes: no other instruction at fault needs memory. The
+    /// stream cannot be read on after an error.
+    #[tactic(auto, using(crate::proofs::Streams::cut_nothing, crate::proofs::Needs::keeps_rest))]
     pub fn read(&mut self, alloc: Global, piece: &[u8]) -> Result<(), EncoderStreamError>
-        ensures { StreamRead (λ _. self.new.1) self.old.0 (self.old.1 ++ piece.now) self.new.0 result }
+        ensures read { StreamRead (λ _. self.new.1) self.old.0 (self.old.1 ++ piece.now) self.new.0
+            result }
+        ensures memory { result ≡ Err Memory
+            → PieceLacks self.old.0 self.old.1 piece.now self.new.0 }
     {
         if !self.held.is_empty() {
             return self.read_on(alloc, piece);
@@ -255,10 +295,19 @@ impl EncoderStream {
     }
 
     /// The same after a piece that cut an instruction.
-    #[tactic(auto, using(crate::proofs::Streams::cut_nothing))]
+    #[tactic(auto, using(crate::proofs::Streams::cut_nothing, crate::proofs::Streams::stands_at_start, crate::proofs::Needs::keeps_rest))]
     fn read_on(&mut self, alloc: Global, piece: &[u8]) -> Result<(), EncoderStreamError>
-        ensures { StreamRead (λ _. self.new.1) self.old.0 (self.old.1 ++ piece.now) self.new.0 result }
+        requires { 0 < length self.old.1 }
+        ensures read { StreamRead (λ _. self.new.1) self.old.0 (self.old.1 ++ piece.now) self.new.0
+            result }
+        ensures memory { result ≡ Err Memory
+            → PieceLacks self.old.0 self.old.1 piece.now self.new.0 }
     {
+        // The bytes that are held are cut.
+        let _ = &self.held;
+        if piece.is_empty() {
+            return Ok(());
+        }
         self.held.extend_from_slice(piece)?;
         let joined = replace(&mut self.held, Vec::new(alloc));
         let rest = read_instructions(alloc, &mut self.table, joined.as_slice())?;

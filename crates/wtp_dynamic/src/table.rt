@@ -3,6 +3,7 @@
 ghost use Rattle.std.specs.Prelude.{◌≡◌, ℕ, ◌+◌, ◌-◌, ◌^◌, ◌<◌, ◌≤◌, List, length, take, drop, IfOk, Ok, Err, MatchResult, option_map};
 ghost use Rattle.std.specs.Vec.{vec_len};
 ghost use Rattle.std.specs.VecDeque.{deque_capacity};
+ghost use Rattle.wtp_qpack.specs.Field.{Field};
 ghost use Rattle.wtp_dynamic.specs.declared.error.EncoderStreamError.TheVariants.{Memory};
 ghost use Rattle.wtp_dynamic.specs.Table.{Table, entry_size, table_size, insert_count, excess, evicted, inserted, appended, empty_table, bare_table, entry_of, relative_entry, post_base_entry};
 ghost use Rattle.wtp_dynamic.specs.Steps.{set_step, insert_step, Steps};
@@ -246,6 +247,23 @@ impl DynamicTable {
             capacity,
         );
         self.capacity = capacity;
+        Ok(())
+    }
+
+    /// Checks that an entry with texts of so many bytes may be inserted. It needs no memory.
+    pub(crate) fn admits(&self, texts: usize) -> Result<(), EncoderStreamError>
+        ensures step { (entry : Field) → length entry.0 + length entry.1 ≡ texts
+            → MatchResult result (λ _. insert_step entry self.now ≡ Ok (inserted entry self.now))
+            (λ e. insert_step entry self.now ≡ Err e) }
+        ensures memory { ¬ (result ≡ Err Memory) }
+    {
+        let texts = texts as u64;
+        if texts > self.capacity || texts + 32 > self.capacity {
+            return Err(EncoderStreamError::EntryTooLarge);
+        }
+        if self.insert_count() >= 1 << 62 {
+            return Err(EncoderStreamError::TooManyInsertions);
+        }
         Ok(())
     }
 

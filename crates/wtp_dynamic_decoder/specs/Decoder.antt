@@ -1,15 +1,14 @@
 -- A decoder: its table, the streams that wait, and what it tells the encoder (RFC 9204, sections
 -- 2.2 and 4.4).
-use Rattle.std.specs.Prelude.{◌≡◌, ◌≢◌, ◌⊎◌, ℕ, ◌-◌, ◌<◌, ◌≤◌, ◌==◌, nat_lt, not, filter, if◌then◌else◌, max, Bool, true, false, ◌&&◌, List, [], ◌∷◌, ◌++◌, length, Option, Some, None, Result, Ok, Err, MatchResult}
+use Rattle.std.specs.Prelude.{◌≡◌, ◌⊎◌, ℕ, ◌-◌, ◌<◌, ◌≤◌, ◌==◌, nat_lt, not, filter, if◌then◌else◌, max, Bool, true, false, ◌&&◌, List, [], ◌∷◌, ◌++◌, length, Option, Some, None, Result, Ok, Err, MatchResult}
 use Rattle.wtp_dynamic.specs.declared.error.EncoderStreamError.{EncoderStreamError}
-use Rattle.wtp_dynamic.specs.declared.error.EncoderStreamError.TheVariants as stream
 use Rattle.wtp_dynamic.specs.declared.error.SectionError.{SectionError}
 use Rattle.wtp_dynamic.specs.declared.error.SectionError.TheVariants.{TooManyBlocked, Memory}
 use Rattle.wtp_dynamic.specs.declared.acknowledgment.Acknowledgment.{Acknowledgment}
 use Rattle.wtp_dynamic.specs.declared.acknowledgment.Acknowledgment.TheVariants as instruction
 use Rattle.wtp_dynamic.specs.DecoderStream.{acknowledgment_bytes}
 use Rattle.wtp_dynamic.specs.Table.{Table, insert_count}
-use Rattle.wtp_dynamic.specs.Stream.{Stands, Reaches, Breaks}
+use Rattle.wtp_dynamic.specs.Stream.{Stands, Reaches, Stops}
 use Rattle.wtp_dynamic.specs.Section.{Prefix, prefix_at, is_blocked}
 use Rattle.wtp_dynamic_decoder.specs.declared.decoder.Waiting.{Waiting}
 
@@ -39,8 +38,9 @@ pub record Decoder : Type 0 where
 
 -- ---- the encoder stream
 
--- What reading a piece did: after an error nothing. An error stays; the table is what the
--- instructions before it made.
+-- What reading a piece did: after an error nothing. An error stays, which is the fault of the stream,
+-- or that allocation failed and the piece needs memory; the table is what the instructions before it
+-- made.
 abbrev pub PieceRead : Progress → List ℕ → (old new : Decoder)
     → Result (Unit {0}) EncoderStreamError → Type 0
 PieceRead (Failed e) piece old new result = (new ≡ old) × (result ≡ Err e)
@@ -49,7 +49,7 @@ PieceRead (Runs held) piece old new result =
     (λ _. (left : List ℕ) × Stands old.table (held ++ piece) new.table left
     × (new ≡ record old { table = new.table; progress = Runs left }))
     (λ e. Reaches old.table (held ++ piece) new.table
-    × (e ≢ stream.Memory → Breaks old.table (held ++ piece) new.table e)
+    × Stops old.table held piece new.table e
     × (new ≡ record old { table = new.table; progress = Failed e }))
 
 -- ---- sections

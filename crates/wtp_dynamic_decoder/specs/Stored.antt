@@ -55,8 +55,8 @@ most_stored limit = 56 + (most_bytes limit + limit)
 
 -- ---- which decoders are stored
 
--- What is true of each decoder (RFC 9204, section 3.2), of which no stream waits: a connection has
--- these streams wait elsewhere.
+-- What is true of each decoder (RFC 9204, section 3.2) of which no stream waits and none may, since
+-- its bytes have neither: a connection has these streams wait elsewhere.
 pub record IsDecoder (d : Decoder) : Type 0 where
   pub limit : d.table.limit < 2 ^ 60
   pub capacity : d.table.capacity ≤ d.table.limit

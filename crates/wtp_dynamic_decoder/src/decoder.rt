@@ -1,10 +1,12 @@
 //! The decoder: the encoder stream, sections, and what is due on the decoder stream.
 
-ghost use Rattle.std.specs.Prelude.{◌≡◌, ℕ, ◌^◌, ◌<◌, ◌≤◌, [], MatchResult, length, filter};
+ghost use Rattle.std.specs.Prelude.{◌≡◌, ℕ, ◌^◌, ◌<◌, ◌≤◌, List, [], Result, Err, MatchResult, length, filter};
 ghost use Rattle.std.specs.Vec.{vec_len, vec_capacity};
 ghost use Rattle.wtp_dynamic.specs.Table.{empty_table, insert_count};
 ghost use Rattle.wtp_dynamic.specs.Front.{most_bytes};
-ghost use Rattle.wtp_dynamic_decoder.specs.Decoder.{Runs, held_count, PieceRead, waits, is_other, Refuses, due_section, due_increment, due_cancellation, acknowledged, incremented, cancelled, Tells};
+ghost use Rattle.wtp_dynamic.specs.Stream.{HasFault, HasNoText};
+ghost use Rattle.wtp_dynamic.specs.declared.error.EncoderStreamError.{EncoderStreamError};
+ghost use Rattle.wtp_dynamic_decoder.specs.Decoder.{Decoder, Runs, held_count, PieceRead, waits, is_other, Refuses, due_section, due_increment, due_cancellation, acknowledged, incremented, cancelled, Tells};
 ghost use Rattle.wtp_dynamic_decoder.specs.Opening.{OpensAs};
 
 pub mod stored;
@@ -154,9 +156,11 @@ impl QpackDecoder {
 
     /// Reads the next piece of the encoder stream: does the instructions that are now complete.
     ///
-    /// Returns the fault of the stream, or [`EncoderStreamError::Memory`] if allocation failed. The
-    /// table then is what the instructions before it made, and the stream has ended: every later
-    /// call returns the same error and does nothing.
+    /// Returns the fault of the stream, or [`EncoderStreamError::Memory`] if allocation failed for
+    /// Huffman text, for an entry that may be inserted, for the bytes of a cut instruction, or to join
+    /// `piece` to such bytes; any other instruction at fault is reported however little memory there
+    /// is. The table then is what the instructions before it made, and the stream has ended: every
+    /// later call returns the same error and does nothing.
     #[tactic(auto, using(crate::proofs::Grown::stands_grow, crate::proofs::Grown::reaches_grow))]
     pub fn read_encoder_stream(&mut self, piece: &[u8]) -> Result<(), EncoderStreamError>
         ensures { PieceRead self.old.progress piece.now self.old self.new result }
@@ -260,3 +264,12 @@ impl QpackDecoder {
         Ok(())
     }
 }
+
+/// An instruction at fault is reported as such: if no bytes of one are held, a piece that begins with
+/// it returns its fault and never [`EncoderStreamError::Memory`], unless it has Huffman text to decode
+/// (RFC 9204, section 6).
+pub fn faults_are_reported()
+    ensures { (piece : List ℕ) (old new : Decoder) (result : Result (Unit {0}) EncoderStreamError)
+        (e : EncoderStreamError) → PieceRead (Runs []) piece old new result
+        → HasFault old.table piece e → HasNoText old.table piece → result ≡ Err e }
+{}

@@ -83,8 +83,8 @@ impl<'a> SectionLines<'a> {
     /// Returns the fault of the line, if it has one. Returns [`SectionError::Memory`] only if
     /// `room` has less than twice the bytes that are left, and the line has a Huffman text that is
     /// there, with no fault before it. On an error no line is taken, so the next call reads the
-    /// same line. The table is borrowed as long as the section, so all lines are read with one
-    /// table.
+    /// same line. Each call takes any table; the lines of one section are read with the table of the
+    /// decoder that opened it, if the caller passes that one each time.
     #[tactic(auto, using(wtp_dynamic::proofs::Answered::table_line_shorter))]
     pub fn next_line<'r>(
         &mut self,

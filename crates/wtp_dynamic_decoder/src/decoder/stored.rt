@@ -54,8 +54,8 @@ fn fault_at(number: u64) -> Option<EncoderStreamError>
 
 impl QpackDecoder {
     /// Returns the decoder in bytes: its numbers, what it holds of an instruction, and its entries,
-    /// but not which streams wait. They are at most `5 * limit + 87`, for the limit of the table's
-    /// capacity.
+    /// but neither which streams wait nor how many may: in a decoder that is made of them none does,
+    /// and none may. They are at most `5 * limit + 87`, for the limit of the table's capacity.
     pub fn to_bytes(&self, alloc: Global) -> Result<Vec<u8>, AllocError>
         ensures bytes { IfOk result (λ bytes. bytes.items ≡ decoder_bytes self.now) }
         ensures size { IfOk result (λ bytes. length bytes.items < most_stored self.now.table.limit) }

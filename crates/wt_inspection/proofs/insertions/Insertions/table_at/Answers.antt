@@ -7,4 +7,4 @@ pub loop-i-preserved : goal.loop-i-preserved
 loop-i-preserved c =
     let some : c.loop-i.i < length c.args.self.now.bytes = search rules in
     let fewer : insert_count c.loop-i.stream.0 < c.args.count = search rules in
-    one_more c.args.self.now.limit c.args.count c.loop-i.i c.args.self.now.bytes _ _ _ _ _ c.loop-i.invariant some (search rules) fewer c.in-Ok.ensures
+    one_more c.args.self.now.limit c.args.count c.loop-i.i c.args.self.now.bytes _ _ _ _ _ c.loop-i.invariant some (search rules) fewer c.in-Ok.ensures.read
