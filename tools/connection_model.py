@@ -64,8 +64,6 @@ def settings_in(content, at, end):
             return 0x109
         if name[0] in DEFAULTS:
             pairs[name[0]] = value[0]
-    if pairs.get(WEBTRANSPORT_ON) == 1 and pairs.get(DATAGRAM) != 1:
-        return 0x109
     return values_of(pairs.items())
 
 
@@ -92,6 +90,12 @@ class Side:
 
     is_server: bool
     webtransport: bool
+
+
+def is_forbidden(side):
+    """Returns whether the peer may open no bidirectional stream: a server may not, unless
+    WebTransport is enabled (6.1)."""
+    return not side.is_server and not side.webtransport
 
 
 class Model:
@@ -156,12 +160,14 @@ class Model:
         return self.end() if self.fin else None
 
     def bidirectional(self):
+        if is_forbidden(self.side):
+            return self.fault(0x103) if self.content or self.fin else None
         first = self.number(0)
         if first is None:
             if not self.fin:
                 return self.left()
             if not self.side.is_server:
-                return self.fault(0x103)
+                return self.fault(0x103) if self.content else self.end()
             return self.fault(0x106 if self.content else 0x10D)
         if first[0] == WEBTRANSPORT and self.side.webtransport:
             self.at = first[1]

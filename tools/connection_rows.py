@@ -149,7 +149,18 @@ ROWS = [
     Row("a push stream to a client (4.6)", 7, b"\x01\0", ID, client=True),
     Row("a stream of a server (6.1)", 1, b"\x40\x41\0", STREAM_CREATION, client=True, plain=True),
     Row("a request of a server (6.1)", 1, HEADERS, STREAM_CREATION, client=True),
-    Row("a stream of a server without bytes", 1, b"", STREAM_CREATION, client=True, end=True),
+    *(
+        Row(f"a server's {shown}", 1, data, STREAM_CREATION, client=True, plain=True, **how)
+        for shown, data, how in (
+            ("stream by part of a number (6.1)", b"\x80", {}),
+            ("stream by a byte (6.1)", b"\0", {}),
+            ("stream by a part and a reset (6.1)", b"\x80", {"after": "reset 1"}),
+            ("stream by its reset (6.1)", b"", {"after": "reset 1"}),
+            ("stream by its end (6.1)", b"", {"end": True}),
+        )
+    ),
+    Row("a stream of a server without bytes (6.1)", 1, b"", client=True, end=True),
+    Row("one that is reset in its head (6.1)", 1, b"\x40\x41", client=True, after="reset 1"),
     Row("a server's stream in its first byte", 1, b"\x40", STREAM_CREATION, client=True, end=True),
     Row("a server's stream in an ID (7.1)", 1, b"\x40\x41\x40", FRAME, client=True, end=True),
     Row("0x54 without WebTransport (9)", OTHER, b"\x40\x54\x01abc", plain=True, end=True),
@@ -306,6 +317,7 @@ ROWS = [
     Row("a setting without its value (7.1)", CONTROL, b"\0" + frame(4, b"\x08"), FRAME),
     Row("half of a value (7.1)", CONTROL, b"\0" + frame(4, b"\x08\x40"), FRAME),
     Row("datagrams neither on nor off", CONTROL, settings((0x33, 2)), WRONG_SETTINGS),
+    Row("WebTransport without datagrams", CONTROL, settings((0x2B603742, 1))),
     Row("extended CONNECT neither on nor off", CONTROL, settings((8, 2)), WRONG_SETTINGS),
     Row("the largest limit of a section", CONTROL, settings((6, 2**62 - 1))),
     # QPACK's streams, without a table (RFC 9204, sections 3.2.3, 4.3 and 4.4).

@@ -9,7 +9,7 @@ the other streams may be cut short, and nothing may follow.
 import random
 from dataclasses import dataclass
 
-from connection_model import CRITICAL, Side, events_of
+from connection_model import CRITICAL, Side, events_of, is_forbidden
 from connection_rows import frame, number
 from recorded_connections import number_at
 from random_streams import Batch, StreamOfScript, mixed
@@ -101,8 +101,6 @@ class Maker:
     def control(self):
         rng = self.rng
         pairs = rng.sample(SETTINGS, rng.randrange(len(SETTINGS)))
-        if (0x2B603742, 1) in pairs and (0x33, 1) not in pairs:
-            pairs.append((0x33, 1))
         if self.has_errors and rng.random() < 0.1:
             pairs.append(rng.choice(WRONG_SETTINGS))
         settings = b"".join(self.number(name) + self.number(value) for name, value in pairs)
@@ -228,6 +226,8 @@ class Script:
         if stream.left_by == "reset" and not any(event[0] == "fault" for event in events):
             if is_critical_stream:
                 stream.events.append(("fault", 0x104, "connection"))
+            elif stream.stream % 4 == 1 and is_forbidden(self.side):
+                stream.events.append(("fault", 0x103, "connection"))
             elif self.side.is_server and has_no_headers(stream):
                 stream.events.append(("fault", 0x10D, "stream"))
 

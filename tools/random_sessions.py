@@ -10,6 +10,7 @@ import random
 from dataclasses import dataclass
 
 from connection_model import CONNECT, CRITICAL, DATAGRAM, DEFAULTS, Side, WEBTRANSPORT_ON
+from connection_model import is_forbidden
 from connection_rows import frame
 from message_bytes import CONNECT as TUNNEL
 from message_bytes import GET, SESSION, capsule, line, prefixed
@@ -431,6 +432,8 @@ class SessionScript:
             return [("abandoned",), ("lost",)] if held else [("abandoned",)]
         if is_critical_stream:
             return [("fault", CLOSED_CRITICAL, "connection")]
+        if stream.stream % 4 == 1 and is_forbidden(self.side):
+            return [("fault", STREAM_CREATION, "connection")]
         if held:
             return [("lost",)]
         if is_done(events):

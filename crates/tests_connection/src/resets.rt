@@ -157,6 +157,74 @@ fn a_reset_ends_a_stream_or_the_connection(rt: HostRuntime) {
     }
 }
 
+/// A bidirectional stream of a server that is reset.
+struct FromServer {
+    /// What it case.
+    case: &'static str,
+    /// Whether the client enables WebTransport.
+    webtransport: bool,
+    /// The bytes that came before.
+    bytes: &'static [u8],
+    /// The code of the error in these bytes; 0 if there is none.
+    read: u64,
+    /// The code of the error of the reset; 0 if there is none.
+    code: u64,
+}
+
+/// Streams that a server may open where WebTransport is enabled, and not else (6.1).
+static FROM_SERVER: [FromServer; 4] = [
+    FromServer {
+        case: "before its first byte, without WebTransport",
+        webtransport: false,
+        bytes: &[],
+        read: 0,
+        code: 0x103,
+    },
+    FromServer {
+        case: "in its first number, without WebTransport",
+        webtransport: false,
+        bytes: &[0x80],
+        read: 0x103,
+        code: 0,
+    },
+    FromServer {
+        case: "before its first byte, with WebTransport",
+        webtransport: true,
+        bytes: &[],
+        read: 0,
+        code: 0,
+    },
+    FromServer {
+        case: "before the ID of its session, with WebTransport",
+        webtransport: true,
+        bytes: &[0x40, 0x41],
+        read: 0,
+        code: 0,
+    },
+];
+
+#[test]
+fn a_server_resets_streams_that_it_may_open(rt: HostRuntime) {
+    for row in &FROM_SERVER {
+        let mut connection = connection_of(false, row.webtransport);
+        let mut stream = Stream::of_peer(1);
+        let came = read(&mut connection, &mut stream, row.bytes, 64, false);
+        assert_same(&rt, came.code, row.read, row.case);
+        let reset = error_of(connection.reset(&mut stream));
+        assert_same(&rt, reset, (row.code, row.code != 0), row.case);
+        let mut control = Stream::of_peer(3);
+        let settings = read(
+            &mut connection,
+            &mut control,
+            &[0x00, 0x04, 0x00],
+            64,
+            false,
+        );
+        let goes_on = row.read == 0 && row.code == 0;
+        assert_same(&rt, settings.frames == 1, goes_on, row.case);
+    }
+}
+
 /// Returns a stream that waits for session 0.
 fn waiting(connection: &mut Connection, id: u64) -> Stream {
     let mut stream = Stream::of_peer(id);

@@ -48,7 +48,7 @@ const OPEN: Row = Row {
 
 /// Streams by the rule that they keep or violate. All of these errors but those of a request that
 /// is not complete end the connection.
-static ROWS: [Row; 30] = [
+static ROWS: [Row; 34] = [
     Row {
         case: "a second control stream (6.2.1)",
         bytes: &[0x00],
@@ -242,6 +242,40 @@ static ROWS: [Row; 30] = [
         bytes: &[],
         fin: true,
         code: 0x103,
+        ..OPEN
+    },
+    Row {
+        case: "a stream of a server, by part of its first number (6.1)",
+        server: false,
+        id: 1,
+        bytes: &[0x80],
+        code: 0x103,
+        ..OPEN
+    },
+    Row {
+        case: "a stream of a server, by its first number (6.1)",
+        server: false,
+        id: 1,
+        bytes: &[0x00],
+        code: 0x103,
+        ..OPEN
+    },
+    Row {
+        case: "a stream of a server without bytes, with WebTransport (6.1)",
+        server: false,
+        webtransport: true,
+        id: 1,
+        bytes: &[],
+        fin: true,
+        ..OPEN
+    },
+    Row {
+        case: "a stream of a server in its first number, with WebTransport",
+        server: false,
+        webtransport: true,
+        id: 1,
+        bytes: &[0x80],
+        left: 1,
         ..OPEN
     },
     Row {

@@ -1,5 +1,5 @@
 -- What a call finds where the stream ends.
-use Rattle.std.proofs.Common.{◌≡◌, ℕ, ◌≤◌, ◌||◌, Bool, true, false, cond, List, [], ◌∷◌, ◌++◌, length, drop, Some, None, Result, Ok, Err, refl, sym, ap, subst, ◌∙◌, append_assoc, inl, inr}
+use Rattle.std.proofs.Common.{◌≡◌, ℕ, ◌≤◌, ◌||◌, Bool, true, false, cond, List, [], ◌∷◌, ◌++◌, length, drop, Option, Some, None, Result, Ok, Err, refl, sym, ap, subst, ◌∙◌, append_assoc, inl, inr}
 use Rattle.std.proofs.lemmas.Bool.{cases_Bool}
 use Rattle.std.proofs.lemmas.List.{append-nil}
 use Rattle.wtp_core.specs.Varint.{number_at}
@@ -7,14 +7,16 @@ use Rattle.wtp_frames.specs.Run.{Run}
 use Rattle.wtp_frames.proofs.RunLemmas.{run_none}
 use Rattle.wtp_frames.specs.declared.fault.Fault.{Fault as StreamFault}
 use Rattle.wtp_frames.specs.declared.fault.Fault.TheVariants as stream
-use Rattle.wtp_connection.specs.Opening.{uni_at, bi_at, over_by}
+use Rattle.wtp_connection.specs.Opening.{uni_at, over_by}
+use Rattle.wtp_connection.specs.declared.stream.Purpose.{Purpose}
+use Rattle.wtp_connection.proofs.OpeningLemmas.{bi_none}
 use Rattle.wtp_connection.specs.declared.fault.Fault.TheVariants as fault
 use Rattle.wtp_connection.specs.declared.stream.Stream.{Stream}
 use Rattle.wtp_connection.specs.declared.stream.Stream.TheVariants.{Uni, Bi, Frames, Joining, Waiting, Session, Encoder, Decoder, Ignored, Incomplete, Over}
 use Rattle.wtp_connection.specs.declared.connection.Connection.{Connection}
 use Rattle.wtp_connection.specs.declared.connection.Found.{Found}
 use Rattle.wtp_connection.specs.declared.connection.Found.TheVariants as found
-use Rattle.wtp_connection.specs.Streams.{closed_by, Seen, Broke, Ended, StreamRun, rests, followed, all_given, has_frames, of_items, run_intact, run_stream, end_of, by_fault, ending, ended}
+use Rattle.wtp_connection.specs.Streams.{closed_by, Seen, Broke, Ended, StreamRun, rests, followed, all_given, has_frames, of_items, by_opening, run_intact, run_stream, end_of, by_fault, ending, ended}
 use Rattle.wtp_connection.specs.Receiving.{seen_of, rest_after, Idle, StepIsFound, Settled, FoundIs, more_in, finish_by, finish_open, finish_of}
 use Rattle.wtp_connection.proofs.StreamLemmas.{over_given, incomplete_given}
 
@@ -69,9 +71,9 @@ found_before x c s bytes fin d t e none h = record {
 
 -- a stream without bytes rests
 none_open : (c : Connection) (s : Stream) → run_intact c s [] ≡ rests c s []
-unfolding uni_at bi_at number_at
+unfolding uni_at number_at
 none_open c Uni = refl
-none_open c Bi = refl
+none_open c Bi = ap (λ (o : Option (Purpose × List ℕ)). by_opening c Bi [] o) (bi_none c.endpoint)
 none_open c (Frames r given) = ap (λ (y : Run). of_items c (λ d. rests d (Frames y.reader (has_frames y.items || given)) y.left) y.items) (run_none r)
 none_open c other = refl
 

@@ -1,6 +1,6 @@
 -- What a stream of the peer is for, by its first bytes (RFC 9114, sections 6.1 and 6.2;
 -- draft-ietf-webtrans-http3-02, sections 4.1 and 4.2).
-use Rattle.std.specs.Prelude.{ℕ, ◌%◌, nat_le, ◌==◌, ◌&&◌, if◌then◌else◌, List, [], ◌∷◌, Bool, true, false, Option, Some, None, Result, Err}
+use Rattle.std.specs.Prelude.{ℕ, ◌%◌, nat_le, ◌==◌, ◌&&◌, not, if◌then◌else◌, List, [], ◌∷◌, Bool, true, false, Option, Some, None, Result, Ok, Err}
 use Rattle.wtp_core.specs.Varint.{number_at}
 use Rattle.wtp_frames.specs.declared.endpoint.Endpoint.{Endpoint}
 use Rattle.wtp_frames.specs.declared.endpoint.Side.{Side}
@@ -74,18 +74,37 @@ abbrev pub over_by : Fault → Stream
 over_by fault.RequestIncomplete = Incomplete
 over_by other = Over
 
+-- Whether the peer may open bidirectional streams. A client may. A server may not, unless an extension
+-- that was negotiated lets it (RFC 9114, section 6.1): so WebTransport does, if the own settings enable
+-- it.
+abbrev pub may_open : Side → Bool → Bool
+may_open Client webtransport = webtransport
+may_open Server webtransport = true
+
+abbrev pub allows_bidirectional : Endpoint → Bool
+allows_bidirectional e = may_open e.side e.webtransport
+
+-- a bidirectional stream that the peer may not open
+abbrev pub is_forbidden : Endpoint → Stream → Bool
+is_forbidden e Bi = not (allows_bidirectional e)
+is_forbidden e other = false
+
 -- A bidirectional stream that ends before it is known what it is for. Within the ID of a session it is
 -- a frame that is not complete (RFC 9114, section 7.1). Before its first number is whole, one of a
--- server is none that it may open (section 6.1), and one of a client is a request without HEADERS
--- (section 4.1) or part of a frame.
-abbrev pub end_by_number : Side → List ℕ → Option (ℕ × List ℕ) → Fault
-end_by_number side left (Some x) = fault.Frame
-end_by_number Client left None = fault.StreamCreation
-end_by_number Server [] None = fault.RequestIncomplete
-end_by_number Server (b ∷ left) None = fault.Frame
+-- server has nothing, or part of a number that is none of a session; and one of a client is a request
+-- without HEADERS (section 4.1) or part of a frame.
+abbrev pub end_by_number : Side → List ℕ → Option (ℕ × List ℕ) → Result (Unit {0}) Fault
+end_by_number side left (Some x) = Err fault.Frame
+end_by_number Client [] None = Ok tt
+end_by_number Client (b ∷ left) None = Err fault.StreamCreation
+end_by_number Server [] None = Err fault.RequestIncomplete
+end_by_number Server (b ∷ left) None = Err fault.Frame
 
-abbrev pub end_unopened : Side → List ℕ → Fault
-end_unopened side left = end_by_number side left (number_at left)
+abbrev pub end_unopened : Endpoint → List ℕ → Result (Unit {0}) Fault
+end_unopened e left =
+    if allows_bidirectional e
+    then end_by_number e.side left (number_at left)
+    else Err fault.StreamCreation
 
 -- whether the error of an end says that the stream is a critical one
 abbrev pub is_closed : Result (Unit {0}) Fault → Bool
@@ -120,7 +139,8 @@ uni_by e (Some x) =
 unfoldable pub uni_at : Endpoint → List ℕ → Option (Purpose × List ℕ)
 uni_at e bytes = uni_by e (number_at bytes)
 
--- a client's bidirectional stream has a request; a server opens none (RFC 9114, section 6.1)
+-- a client's bidirectional stream has a request; a server opens none but for sessions (RFC 9114, section
+-- 6.1)
 abbrev pub frames_purpose : Side → Purpose
 frames_purpose Client = «for».Foreign
 frames_purpose Server = «for».Message
@@ -132,6 +152,12 @@ bi_by e bytes (Some x) =
     then with_session (number_at x.1)
     else Some (frames_purpose e.side, bytes)
 
+-- a stream that may not be opened is one from its first byte on, whatever it is
+abbrev pub forbidden_at : List ℕ → Option (Purpose × List ℕ)
+forbidden_at [] = None
+forbidden_at (b ∷ bytes) = Some («for».Foreign, b ∷ bytes)
+
 -- the same of a bidirectional stream; a request begins with its first byte
 unfoldable pub bi_at : Endpoint → List ℕ → Option (Purpose × List ℕ)
-bi_at e bytes = bi_by e bytes (number_at bytes)
+bi_at e bytes =
+    if allows_bidirectional e then bi_by e bytes (number_at bytes) else forbidden_at bytes

@@ -33,7 +33,7 @@ use Rattle.wtp_connection.specs.Fault.{scope_of}
 use Rattle.wtp_connection.specs.Settings.{values_of, with_defaults, settings_in}
 use Rattle.wtp_connection.specs.Resumption.{accepted_if}
 use Rattle.wtp_connection.specs.Instructions.{sets_zero, after_bytes}
-use Rattle.wtp_connection.specs.Opening.{stream_of, uni_at, bi_at, is_control, is_critical, is_for_critical, has_no_headers, over_from, over_by, end_unopened}
+use Rattle.wtp_connection.specs.Opening.{stream_of, uni_at, bi_at, is_control, is_critical, is_for_critical, has_no_headers, over_from, over_by, is_forbidden, end_unopened}
 use Rattle.wtp_connection.specs.declared.requests.Begun.{Begun}
 use Rattle.wtp_connection.specs.declared.requests.Beginning.{Beginning}
 use Rattle.wtp_connection.specs.declared.requests.Beginning.TheVariants as beginning
@@ -253,7 +253,7 @@ run_stream c s bytes = if c.over then all_given c s [] else run_intact c s bytes
 
 -- what it means that a stream ends, with these bytes left
 abbrev pub end_of : Connection → Stream → List ℕ → Result (Unit {0}) StreamFault
-end_of c Bi left = Err (end_unopened c.endpoint.side left)
+end_of c Bi left = end_unopened c.endpoint left
 end_of c (Frames r given) left =
     by_end r.endpoint.side r.place (r.remaining + length left)
 end_of c Encoder left = Err stream.ClosedCriticalStream
@@ -404,12 +404,15 @@ reset_answer_at Server is = if is then Some (fault.Stream stream.RequestIncomple
 abbrev pub reset_answer : Connection → Stream → Option Fault
 reset_answer c s = reset_answer_at c.endpoint.side (has_no_headers s && not c.over)
 
--- the peer reset a stream: an error if it is a critical one and the connection goes on
+-- The peer reset a stream: an error if the connection goes on and it is a critical one, or one that the
+-- peer may not open (RFC 9114, sections 6.1 and 6.2.1).
 abbrev pub resets : Connection → Stream → Joined
 resets c s =
     if is_critical s && not c.over
     then refuses c stream.ClosedCriticalStream
-    else (without c s, over_from s, reset_answer c s)
+    else (if is_forbidden c.endpoint s && not c.over
+    then refuses c stream.StreamCreation
+    else (without c s, over_from s, reset_answer c s))
 
 -- the peer asks to stop an own stream for this purpose: an error if it is a critical one and the
 -- connection goes on

@@ -345,7 +345,7 @@ impl Connection {
             Stream::Joining(_) | Stream::Waiting(_) | Stream::Incomplete | Stream::Over => {
                 return Found::More(consumed);
             }
-            Stream::Bi => Err(unopened_end(self.endpoint.side, left)),
+            Stream::Bi => unopened_end(self.endpoint, left),
             Stream::Frames(reader, _) => reader.finish(left.len()),
             Stream::Encoder | Stream::Decoder(_) => Err(StreamFault::ClosedCriticalStream),
             Stream::Uni | Stream::Session(_) | Stream::Ignored => Ok(()),

@@ -24,7 +24,7 @@ ghost use Rattle.wtp_connection.specs.declared.settings.PeerSettings.{PeerSettin
 ghost use Rattle.wtp_connection.specs.Resumption.{KeepsCapacity, KeepsLimits, after_resumption};
 ghost use Rattle.wtp_connection.specs.declared.stream.Purpose.TheVariants as «for»;
 ghost use Rattle.wtp_connection.specs.declared.stream.Stream.TheVariants.{Uni, Bi, Frames, Joining, Ignored, Over};
-ghost use Rattle.wtp_connection.specs.Streams.{with_control, configured, received_settings, closed_by, breaks, Opened, Configured, Broke, followed, all_given, run_stream, FindsInterim, accepted_all, known_alone, over_if};
+ghost use Rattle.wtp_connection.specs.Streams.{with_control, configured, received_settings, closed_by, breaks, Opened, Configured, Broke, Ended, followed, all_given, run_stream, ended, refuses, resets, FindsInterim, accepted_all, known_alone, over_if};
 ghost use Rattle.wtp_connection.specs.declared.connection.Found.{Found};
 ghost use Rattle.wtp_connection.specs.declared.stream.Stream.{Stream};
 ghost use Rattle.wtp_connection.specs.Receiving.{AreReturned};
@@ -120,7 +120,10 @@ pub fn purposes_are_found()
 
 /// Streams that the peer may not open end the connection: with H3_ID_ERROR those with an invalid session
 /// ID, and a push to a client; with H3_STREAM_CREATION_ERROR a push to a server, a second control stream
-/// or stream of QPACK, and a bidirectional stream of a server that is none of a session.
+/// or stream of QPACK, and a bidirectional stream of a server that is none of a session. Where
+/// WebTransport is not enabled such a stream is one at its first byte (`first_byte`), at its end (`end`)
+/// or at its reset (`reset`), however its bytes are cut (RFC 9114, section 6.1). Where it is enabled, one
+/// that ends without a byte is no error (`empty`).
 pub fn forbidden_streams_are_reported()
     ensures session { (c : Connection) (t u more : List ℕ) (s : ℕ)
         → c.over ≡ false → c.endpoint.webtransport ≡ true
@@ -149,6 +152,18 @@ pub fn forbidden_streams_are_reported()
         → c.over ≡ false → c.endpoint.side ≡ Client → Encodes n t
         → (n ≡ 0x41 → c.endpoint.webtransport ≡ false)
         → run_stream c Bi (t ++ more) ≡ breaks c (fault.Stream stream.StreamCreation) }
+    ensures first_byte { (c : Connection) (b : ℕ) (more : List ℕ)
+        → c.over ≡ false → c.endpoint.side ≡ Client → c.endpoint.webtransport ≡ false
+        → run_stream c Bi (b ∷ more) ≡ breaks c (fault.Stream stream.StreamCreation) }
+    ensures end { (c : Connection) (bytes : List ℕ)
+        → c.over ≡ false → c.endpoint.side ≡ Client → c.endpoint.webtransport ≡ false
+        → ended (run_stream c Bi bytes) ≡ breaks c (fault.Stream stream.StreamCreation) }
+    ensures reset { (c : Connection)
+        → c.over ≡ false → c.endpoint.side ≡ Client → c.endpoint.webtransport ≡ false
+        → resets c Bi ≡ refuses c stream.StreamCreation }
+    ensures empty { (c : Connection)
+        → c.over ≡ false → c.endpoint.side ≡ Client → c.endpoint.webtransport ≡ true
+        → ended (run_stream c Bi []) ≡ all_given c Over (Ended ∷ []) }
     ensures id_code { code_of (fault.Stream stream.Id) ≡ 0x0108 }
     ensures creation_code { code_of (fault.Stream stream.StreamCreation) ≡ 0x0103 }
     ensures id_scope { scope_of (fault.Stream stream.Id) ≡ scope.Connection }
@@ -206,7 +221,8 @@ pub fn sessions_without_a_stream_are_known()
 {}
 
 /// What a call finds first does not depend on the bytes that follow, but for the length of a piece of
-/// DATA: what is found, the states after it and the bytes consumed are the same.
+/// DATA: what is found and the states after it are the same, and so are the bytes consumed, of which an
+/// error has all.
 pub fn first_finds_may_be_cut()
     ensures { (c : Connection) (s : Stream) (a b : List ℕ)
         → first_seen c s (a ++ b) ≡ with_more (first_seen c s a) b }

@@ -2,7 +2,7 @@
 //! draft-ietf-webtrans-http3-02, sections 4.1 and 4.2).
 ghost use Rattle.std.specs.Prelude.{◌≡◌, ◌≤◌, false, length, drop, None, Some, MatchOption, IfSome};
 ghost use Rattle.wtp_core.specs.Varint.{number_at};
-ghost use Rattle.wtp_connection.specs.Opening.{with_session, type_purpose, frames_purpose, uni_at, bi_at, stream_of, waits_for, is_critical as is_critical_is, connected, remaining_of, is_for_critical, has_no_headers as has_no_headers_is, is_closed as is_closed_is, over_from, over_by, end_unopened};
+ghost use Rattle.wtp_connection.specs.Opening.{with_session, type_purpose, frames_purpose, uni_at, bi_at, stream_of, waits_for, is_critical as is_critical_is, connected, remaining_of, is_for_critical, has_no_headers as has_no_headers_is, is_closed as is_closed_is, over_from, over_by, allows_bidirectional as allows_bidirectional_is, is_forbidden as is_forbidden_is, forbidden_at, end_unopened};
 ghost use Rattle.wtp_connection.specs.Streams.{known_by_stream};
 ghost use Rattle.wtp_frames.specs.Start.{message_reader};
 
@@ -151,6 +151,16 @@ impl Stream {
         }
     }
 
+    // Returns whether the stream is a bidirectional one that the peer may not open.
+    pub(crate) fn is_forbidden(&self, endpoint: Endpoint) -> bool
+        ensures { result ≡ is_forbidden_is endpoint self.now }
+    {
+        match self {
+            Stream::Bi => !allows_bidirectional(endpoint),
+            _ => false,
+        }
+    }
+
     // Returns what the stream says of the session with its ID.
     pub(crate) fn known_session(&self) -> Known
         ensures { result ≡ known_by_stream self.now }
@@ -198,24 +208,34 @@ impl Stream {
     }
 }
 
-/// Returns the error of a bidirectional stream that ends after these bytes, before it is known what it
-/// is for.
-#[tactic(auto, using(crate::proofs::OpeningLemmas::unopened))]
-pub(crate) fn unopened_end(side: Side, left: &[u8]) -> Fault
-    ensures { result ≡ end_unopened side left.now }
+/// Returns whether the peer may open bidirectional streams: a client may, and a server if WebTransport is
+/// enabled (RFC 9114, section 6.1).
+fn allows_bidirectional(endpoint: Endpoint) -> bool
+    ensures { result ≡ allows_bidirectional_is endpoint }
 {
-    if first_varint(left).is_some() {
-        return Fault::Frame;
+    match endpoint.side {
+        Side::Client => endpoint.webtransport,
+        Side::Server => true,
     }
-    match side {
-        Side::Client => Fault::StreamCreation,
-        Side::Server => {
-            if left.is_empty() {
-                Fault::RequestIncomplete
-            } else {
-                Fault::Frame
-            }
-        }
+}
+
+/// Returns what the end of a bidirectional stream is after these bytes, before it is known what it is
+/// for.
+#[tactic(auto, using(crate::proofs::OpeningLemmas::unopened))]
+pub(crate) fn unopened_end(endpoint: Endpoint, left: &[u8]) -> Result<(), Fault>
+    ensures { result ≡ end_unopened endpoint left.now }
+{
+    if !allows_bidirectional(endpoint) {
+        return Err(Fault::StreamCreation);
+    }
+    if first_varint(left).is_some() {
+        return Err(Fault::Frame);
+    }
+    match (endpoint.side, left.is_empty()) {
+        (Side::Client, true) => Ok(()),
+        (Side::Client, false) => Err(Fault::StreamCreation),
+        (Side::Server, true) => Err(Fault::RequestIncomplete),
+        (Side::Server, false) => Err(Fault::Frame),
     }
 }
 
@@ -255,6 +275,9 @@ pub(crate) fn bi_opening(endpoint: Endpoint, bytes: &[u8]) -> Option<(Purpose, u
         (λ o. bi_at endpoint bytes.now ≡ Some (o.0, drop o.1 bytes.now)) }
     ensures within { IfSome result (λ o. o.1 ≤ length bytes.now) }
 {
+    if !allows_bidirectional(endpoint) {
+        return forbidden_opening(bytes);
+    }
     match first_varint(bytes) {
         None => None,
         Some((number, first)) => {
@@ -264,6 +287,20 @@ pub(crate) fn bi_opening(endpoint: Endpoint, bytes: &[u8]) -> Option<(Purpose, u
                 Some((frames_for(endpoint.side), 0))
             }
         }
+    }
+}
+
+// Returns what a stream that may not be opened is for, once it has a byte.
+#[tactic(auto, using(crate::proofs::OpeningLemmas::forbidden))]
+fn forbidden_opening(bytes: &[u8]) -> Option<(Purpose, usize)>
+    ensures opening { MatchOption result (forbidden_at bytes.now ≡ None)
+        (λ o. forbidden_at bytes.now ≡ Some (o.0, drop o.1 bytes.now)) }
+    ensures within { IfSome result (λ o. o.1 ≤ length bytes.now) }
+{
+    if bytes.is_empty() {
+        None
+    } else {
+        Some((Purpose::Foreign, 0))
     }
 }
 

@@ -12,6 +12,7 @@ pub mod PieceLemmas
 pub mod WrittenLemmas
 pub mod GrammarLemmas
 pub mod RowLemmas
+pub mod GoAwayLemmas
 pub mod InterimLemmas
 pub mod TunnelLemmas
 pub mod WordLemmas

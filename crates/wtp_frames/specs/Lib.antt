@@ -7,6 +7,7 @@ pub mod Interim
 pub mod Reading
 pub mod First
 pub mod Grammar
+pub mod GoAway
 pub mod Start
 pub mod Pieces
 pub mod Order

@@ -12,6 +12,7 @@ ghost use Rattle.wtp_frames.specs.declared.reader.Place.TheVariants.{BeforeHeade
 ghost use Rattle.wtp_frames.specs.Item.{Whole, Byte};
 ghost use Rattle.wtp_frames.specs.Grammar.{Frame, written, IsFrame, IsUnknown, Message, message_bytes, message_items, ValidMessage, Stage, NoHeaders, InContent, HasTrailers, stage, count, HasRoom, count_data, Ids, ids_bytes, ids_items, last_goaway, last_push, Interim, ValidInterim, ValidInterims};
 ghost use Rattle.wtp_frames.specs.Codes.{Reports, InMessage, IsSettled, AfterIds, OnControl, TooLong, NoNumber, Fails};
+ghost use Rattle.wtp_frames.specs.GoAway.{IsPrevious};
 ghost use Rattle.wtp_frames.specs.Run.{run, preceded, next_run, failed, stays};
 ghost use Rattle.wtp_frames.specs.First.{first, with_more};
 ghost use Rattle.wtp_frames.specs.Tunnel.{after_connect, InTunnel};
@@ -38,7 +39,8 @@ pub fn cuts_make_no_difference()
 {}
 
 /// What a call returns first does not depend on the bytes that follow, but for the length of a piece of
-/// DATA: the frame, the reader after it and the bytes consumed are the same.
+/// DATA: the frame and the reader after it are the same, and so are the bytes consumed, of which a fault
+/// has all.
 pub fn first_items_may_be_cut()
     ensures { (r : Reader) (a b : List ℕ) → first r (a ++ b) ≡ with_more (first r a) b }
 {}
@@ -252,6 +254,26 @@ pub fn invalid_ids_are_reported()
     ensures max_push_id_falls { (e : Endpoint) (settings f : Frame) (ids : Ids) (n last : ℕ)
         → IsSettled e settings ids → IsFrame 0x0d f → Encodes n f.payload → e.side ≡ Server
         → last_push None ids ≡ Some last → n < last
+        → AfterIds e settings ids (written f) 0x0108 Connection }
+{}
+
+/// A GOAWAY is given exactly if its ID is not greater than that of any previous one, and, where a client
+/// reads it, is that of a bidirectional stream that a client opened; any other one is H3_ID_ERROR, which
+/// ends the connection (RFC 9114, sections 5.2 and 7.2.6; RFC 9000, section 2.1).
+pub fn goaways_never_rise()
+    ensures given { (e : Endpoint) (settings f : Frame) (ids : Ids) (n : ℕ) (more : List ℕ)
+        → IsSettled e settings ids → IsFrame 0x07 f → Encodes n f.payload
+        → (e.side ≡ Client → n % 4 ≡ 0) → ((m : ℕ) → IsPrevious m ids → n ≤ m)
+        → (next : Reader)
+        × (run (control_reader e) (written settings ++ (ids_bytes ids ++ (written f ++ more)))
+        ≡ preceded (Whole kind.Settings settings.payload
+        ∷ (ids_items ids ++ (Whole kind.GoAway f.payload ∷ []))) (run next more)) }
+    ensures greater { (e : Endpoint) (settings f : Frame) (ids : Ids) (n m : ℕ)
+        → IsSettled e settings ids → IsFrame 0x07 f → Encodes n f.payload
+        → IsPrevious m ids → m < n → AfterIds e settings ids (written f) 0x0108 Connection }
+    ensures of_no_request { (e : Endpoint) (settings f : Frame) (ids : Ids) (n : ℕ)
+        → IsSettled e settings ids → IsFrame 0x07 f → Encodes n f.payload
+        → e.side ≡ Client → (n % 4 ≡ 0 → ⊥)
         → AfterIds e settings ids (written f) 0x0108 Connection }
 {}
 

@@ -16,7 +16,7 @@ use Rattle.wtp_connection.specs.Receiving.{opening_of}
 use Rattle.wtp_connection.specs.Streams.{Opened, Ended, StreamRun, rests, followed, all_given, bytes_seen}
 use Rattle.wtp_connection.specs.First.{first_opening, first_seen, first_intact, first_found, at_end}
 use Rattle.wtp_connection.proofs.FirstLemmas.{first_open}
-use Rattle.wtp_connection.proofs.OpeningLemmas.{opening_more}
+use Rattle.wtp_connection.proofs.OpeningLemmas.{opening_more, bi_open, webtransport_allows}
 use Rattle.wtp_webtransport.specs.declared.connection.Connection.{Connection}
 use Rattle.wtp_webtransport.specs.Events.{Joins, Joined, StreamData, End}
 use Rattle.wtp_webtransport.specs.Streams.{stream_of, session_stream, with_frames}
@@ -48,9 +48,9 @@ uni_named e id more on fits is =
     ∙ session_named id more fits is
 
 bi_named : (e : Endpoint) (id : ℕ) (more : List ℕ) → e.webtransport ≡ true → id < 2 ^ 62 → id % 4 ≡ 0 → bi_at e (bi_head id ++ more) ≡ named id more
-unfolding bi_at
 bi_named e id more on fits is =
-    ap (λ (l : List ℕ). bi_by e (bi_head id ++ more) (number_at l)) (append_assoc (shortest 0x41) (shortest id) more)
+    bi_open e (bi_head id ++ more) (webtransport_allows e.side e.webtransport on)
+    ∙ ap (λ (l : List ℕ). bi_by e (bi_head id ++ more) (number_at l)) (append_assoc (shortest 0x41) (shortest id) more)
     ∙ ap (bi_by e (bi_head id ++ more)) (number_at-encoding 0x41 (shortest 0x41) (shortest id ++ more) (shortest-encodes 0x41 (lit< tt)))
     ∙ ap (λ (b : Bool). cond b (with_session (number_at (shortest id ++ more))) (Some (frames_purpose e.side, bi_head id ++ more))) on
     ∙ session_named id more fits is

@@ -12,6 +12,7 @@ use Rattle.wtp_frames.specs.Start.{message_reader}
 use Rattle.wtp_connection.specs.declared.connection.Connection.{Connection as Streams}
 use Rattle.wtp_connection.specs.declared.stream.Purpose.TheVariants as «for»
 use Rattle.wtp_connection.specs.declared.stream.Stream.TheVariants as frames
+use Rattle.wtp_connection.proofs.OpeningLemmas.{bi_open, server_allows}
 use Rattle.wtp_connection.specs.Opening.{frames_purpose, bi_by, bi_at}
 use Rattle.wtp_connection.specs.Streams.{Opened, StreamRun, rests, followed}
 use Rattle.wtp_connection.specs.First.{first_opening, first_seen}
@@ -48,9 +49,9 @@ one_at : (rest : List ℕ) → number_at (1 ∷ rest) ≡ Some (1, rest)
 one_at rest = ap number_at (sym (begins rest)) ∙ number_at-encoding 1 (shortest 1) rest (shortest-encodes 1 (lit< tt))
 
 request_at : (e : Endpoint) (rest : List ℕ) → e.side ≡ Server → bi_at e (1 ∷ rest) ≡ Some («for».Message, 1 ∷ rest)
-unfolding bi_at
 request_at e rest side =
-    ap (bi_by e (1 ∷ rest)) (one_at rest)
+    bi_open e (1 ∷ rest) (server_allows e side)
+    ∙ ap (bi_by e (1 ∷ rest)) (one_at rest)
     ∙ ap (λ (s : Side). Some (frames_purpose s, 1 ∷ rest)) side
 
 abbrev opened_run : Streams → List ℕ → StreamRun

@@ -25,7 +25,8 @@ use Rattle.wtp_connection.specs.declared.stream.Stream.TheVariants.{Uni, Bi, Fra
 use Rattle.wtp_connection.specs.Fault.{scope_of}
 use Rattle.wtp_connection.specs.First.{first_purpose, first_opening, first_intact, first_seen, has_none, first_found}
 use Rattle.wtp_connection.specs.Instructions.{sets_zero, after_bytes}
-use Rattle.wtp_connection.specs.Opening.{connected, uni_at, bi_at, is_critical, over_from, over_by}
+use Rattle.wtp_frames.specs.declared.endpoint.Endpoint.{Endpoint}
+use Rattle.wtp_connection.specs.Opening.{connected, uni_at, bi_at, is_critical, is_forbidden, over_from, over_by}
 use Rattle.wtp_connection.specs.Streams.{opens, opens_once, closed_in, closed_by, StreamRun, rests, all_given, breaks, by_settings, of_items, has_frames, by_capacity, by_place, by_fault, end_of, ending, ended, Joined, refuses, other_fault, settles, waits, freed, joins_open, by_interim, tells_open, tells_interim, without, overflows_open, abandons, configured, received_settings}
 use Rattle.wtp_streams.specs.Table.{places}
 
@@ -257,12 +258,16 @@ critical_none other e = refl
 pub abandoned_none : (c : Connection) (s : Stream) → places (abandons c s).1 ≡ 0
 abandoned_none c s = abandoned_cond (is_critical s) c s (critical_none s)
 
-reset_cond : (b : Bool) (c : Connection) (s : Stream) (o : Option Fault)
+forbidden_none : (e : Endpoint) (s : Stream) → is_forbidden e s ≡ true → places s ≡ 0
+forbidden_none e (Waiting n) h = absurd (false≢true h)
+forbidden_none e other h = refl
+
+reset_cond : (b : Bool) (c : Connection) (s : Stream) (f : StreamFault) (x : Joined)
     → (b ≡ true → places s ≡ 0)
-    → places s ≤ c.waiting
-    → Counts c s (cond b (refuses c stream.ClosedCriticalStream) (without c s, over_from s, o))
-reset_cond true c s o e h = refuses_counts c c s stream.ClosedCriticalStream (omega (arith, e refl))
-reset_cond false c s o e h = left_counts c s o h
+    → Counts c s x
+    → Counts c s (cond b (refuses c f) x)
+reset_cond true c s f x e h = refuses_counts c c s f (omega (arith, e refl))
+reset_cond false c s f x e h = h
 
 first_true : (a b : Bool) → (a && b) ≡ true → a ≡ true
 first_true true b e = refl
@@ -271,10 +276,14 @@ first_true false b e = e
 pub reset_counts : (c : Connection) (s : Stream) (o : Option Fault)
     → places s ≤ c.waiting
     → Counts c s (cond (is_critical s && not c.over) (refuses c stream.ClosedCriticalStream)
-    (without c s, over_from s, o))
+    (cond (is_forbidden c.endpoint s && not c.over) (refuses c stream.StreamCreation)
+    (without c s, over_from s, o)))
 reset_counts c s o h =
-    reset_cond (is_critical s && not c.over) c s o
-    (λ e. critical_none s (first_true (is_critical s) (not c.over) e)) h
+    reset_cond (is_critical s && not c.over) c s stream.ClosedCriticalStream _
+    (λ e. critical_none s (first_true (is_critical s) (not c.over) e)) (
+    reset_cond (is_forbidden c.endpoint s && not c.over) c s stream.StreamCreation _
+    (λ e. forbidden_none c.endpoint s (first_true (is_forbidden c.endpoint s) (not c.over) e))
+    (left_counts c s o h))
 
 interim_by_counts : (c : Connection) (r : Reader) (given : Bool) (x : Reader × Option StreamFault)
     → Counts c (Frames r given) (by_interim c given x)

@@ -19,7 +19,7 @@ use Rattle.wtp_connection.specs.declared.stream.Purpose.TheVariants as «for»
 use Rattle.wtp_connection.specs.declared.stream.Stream.{Stream}
 use Rattle.wtp_connection.specs.declared.stream.Stream.TheVariants.{Frames, Joining, Waiting, Session, Over, Incomplete}
 use Rattle.wtp_connection.specs.Datagrams.{Taken, taken, after_taken}
-use Rattle.wtp_connection.specs.Opening.{connected, is_critical, is_for_critical, has_no_headers, over_from}
+use Rattle.wtp_connection.specs.Opening.{connected, is_critical, is_for_critical, is_forbidden, has_no_headers, over_from}
 use Rattle.wtp_connection.specs.Requests.{with_request}
 use Rattle.wtp_connection.specs.Streams.{connection_of, with_stream, closed_by, Seen, StreamRun, most_waiting, Joined, other_fault, refuses, settles, waits, freed, joins_open, by_interim, tells_open, without, reset_answer_at, reset_answer, overflows_open}
 use Rattle.wtp_transcripts.specs.Transcript.{read, Held, Event, Came, Told, Interim, Tunnelled, Reset, Overflowed, Abandoned, Outcome, answered, called, unread, ends, reads_on, happens, alone, Table, Step, Accepted, Stopped, Datagram, On, Transcript, State, begin, at_stream, next, after, marked, found_by, seen_in, on_stream, events_of, places, HasPlace, HasPlaces, is_opened as flag}
@@ -115,12 +115,21 @@ tells_alike : (s : Stream) (c d : Connection) → d.over ≡ c.over → CallsAli
 tells_alike (Frames r given) c d i = interim_alike (after_interim r) c d given i
 tells_alike other c d i = same_alike c d other None i
 
+-- a reset of a stream that is not critical
+abbrev left_by : Connection → Stream → Joined
+left_by c s = cond (is_forbidden c.endpoint s && not c.over) (refuses c stream.StreamCreation) (without c s, over_from s, reset_answer c s)
+
+left_alike : (s : Stream) (c d : Connection) → d.endpoint ≡ c.endpoint → d.over ≡ c.over → CallsAlike c d (left_by c s) (left_by d s)
+left_alike s c d e i = cond_calls (is_forbidden c.endpoint s && not c.over) (is_forbidden d.endpoint s && not d.over) c d (refuses c stream.StreamCreation) (refuses d stream.StreamCreation) (without c s, over_from s, reset_answer c s) (without d s, over_from s, reset_answer d s)
+    (ap (λ (x : Endpoint). is_forbidden x s && not d.over) e ∙ ap (λ (b : Bool). is_forbidden c.endpoint s && not b) i)
+    (refuses_alike c d stream.StreamCreation i) (leaves_alike s (over_from s) c d (reset_answer c s) (reset_answer d s) i (answer_same s c d e i))
+
 pub call_alike : (e : Event) (s : Stream) (c d : Connection) → d.endpoint ≡ c.endpoint → d.over ≡ c.over → SamePlace c d s e → CallsAlike c d (called c s e) (called d s e)
 call_alike (Came bytes fin) s c d e i p = same_alike c d s None i
 call_alike (Told k) s c d e i p = cond_calls c.over d.over c d (c, s, None) (d, s, None) (joins_open c s k) (joins_open d s k) i (same_alike c d s None i) (joins_alike s k c d e i p)
 call_alike Interim s c d e i p = cond_calls c.over d.over c d (c, s, None) (d, s, None) (tells_open c s) (tells_open d s) i (same_alike c d s None i) (tells_alike s c d i)
 call_alike Tunnelled s c d e i p = same_alike c d (connected s) None i
-call_alike Reset s c d e i p = cond_calls (is_critical s && not c.over) (is_critical s && not d.over) c d (refuses c stream.ClosedCriticalStream) (refuses d stream.ClosedCriticalStream) (without c s, over_from s, reset_answer c s) (without d s, over_from s, reset_answer d s) (ap (λ (b : Bool). is_critical s && not b) i) (refuses_alike c d stream.ClosedCriticalStream i) (leaves_alike s (over_from s) c d (reset_answer c s) (reset_answer d s) i (answer_same s c d e i))
+call_alike Reset s c d e i p = cond_calls (is_critical s && not c.over) (is_critical s && not d.over) c d (refuses c stream.ClosedCriticalStream) (refuses d stream.ClosedCriticalStream) (left_by c s) (left_by d s) (ap (λ (b : Bool). is_critical s && not b) i) (refuses_alike c d stream.ClosedCriticalStream i) (left_alike s c d e i)
 call_alike Overflowed s c d e i p = cond_calls c.over d.over c d (c, s, None) (d, s, None) (overflows_open c s) (overflows_open d s) i (same_alike c d s None i) (overflow_alike s c d i)
 call_alike Abandoned s c d e i p = abandon_alike (is_critical s) s c d i
 

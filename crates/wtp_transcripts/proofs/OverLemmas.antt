@@ -7,7 +7,7 @@ use Rattle.wtp_connection.specs.declared.connection.Connection.{Connection}
 use Rattle.wtp_connection.specs.declared.fault.Fault.{Fault}
 use Rattle.wtp_connection.specs.declared.stream.Stream.{Stream}
 use Rattle.wtp_connection.specs.declared.stream.Stream.TheVariants.{Waiting}
-use Rattle.wtp_connection.specs.Opening.{is_critical, is_for_critical, has_no_headers}
+use Rattle.wtp_connection.specs.Opening.{is_critical, is_for_critical, is_forbidden, has_no_headers}
 use Rattle.wtp_connection.specs.Requests.{with_request}
 use Rattle.wtp_connection.specs.Streams.{with_stream, Seen, StreamRun, all_given, ended, Joined, without, reset_answer_at}
 use Rattle.wtp_connection.proofs.StreamLemmas.{over_run}
@@ -60,7 +60,7 @@ call_silent (Came bytes fin) c s o = record { over = o; none = refl }
 call_silent (Told k) c s o = same_silent c.over c s _ o o
 call_silent Interim c s o = same_silent c.over c s _ o o
 call_silent Tunnelled c s o = record { over = o; none = refl }
-call_silent Reset c s o = cond_silent (is_critical s && not c.over) _ _ (and_over (is_critical s) c.over o) (record { over = without_over c s ∙ o; none = no_answer c.endpoint.side (has_no_headers s) c.over o })
+call_silent Reset c s o = cond_silent (is_critical s && not c.over) _ _ (and_over (is_critical s) c.over o) (cond_silent (is_forbidden c.endpoint s && not c.over) _ _ (and_over (is_forbidden c.endpoint s) c.over o) (record { over = without_over c s ∙ o; none = no_answer c.endpoint.side (has_no_headers s) c.over o }))
 call_silent Overflowed c s o = same_silent c.over c s _ o o
 call_silent Abandoned c s o = record { over = abandoned_over (is_critical s) c s _ o; none = refl }
 

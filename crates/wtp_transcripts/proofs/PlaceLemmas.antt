@@ -13,7 +13,7 @@ use Rattle.wtp_connection.specs.declared.fault.Fault.TheVariants as fault
 use Rattle.wtp_connection.specs.declared.stream.Stream.{Stream}
 use Rattle.wtp_connection.specs.declared.stream.Stream.TheVariants.{Frames, Joining, Waiting, Session, Over, Incomplete}
 use Rattle.wtp_connection.specs.Datagrams.{taken}
-use Rattle.wtp_connection.specs.Opening.{is_critical, is_for_critical, over_from}
+use Rattle.wtp_connection.specs.Opening.{is_critical, is_for_critical, is_forbidden, over_from}
 use Rattle.wtp_connection.specs.Streams.{most_waiting, Joined, settles, joins_open, by_interim, tells_open, overflows_open, without}
 use Rattle.wtp_transcripts.specs.Transcript.{Held, Event, Came, Told, Interim, Tunnelled, Reset, Overflowed, Abandoned, called, unread, ends, happens, Table, Accepted, Stopped, Datagram, On, Transcript, State, begin, at_stream, next, places, waiting_among, is_among, AreDistinct, HasPlace, HasPlaces, AllHavePlaces, WaitAmong, NoneWaits}
 use Rattle.wtp_transcripts.proofs.WaitLemmas.{read_waits, EventCounts, event_counts, held_at, held_other, other_waiting, its_waiting, its_places, accepted_waiting, stopped_waiting, datagram_waiting, over_from_none, connected_places}
@@ -68,7 +68,7 @@ call_none (Came bytes fin) s c p h = p
 call_none (Told k) s c p h = cond_none c.over (c, s, None) (joins_open c s k) p (joined_none s k c p h)
 call_none Interim s c p h = cond_none c.over (c, s, None) (tells_open c s) p (told_none s c p)
 call_none Tunnelled s c p h = connected_places s ∙ p
-call_none Reset s c p h = cond_none (is_critical s && not c.over) _ _ refl (over_from_none s)
+call_none Reset s c p h = cond_none (is_critical s && not c.over) _ _ refl (cond_none (is_forbidden c.endpoint s && not c.over) _ _ refl (over_from_none s))
 call_none Overflowed s c p h = cond_none c.over (c, s, None) (overflows_open c s) p (overflow_none s c p)
 call_none Abandoned s c p h = abandon_none (is_critical s) s c p
 

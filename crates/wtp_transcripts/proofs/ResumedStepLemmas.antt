@@ -18,7 +18,7 @@ use Rattle.wtp_connection.specs.declared.stream.Purpose.{Purpose}
 use Rattle.wtp_connection.specs.declared.stream.Stream.{Stream}
 use Rattle.wtp_connection.specs.declared.stream.Stream.TheVariants.{Frames, Joining, Waiting, Session, Over, Incomplete}
 use Rattle.wtp_connection.specs.Datagrams.{Taken, taken, after_taken}
-use Rattle.wtp_connection.specs.Opening.{connected, is_critical, is_for_critical, over_from}
+use Rattle.wtp_connection.specs.Opening.{connected, is_critical, is_for_critical, is_forbidden, over_from}
 use Rattle.wtp_connection.specs.Requests.{with_request}
 use Rattle.wtp_connection.specs.Streams.{connection_of, resuming_at, resuming_of, without_resumption, with_stream, closed_by, Seen, StreamRun, most_waiting, Joined, other_fault, refuses, settles, waits, freed, joins_open, by_interim, tells_open, without, reset_answer, overflows_open}
 use Rattle.wtp_transcripts.specs.Transcript.{read, loses, loses_any, resumes, Held, Event, Came, Told, Interim, Tunnelled, Reset, Overflowed, Abandoned, Outcome, outcome_of, after_seen, answered, called, unread, ends, reads_on, happens, Table, Accepted, Stopped, Datagram, On, Transcript, State, begin, at_stream, next, after, marked, seen_in, on_stream, StopsNone, AreTaken, KeepsRules, AllHavePlaces, NoneWaits, SameOn, KeepsRemembered}
@@ -96,12 +96,21 @@ abandon_call : (b : Bool) (s : Stream) (old : PeerSettings) (c d : Connection) �
 abandon_call true s old c d h = kept_call old c d s None h
 abandon_call false s old c d h = record { stream = refl; answer = refl; beside = without_beside s old c d h }
 
+-- a reset of a stream that is not critical
+abbrev left_by : Connection → Stream → Joined
+left_by c s = cond (is_forbidden c.endpoint s && not c.over) (refuses c stream.StreamCreation) (without c s, over_from s, reset_answer c s)
+
+left_call : (s : Stream) (old : PeerSettings) (c d : Connection) → Beside old c d → SameCall old (left_by c s) (left_by d s)
+left_call s old c d h = cond_call (is_forbidden c.endpoint s && not c.over) (is_forbidden d.endpoint s && not d.over) old (refuses c stream.StreamCreation) (refuses d stream.StreamCreation) (without c s, over_from s, reset_answer c s) (without d s, over_from s, reset_answer d s)
+    (ap (λ (x : Connection). is_forbidden x.endpoint s && not x.over) h.bare)
+    (refused_call old c d stream.StreamCreation h) (record { stream = refl; answer = ap (λ (x : Connection). reset_answer x s) h.bare; beside = without_beside s old c d h })
+
 both_called : (e : Event) (s : Stream) (old : PeerSettings) (c d : Connection) → Beside old c d → SameCall old (called c s e) (called d s e)
 both_called (Came bytes fin) s old c d h = kept_call old c d s None h
 both_called (Told k) s old c d h = cond_call c.over d.over old (c, s, None) (d, s, None) (joins_open c s k) (joins_open d s k) (same_over old c d h) (kept_call old c d s None h) (joining_call s k old c d h)
 both_called Interim s old c d h = cond_call c.over d.over old (c, s, None) (d, s, None) (tells_open c s) (tells_open d s) (same_over old c d h) (kept_call old c d s None h) (told_call s old c d h)
 both_called Tunnelled s old c d h = kept_call old c d (connected s) None h
-both_called Reset s old c d h = cond_call (is_critical s && not c.over) (is_critical s && not d.over) old (refuses c stream.ClosedCriticalStream) (refuses d stream.ClosedCriticalStream) (without c s, over_from s, reset_answer c s) (without d s, over_from s, reset_answer d s) (ap (λ (b : Bool). is_critical s && not b) (same_over old c d h)) (refused_call old c d stream.ClosedCriticalStream h) (record { stream = refl; answer = ap (λ (x : Connection). reset_answer x s) h.bare; beside = without_beside s old c d h })
+both_called Reset s old c d h = cond_call (is_critical s && not c.over) (is_critical s && not d.over) old (refuses c stream.ClosedCriticalStream) (refuses d stream.ClosedCriticalStream) (left_by c s) (left_by d s) (ap (λ (b : Bool). is_critical s && not b) (same_over old c d h)) (refused_call old c d stream.ClosedCriticalStream h) (left_call s old c d h)
 both_called Overflowed s old c d h = cond_call c.over d.over old (c, s, None) (d, s, None) (overflows_open c s) (overflows_open d s) (same_over old c d h) (kept_call old c d s None h) (overflow_call s old c d h)
 both_called Abandoned s old c d h = abandon_call (is_critical s) s old c d h
 

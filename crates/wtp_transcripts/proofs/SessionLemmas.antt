@@ -13,6 +13,7 @@ use Rattle.wtp_connection.specs.declared.stream.Stream.TheVariants.{Uni, Bi, Joi
 use Rattle.wtp_connection.specs.Opening.{with_session, uni_by, uni_at, bi_by, bi_at}
 use Rattle.wtp_connection.specs.Streams.{connection_of, Seen, Opened, StreamRun, rests, followed, bytes_seen, by_opening, run_stream, ended}
 use Rattle.wtp_transcripts.specs.Transcript.{read, Held, Came, Told, after_seen, alone, bytes_in, end_in, last_said, said, at_once, end_seen, IsRead, IsStill, Table, Transcript, begin, after, seen_in, on_stream, events_of, places, HasPlaces}
+use Rattle.wtp_connection.proofs.OpeningLemmas.{bi_none, bi_open, webtransport_allows}
 use Rattle.wtp_transcripts.proofs.OrderLemmas.{all_once}
 use Rattle.wtp_transcripts.proofs.WaitLemmas.{open_gives}
 
@@ -26,16 +27,14 @@ unfolding uni_at
 uni_is e s t u bytes w h k m = ap (uni_by e) (number_at-encoding 0x54 t (u ++ bytes) h) ∙ rw w (session_is s u bytes k m)
 
 bi_is : (e : Endpoint) (s : ℕ) (t u bytes : List ℕ) → e.webtransport ≡ true → Encodes 0x41 t → Encodes s u → s % 4 ≡ 0 → bi_at e (t ++ (u ++ bytes)) ≡ Some («for».Session s, bytes)
-unfolding bi_at
-bi_is e s t u bytes w h k m = ap (bi_by e (t ++ (u ++ bytes))) (number_at-encoding 0x41 t (u ++ bytes) h) ∙ rw w (session_is s u bytes k m)
+bi_is e s t u bytes w h k m =
+    bi_open e (t ++ (u ++ bytes)) (webtransport_allows e.side e.webtransport w)
+    ∙ ap (bi_by e (t ++ (u ++ bytes))) (number_at-encoding 0x41 t (u ++ bytes) h)
+    ∙ rw w (session_is s u bytes k m)
 
 uni_none : (e : Endpoint) → uni_at e [] ≡ None
 unfolding uni_at number_at
 uni_none e = refl
-
-bi_none : (e : Endpoint) → bi_at e [] ≡ None
-unfolding bi_at number_at
-bi_none e = refl
 
 -- ---- what it gives
 

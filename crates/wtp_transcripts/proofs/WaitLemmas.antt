@@ -29,9 +29,10 @@ use Rattle.wtp_connection.specs.declared.stream.Stream.TheVariants.{Uni, Bi, Fra
 use Rattle.wtp_connection.specs.Datagrams.{Taken, taken, after_taken}
 use Rattle.wtp_connection.specs.Fault.{scope_of}
 use Rattle.wtp_connection.specs.Instructions.{sets_zero, after_bytes}
-use Rattle.wtp_connection.specs.Opening.{connected, uni_at, bi_at, is_critical, is_for_critical, over_from, over_by}
+use Rattle.wtp_frames.specs.declared.endpoint.Endpoint.{Endpoint}
+use Rattle.wtp_connection.specs.Opening.{connected, uni_at, bi_at, is_critical, is_for_critical, is_forbidden, over_from, over_by}
 use Rattle.wtp_connection.specs.Requests.{with_request}
-use Rattle.wtp_connection.specs.Streams.{with_stream, opens, opens_once, closed_in, closed_by, StreamRun, rests, all_given, breaks, by_settings, of_items, has_frames, bytes_seen, by_capacity, by_place, run_open, by_purpose, by_opening, run_intact, run_stream, by_fault, end_of, ending, ended, most_waiting, Joined, refuses, settles, waits, freed, joins_open, joins, by_interim, tells_open, without, overflows_open, configured, received_settings}
+use Rattle.wtp_connection.specs.Streams.{with_stream, opens, opens_once, closed_in, closed_by, StreamRun, rests, all_given, breaks, by_settings, of_items, has_frames, bytes_seen, by_capacity, by_place, run_open, by_purpose, by_opening, run_intact, run_stream, by_fault, end_of, ending, ended, most_waiting, Joined, refuses, settles, waits, freed, joins_open, joins, by_interim, tells_open, without, reset_answer, overflows_open, configured, received_settings}
 use Rattle.wtp_transcripts.specs.Transcript.{read, Held, Event, Came, Told, Interim, Tunnelled, Reset, Overflowed, Abandoned, Outcome, outcome_of, called, unread, ends, reads_on, happens, end_seen, Table, with_held, Accepted, Stopped, Datagram, On, Transcript, State, at_stream, next, after, places, waiting_among, is_among, AreDistinct, AreOf}
 
 -- ---- runs
@@ -214,9 +215,13 @@ critical_none : (s : Stream) → is_critical s ≡ true → places s ≡ 0
 critical_none (Waiting n) e = absurd (false≢true e)
 critical_none other e = refl
 
-reset_counts : (b : Bool) (c : Connection) (s : Stream) (o : Option Fault) → (b ≡ true → places s ≡ 0) → places s ≤ c.waiting → Counts c s (cond b (refuses c stream.ClosedCriticalStream) (without c s, over_from s, o))
-reset_counts true c s o e h = refuses_counts c c s stream.ClosedCriticalStream (omega (arith, e refl))
-reset_counts false c s o e h = leaves_counts c (without c s) s (over_from s) o (without_waiting c s h) (over_from_none s)
+forbidden_none : (e : Endpoint) (s : Stream) → is_forbidden e s ≡ true → places s ≡ 0
+forbidden_none e (Waiting n) h = absurd (false≢true h)
+forbidden_none e other h = refl
+
+reset_counts : (b : Bool) (c : Connection) (s : Stream) (f : StreamFault) (x : Joined) → (b ≡ true → places s ≡ 0) → Counts c s x → Counts c s (cond b (refuses c f) x)
+reset_counts true c s f x e h = refuses_counts c c s f (omega (arith, e refl))
+reset_counts false c s f x e h = h
 
 first_true : (a b : Bool) → (a && b) ≡ true → a ≡ true
 first_true true b e = refl
@@ -239,7 +244,9 @@ call_counts (Came bytes fin) c s h = same_counts c s None
 call_counts (Told k) c s h = cond_counts c.over c s (c, s, None) (joins_open c s k) (same_counts c s None) (joins_counts s k c h)
 call_counts Interim c s h = cond_counts c.over c s (c, s, None) (tells_open c s) (same_counts c s None) (tells_counts s c)
 call_counts Tunnelled c s h = record { sum = omega (arith, connected_places s); bound = λ b. b }
-call_counts Reset c s h = reset_counts (is_critical s && not c.over) c s _ (λ e. critical_none s (first_true (is_critical s) (not c.over) e)) h
+call_counts Reset c s h = reset_counts (is_critical s && not c.over) c s stream.ClosedCriticalStream _ (λ e. critical_none s (first_true (is_critical s) (not c.over) e)) (
+    reset_counts (is_forbidden c.endpoint s && not c.over) c s stream.StreamCreation _ (λ e. forbidden_none c.endpoint s (first_true (is_forbidden c.endpoint s) (not c.over) e))
+    (leaves_counts c (without c s) s (over_from s) (reset_answer c s) (without_waiting c s h) (over_from_none s)))
 call_counts Overflowed c s h = cond_counts c.over c s (c, s, None) (overflows_open c s) (same_counts c s None) (overflow_counts s c h)
 call_counts Abandoned c s h = abandon_counts (is_critical s) c s h
 

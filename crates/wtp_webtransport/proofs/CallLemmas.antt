@@ -19,7 +19,8 @@ use Rattle.wtp_messages.specs.declared.response.Asked.TheVariants as asked
 use Rattle.wtp_messages.specs.Response.{is_success}
 use Rattle.wtp_connection.specs.declared.stream.Purpose.{Purpose}
 use Rattle.wtp_connection.specs.declared.stream.Stream.TheVariants as frames
-use Rattle.wtp_connection.specs.Opening.{uni_at, bi_at}
+use Rattle.wtp_connection.specs.Opening.{uni_at}
+use Rattle.wtp_connection.proofs.OpeningLemmas.{bi_none}
 use Rattle.wtp_connection.specs.Streams.{Joined, tells_interim, rests, of_frames}
 use Rattle.wtp_connection.specs.First.{first_intact, first_opening}
 use Rattle.wtp_connection.proofs.FirstLemmas.{first_open, first_over}
@@ -287,13 +288,9 @@ uni_empty : (e : Endpoint) → uni_at e [] ≡ None
 unfolding uni_at number_at
 uni_empty e = refl
 
-bi_empty : (e : Endpoint) → bi_at e [] ≡ None
-unfolding bi_at number_at
-bi_empty e = refl
-
 frames_empty : (s : Frames) (c : Streams) → first_intact c s [] ≡ rests c s []
 frames_empty frames.Uni c = ap (λ (o : Option (Purpose × List ℕ)). first_opening c frames.Uni [] o) (uni_empty c.endpoint)
-frames_empty frames.Bi c = ap (λ (o : Option (Purpose × List ℕ)). first_opening c frames.Bi [] o) (bi_empty c.endpoint)
+frames_empty frames.Bi c = ap (λ (o : Option (Purpose × List ℕ)). first_opening c frames.Bi [] o) (bi_none c.endpoint)
 frames_empty (frames.Frames r g) c = ap (λ (x : Run). of_frames c g x) (first_none r)
 frames_empty (frames.Joining n) c = refl
 frames_empty (frames.Waiting n) c = refl

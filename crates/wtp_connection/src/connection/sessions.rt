@@ -171,14 +171,19 @@ impl Connection {
     /// # Errors
     ///
     /// `ClosedCriticalStream`, which ends the connection, if it is the control stream (RFC 9114,
-    /// section 6.2.1) or one of QPACK (RFC 9204, section 4.2). `RequestIncomplete`, which ends that
-    /// stream alone, at a server that has no HEADERS of the request: its own half should be reset
-    /// with this code (RFC 9114, section 4.1.1). None after an error of the connection.
+    /// section 6.2.1) or one of QPACK (RFC 9204, section 4.2). `StreamCreation`, which ends the
+    /// connection, if it is a bidirectional stream of a server and WebTransport is not enabled (RFC 9114,
+    /// section 6.1). `RequestIncomplete`, which ends that stream alone, at a server that has no HEADERS
+    /// of the request: its own half should be reset with this code (RFC 9114, section 4.1.1). None
+    /// after an error of the connection.
     pub fn reset(&mut self, stream: &mut Stream) -> Option<Fault>
         ensures { (self.new, stream.new, result) ≡ resets self.old stream.old }
     {
         if stream.is_critical() && !self.over {
             return self.refuse(stream, StreamFault::ClosedCriticalStream);
+        }
+        if stream.is_forbidden(self.endpoint) && !self.over {
+            return self.refuse(stream, StreamFault::StreamCreation);
         }
         let answer = self.answer_to_reset(stream);
         self.leave(stream);

@@ -1,4 +1,4 @@
-use Rattle.wtp_connection.proofs.PurposeLemmas.{uni_no_session, bi_no_session, push_to_client, push_to_server, second_control, second_encoder, second_decoder, foreign}
+use Rattle.wtp_connection.proofs.PurposeLemmas.{uni_no_session, bi_no_session, push_to_client, push_to_server, second_control, second_encoder, second_decoder, foreign, forbidden_run, forbidden_end, forbidden_reset, empty_end}
 use Rattle.wtp_connection.proofs.laws.forbidden_streams_are_reported.Goals as goal
 
 pub returns-clause-session : goal.returns-clause-session
@@ -24,3 +24,15 @@ returns-clause-decoder c = second_decoder
 
 pub returns-clause-of_a_server : goal.returns-clause-of_a_server
 returns-clause-of_a_server c = foreign
+
+pub returns-clause-first_byte : goal.returns-clause-first_byte
+returns-clause-first_byte c = forbidden_run
+
+pub returns-clause-end : goal.returns-clause-end
+returns-clause-end c = forbidden_end
+
+pub returns-clause-reset : goal.returns-clause-reset
+returns-clause-reset c = forbidden_reset
+
+pub returns-clause-empty : goal.returns-clause-empty
+returns-clause-empty c = empty_end
