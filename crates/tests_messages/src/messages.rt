@@ -1,5 +1,5 @@
 //! Each row of the tables, as a section that is decoded; content that comes in frames.
-use crate::rows::{MALFORMED_RESPONSES, REQUESTS, RESPONSES, TRAILERS};
+use crate::rows::{MALFORMED_RESPONSES, REQUESTS, RESPONSES, SENT_RESPONSES, TRAILERS};
 use crate::same::assert_same;
 use std::alloc::{AllocError, Global};
 use std::process::Abort;
@@ -184,6 +184,18 @@ fn responses_by_the_rules(rt: HostRuntime) {
         assert_same(&rt, response.status, row.status, "the status");
         assert_same(&rt, response.content.left(), row.left, "the content");
         assert_same(&rt, response.is_interim(), row.status == 103, "interim");
+    }
+}
+
+#[test]
+fn responses_are_sent_without_a_length_that_says_nothing(rt: HostRuntime) {
+    for group in &SENT_RESPONSES {
+        for row in group.rows {
+            let (name, list) = list_of(&rt, rt.alloc(), row);
+            let response = Response::read(&list, asked(name)).expect(&rt, "a response");
+            let came = response.check_sent(&list, asked(name));
+            assert_broken(&rt, came, group.broken, row);
+        }
     }
 }
 

@@ -327,6 +327,38 @@ pub(crate) static MALFORMED_RESPONSES: [Group; 10] = [
     },
 ];
 
+/// Responses that are received, by what was asked for, of which a server sends the first ones never, since
+/// they have a `content-length` (RFC 9110, sections 8.6 and 9.3.6).
+pub(crate) static SENT_RESPONSES: [Group; 2] = [
+    Group {
+        broken: Some(Malformed::InvalidContentLength),
+        rows: &[
+            b"to other|:status=100|content-length=0",
+            b"to other|:status=103|content-length=5",
+            b"to session|:status=103|content-length=5",
+            b"to other|:status=204|content-length=5",
+            b"to head|:status=204|content-length=0",
+            b"to connect|:status=200|content-length=5",
+            b"to connect|:status=299|x=y|content-length=",
+        ],
+    },
+    Group {
+        broken: None,
+        rows: &[
+            b"to other|:status=103|content-type=a/b",
+            b"to other|:status=204",
+            b"to other|:status=200|content-length=5",
+            b"to other|:status=205|content-length=0",
+            b"to other|:status=304|content-length=5",
+            b"to head|:status=200|content-length=5",
+            b"to head|:status=304|content-length=5",
+            b"to connect|:status=200",
+            b"to connect|:status=300|content-length=5",
+            b"to session|:status=404|content-length=5",
+        ],
+    },
+];
+
 /// Responses, by what was asked for.
 pub(crate) static RESPONSES: [ResponseRow; 21] = [
     ResponseRow {

@@ -24,6 +24,11 @@ use Rattle.wtp_messages.specs.Response.{response_breaks, IsResponse}
 abbrev pub message_of : Role → Message
 message_of r = record { role = r; stage = stage.Head; content = content_of (Some 0) }
 
+-- no header section but those of interim responses came
+abbrev pub is_head_stage : Stage → Bool
+is_head_stage stage.Head = true
+is_head_stage other = false
+
 -- the message after its head, which announces this content
 abbrev pub with_head : Message → Content → Message
 with_head m content = record { role = m.role; stage = stage.Body; content = content }

@@ -128,3 +128,16 @@ pub record IsResponse (kind : Asked) (fields : List Field) (response : Response)
   pub well_formed : (rule : Malformed) → response_breaks kind fields rule ≡ false
   pub status : status_of fields ≡ Some response.status
   pub content : content_of (expected kind response.status (content_length fields)) ≡ response.content
+
+-- ---- what is sent
+
+-- A server must not send a content-length in a response with status 1xx or 204, nor in a 2xx response to
+-- CONNECT (RFC 9110, sections 8.6 and 9.3.6).
+abbrev pub forbids_length : Asked → ℕ → Bool
+forbids_length kind code =
+    nat_lt code 200 || code == 204 || (is_tunnel kind && is_success (Some code))
+
+-- a response with this status has a content-length that a server must not send
+abbrev pub has_forbidden_length : Asked → List Field → ℕ → Bool
+has_forbidden_length kind fields code =
+    forbids_length kind code && has_field (codes "content-length") fields

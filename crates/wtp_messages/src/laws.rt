@@ -15,7 +15,7 @@ ghost use Rattle.wtp_messages.specs.Names.{starts_with, is_pseudo, is_whole_toke
 ghost use Rattle.wtp_messages.specs.Request.{is_scheme, IsWellFormed};
 ghost use Rattle.wtp_messages.specs.Authority.{is_authority, IsAuthority};
 ghost use Rattle.wtp_messages.specs.Plain.{is_in_path, is_plain, request_list, session_list, tunnel_list, response_list, IsNumber, IsTarget, IsMethod, Says, ReadsRequest, IsStatus, IsAnswer, SaysStatus, ReadsResponse, browser_fields, session_fields};
-ghost use Rattle.wtp_messages.specs.Response.{expected};
+ghost use Rattle.wtp_messages.specs.Response.{expected, forbids_length, has_forbidden_length};
 ghost use Rattle.wtp_messages.specs.Section.{IsSection};
 
 /// The test of an authority succeeds for the texts that the grammar has, and for no others. `must`: it
@@ -112,6 +112,31 @@ pub fn responses_have_their_content()
         → expected kind 304 announced ≡ Some 0 }
     ensures announced { (code : ℕ) (announced : Option ℕ) → 200 ≤ code → (code ≡ 204 → ⊥)
         → (code ≡ 304 → ⊥) → expected asked.Other code announced ≡ announced }
+{}
+
+/// A response that is sent has no content-length if its status is 1xx or 204, or 2xx and the request a
+/// CONNECT (RFC 9110, sections 8.6 and 9.3.6). Any other response may have one: so may one to HEAD, and
+/// one with status 304.
+pub fn responses_without_a_length()
+    ensures informational { (kind : Asked) (code : ℕ) → 100 ≤ code → code ≤ 199
+        → forbids_length kind code ≡ true }
+    ensures no_content { (kind : Asked) → forbids_length kind 204 ≡ true }
+    ensures tunnel { (code : ℕ) → 200 ≤ code → code ≤ 299
+        → forbids_length asked.Connect code ≡ true }
+    ensures session { (code : ℕ) → 200 ≤ code → code ≤ 299
+        → forbids_length asked.Session code ≡ true }
+    ensures refused { (kind : Asked) (code : ℕ) → 300 ≤ code
+        → forbids_length kind code ≡ false }
+    ensures head { (code : ℕ) → 200 ≤ code → (code ≡ 204 → ⊥)
+        → forbids_length asked.Head code ≡ false }
+    ensures other { (code : ℕ) → 200 ≤ code → (code ≡ 204 → ⊥)
+        → forbids_length asked.Other code ≡ false }
+    ensures breaks { (kind : Asked) (code : ℕ) (fields : List Field)
+        → forbids_length kind code ≡ true → has_field (codes "content-length") fields ≡ true
+        → has_forbidden_length kind fields code ≡ true }
+    ensures allows { (kind : Asked) (code : ℕ) (fields : List Field)
+        → has_field (codes "content-length") fields ≡ false
+        → has_forbidden_length kind fields code ≡ false }
 {}
 
 /// A section with one of these lines is malformed, whatever is beside it, and whatever its value is.

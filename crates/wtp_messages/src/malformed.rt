@@ -34,8 +34,9 @@ pub enum Malformed {
     /// A pseudo-header field is repeated (RFC 9114, section 4.3).
     #[error("a pseudo-header field is repeated")]
     RepeatedPseudoHeader,
-    /// A `content-length` is not a decimal number below 2^62, or two of them differ (RFC 9110,
-    /// section 8.6).
+    /// A `content-length` is not a decimal number below 2^62, or two of them differ; or a response that
+    /// is sent has one, with status 1xx or 204, or 2xx to a CONNECT request (RFC 9110, sections 8.6 and
+    /// 9.3.6).
     #[error("the content-length is invalid")]
     InvalidContentLength,
     /// A request has no `:method` (RFC 9114, section 4.3.1).

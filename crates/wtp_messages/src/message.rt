@@ -1,7 +1,7 @@
 //! A message on its stream: header sections, content and trailers (RFC 9114, section 4.1).
-ghost use Rattle.std.specs.Prelude.{◌≡◌, true, false, MatchResult, OnOk, OnErr};
+ghost use Rattle.std.specs.Prelude.{◌≡◌, true, false, not, MatchResult, OnOk, OnErr};
 ghost use Rattle.wtp_messages.specs.Content.{fits, left_after};
-ghost use Rattle.wtp_messages.specs.Message.{message_of, end_of, RequestComes, ResponseComes, TrailersCome, SectionComes};
+ghost use Rattle.wtp_messages.specs.Message.{message_of, is_head_stage, end_of, RequestComes, ResponseComes, TrailersCome, SectionComes};
 
 pub mod words;
 
@@ -126,6 +126,13 @@ impl Message {
             }
             Err(rule) => Err(rule),
         }
+    }
+
+    /// Returns whether the header section of the request or the final response came.
+    pub fn has_head(&self) -> bool
+        ensures { result ≡ not (is_head_stage self.now.stage) }
+    {
+        self.stage != Stage::Head
     }
 
     /// Takes the head of a DATA frame with a payload of `len` bytes.

@@ -4,6 +4,7 @@ ghost use Rattle.wtp_fields.specs.FieldMessages.{three_digits as three_digits_of
 ghost use Rattle.wtp_messages.specs.Response.{is_status_text, is_success as is_success_status};
 ghost use Rattle.wtp_messages.specs.Response.{status_of, section_kind as section_kind_of, expected as expected_length};
 ghost use Rattle.wtp_messages.specs.Response.{status_breaks, response_breaks, HasNoContent, IsResponse};
+ghost use Rattle.wtp_messages.specs.Response.{forbids_length as forbids_length_is, has_forbidden_length};
 
 use crate::content::Content;
 use crate::malformed::Malformed;
@@ -58,6 +59,23 @@ impl Response {
             status,
             content: Content::new(expected(asked, status, announced)),
         })
+    }
+
+    /// Checks that a server may send the response with these fields to a request that asked for this: with
+    /// status 1xx or 204, or 2xx to a CONNECT request, it has no `content-length` (RFC 9110, sections 8.6
+    /// and 9.3.6). A response that is received may have it.
+    ///
+    /// Returns [`Malformed::InvalidContentLength`] if there is one.
+    pub fn check_sent(&self, list: &FieldList, asked: Asked) -> Result<(), Malformed>
+        ensures { MatchResult result
+            (λ _. has_forbidden_length asked list.now self.now.status ≡ false)
+            (λ rule. (has_forbidden_length asked list.now self.now.status ≡ true)
+            × (rule ≡ Malformed.InvalidContentLength)) }
+    {
+        if forbids_length(asked, self.status) && has_field(list, b"content-length") {
+            return Err(Malformed::InvalidContentLength);
+        }
+        Ok(())
     }
 
     /// Returns whether the response is interim, so that another one follows (RFC 9110, section
@@ -133,4 +151,12 @@ fn expected(asked: Asked, status: u32, announced: Option<u64>) -> Option<u64>
         return Some(0);
     }
     announced
+}
+
+/// Returns whether a server must not send `content-length` in a response with this status.
+fn forbids_length(asked: Asked, status: u32) -> bool
+    ensures { result ≡ forbids_length_is asked status }
+{
+    let is_tunnel = asked == Asked::Connect || asked == Asked::Session;
+    status < 200 || status == 204 || (is_tunnel && is_success(status))
 }
