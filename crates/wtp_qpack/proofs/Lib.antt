@@ -10,7 +10,9 @@ pub mod LineReading
 pub mod LineTexts
 pub mod SectionReading
 pub mod SectionWriting
+pub mod ShortestLines
 pub mod FieldMaps
 pub mod RoundTrip
 pub mod StringLaws
 pub mod SectionLaws
+pub mod ShortestLengths

@@ -16,13 +16,15 @@ use Rattle.wtp_qpack.specs.declared.qpack.string_literal.Texts.{Texts}
 use Rattle.wtp_qpack.specs.declared.qpack.string_literal.Texts.TheVariants.{Octets, Utf8}
 use Rattle.wtp_qpack.specs.Field.{Field, IsText, AreTexts, IsOctets, AreOctets, field_map}
 use Rattle.wtp_qpack.specs.Integer.{integer_at, shortest_groups, shortest_int}
-use Rattle.wtp_qpack.specs.StaticTable.{entry_at, first_entry}
+use Rattle.wtp_qpack.specs.Sensitive.{is_sensitive}
+use Rattle.wtp_qpack.specs.StaticTable.{entry_at, first_entry, exact_entry, FindsStatic}
 use Rattle.wtp_qpack.specs.StringLiteral.{flag_above, utf8_text, checked, text_of, string_by, string_in, huffman_bytes, encoded_string}
-use Rattle.wtp_qpack.specs.FieldLine.{representation_of, indexed_at, name_reference_in, literal_name_in, line_by, line_in, line_at, encoded_line}
+use Rattle.wtp_qpack.specs.FieldLine.{representation_of, indexed_at, name_reference_in, literal_name_in, line_by, line_in, line_at, encoded_line, literal_line, line_with, shortest_line}
 use Rattle.wtp_qpack.specs.FieldLines.{octet_line_at, AreOctetLines}
-use Rattle.wtp_qpack.specs.FieldSection.{after_prefix, AreLines, section_at, map_at, section_of}
+use Rattle.wtp_qpack.specs.FieldSection.{after_prefix, AreLines, section_at, map_at, section_of, shortest_section}
 use Rattle.wtp_qpack.proofs.IntegerLaws.{int_read, short_int}
-use Rattle.wtp_qpack.proofs.StaticLemmas.{same_bytes, first_found}
+use Rattle.wtp_qpack.proofs.StaticLemmas.{same_bytes, first_found, entry_below}
+use Rattle.wtp_qpack.proofs.ShortestLines.{exact_found}
 use Rattle.wtp_qpack.proofs.StringBits.{huffman_only}
 use Rattle.wtp_qpack.proofs.StringWriting.{text_bytes, huffman_is}
 use Rattle.wtp_qpack.proofs.SectionReading.{lines_read}
@@ -91,11 +93,12 @@ line_as texts text rest b r e form = ap (line_in texts) e ∙ ap (λ z. line_by 
 indexed_form : (low b : ℕ) → low < 2 ^ 6 → b ≡ 3 * 2 ^ 6 + low → representation_of b ≡ Indexed Static
 indexed_form low b small e = rw (eq-eqb (b / 2 ^ 7 % 2) 1 (omega arith), eq-eqb (b / 2 ^ 6 % 2) 1 (omega arith)) refl
 
-name_form : (low b : ℕ) → low < 2 ^ 4 → b ≡ 5 * 2 ^ 4 + low → representation_of b ≡ NameReference Static
-name_form low b small e = rw (ne_eqb (b / 2 ^ 7 % 2) 1 (omega arith), eq-eqb (b / 2 ^ 6 % 2) 1 (omega arith), eq-eqb (b / 2 ^ 4 % 2) 1 (omega arith)) refl
+-- the bit N is any bit
+name_form : (n low b : ℕ) → n < 2 → low < 2 ^ 4 → b ≡ (5 + 2 * n) * 2 ^ 4 + low → representation_of b ≡ NameReference Static
+name_form n low b bit small e = rw (ne_eqb (b / 2 ^ 7 % 2) 1 (omega arith), eq-eqb (b / 2 ^ 6 % 2) 1 (omega arith), eq-eqb (b / 2 ^ 4 % 2) 1 (omega arith)) refl
 
-literal_form : (h low b : ℕ) → h < 2 → low < 2 ^ 3 → b ≡ (2 * 2 + h) * 2 ^ 3 + low → representation_of b ≡ LiteralName
-literal_form h low b bit small e = rw (ne_eqb (b / 2 ^ 7 % 2) 1 (omega arith), ne_eqb (b / 2 ^ 6 % 2) 1 (omega arith), eq-eqb (b / 2 ^ 5 % 2) 1 (omega arith)) refl
+literal_form : (n h low b : ℕ) → n < 2 → h < 2 → low < 2 ^ 3 → b ≡ ((2 + n) * 2 + h) * 2 ^ 3 + low → representation_of b ≡ LiteralName
+literal_form n h low b never bit small e = rw (ne_eqb (b / 2 ^ 7 % 2) 1 (omega arith), ne_eqb (b / 2 ^ 6 % 2) 1 (omega arith), eq-eqb (b / 2 ^ 5 % 2) 1 (omega arith)) refl
 
 indexed_again : (texts : Texts) (k : ℕ) (e : Field) (rest : List ℕ) → entry_at k ≡ Some e → k < 99 → line_in texts (shortest_int 6 3 k ++ rest) ≡ Ok (e, rest)
 unfolding indexed_at
@@ -105,15 +108,16 @@ indexed_again texts k e rest there small =
     let size : integer_at 6 text ≡ Ok (k, rest) = int_read 6 k (shortest_int 6 3 k) rest (short_int 6 3 k (omega arith)) in
     line_as texts text head.2 (3 * 2 ^ 6 + head.0) (Indexed Static) head.3 (indexed_form head.0 (3 * 2 ^ 6 + head.0) head.1 refl) ∙ rw (size, there) refl
 
-name_again : (texts : Texts) (k : ℕ) (e : Field) (v rest : List ℕ) → entry_at k ≡ Some e → k < 99 → IsReadable texts v → line_in texts ((shortest_int 4 5 k ++ encoded_string 7 0 v) ++ rest) ≡ Ok ((e.0, v), rest)
+name_again : (texts : Texts) (n k : ℕ) (e : Field) (v rest : List ℕ) → n < 2 → entry_at k ≡ Some e → k < 99 → IsReadable texts v → line_in texts ((shortest_int 4 (5 + 2 * n) k ++ encoded_string 7 0 v) ++ rest) ≡ Ok ((e.0, v), rest)
 unfolding name_reference_in
-name_again texts k e v rest there small readable =
+name_again texts n k e v rest never there small readable =
+    let flags : ℕ = 5 + 2 * n in
     let behind : List ℕ = encoded_string 7 0 v ++ rest in
-    let head = short_head 4 5 k behind in
-    let text : List ℕ = shortest_int 4 5 k ++ behind in
-    let size : integer_at 4 text ≡ Ok (k, behind) = int_read 4 k (shortest_int 4 5 k) behind (short_int 4 5 k (omega arith)) in
-    ap (line_in texts) (append_assoc (shortest_int 4 5 k) (encoded_string 7 0 v) rest)
-    ∙ line_as texts text head.2 (5 * 2 ^ 4 + head.0) (NameReference Static) head.3 (name_form head.0 (5 * 2 ^ 4 + head.0) head.1 refl)
+    let head = short_head 4 flags k behind in
+    let text : List ℕ = shortest_int 4 flags k ++ behind in
+    let size : integer_at 4 text ≡ Ok (k, behind) = int_read 4 k (shortest_int 4 flags k) behind (short_int 4 flags k (omega arith)) in
+    ap (line_in texts) (append_assoc (shortest_int 4 flags k) (encoded_string 7 0 v) rest)
+    ∙ line_as texts text head.2 (flags * 2 ^ 4 + head.0) (NameReference Static) head.3 (name_form n head.0 (flags * 2 ^ 4 + head.0) never head.1 refl)
     ∙ rw (size, there, text_again texts 7 0 v rest readable) refl
 
 pub text_head : (n f : ℕ) (t more : List ℕ) → (h : ℕ) × (h < 2) × (low : ℕ) × (low < 2 ^ n) × (rest : List ℕ) × (encoded_string n f t ++ more ≡ ((f * 2 + h) * 2 ^ n + low) ∷ rest)
@@ -128,15 +132,16 @@ text_head n f t more = elim (cases_lt (length (huffman_bytes t)) (length t)) [
       (0, omega arith, head.0, head.1, head.2, rw (le-ltb (length (huffman_bytes t)) (length t) many, zeros) (append_assoc (shortest_int n (f * 2) (length t)) t more ∙ head.3))
 ]
 
-literal_again : (texts : Texts) (field : Field) (rest : List ℕ) → IsReadable texts field.0 → IsReadable texts field.1 → line_in texts ((encoded_string 3 2 field.0 ++ encoded_string 7 0 field.1) ++ rest) ≡ Ok (field, rest)
+literal_again : (texts : Texts) (n : ℕ) (field : Field) (rest : List ℕ) → n < 2 → IsReadable texts field.0 → IsReadable texts field.1 → line_in texts ((encoded_string 3 (2 + n) field.0 ++ encoded_string 7 0 field.1) ++ rest) ≡ Ok (field, rest)
 unfolding literal_name_in
-literal_again texts field rest name value =
+literal_again texts n field rest never name value =
+    let flags : ℕ = 2 + n in
     let behind : List ℕ = encoded_string 7 0 field.1 ++ rest in
-    let head = text_head 3 2 field.0 behind in
-    let text : List ℕ = encoded_string 3 2 field.0 ++ behind in
-    ap (line_in texts) (append_assoc (encoded_string 3 2 field.0) (encoded_string 7 0 field.1) rest)
-    ∙ line_as texts text head.4 ((2 * 2 + head.0) * 2 ^ 3 + head.2) LiteralName head.5 (literal_form head.0 head.2 ((2 * 2 + head.0) * 2 ^ 3 + head.2) head.1 head.3 refl)
-    ∙ rw (text_again texts 3 2 field.0 behind name, text_again texts 7 0 field.1 rest value) refl
+    let head = text_head 3 flags field.0 behind in
+    let text : List ℕ = encoded_string 3 flags field.0 ++ behind in
+    ap (line_in texts) (append_assoc (encoded_string 3 flags field.0) (encoded_string 7 0 field.1) rest)
+    ∙ line_as texts text head.4 ((flags * 2 + head.0) * 2 ^ 3 + head.2) LiteralName head.5 (literal_form n head.0 head.2 ((flags * 2 + head.0) * 2 ^ 3 + head.2) never head.1 head.3 refl)
+    ∙ rw (text_again texts 3 flags field.0 behind name, text_again texts 7 0 field.1 rest value) refl
 
 line_again : (texts : Texts) (field : Field) (rest : List ℕ) → IsReadable texts field.0 → IsReadable texts field.1 → line_in texts (encoded_line field ++ rest) ≡ Ok (field, rest)
 unfolding encoded_line
@@ -147,13 +152,39 @@ line_again texts field rest name value = by_first (first_entry field.0) refl
     by_value k e there named small true same =
         let equal : e.1 ≡ field.1 = same_bytes e.1 field.1 same in
         indexed_again texts k e rest there small ∙ ap (λ (z : Field). Ok (z, rest)) (ap (λ n. (n, e.1)) named ∙ ap (λ v. (field.0, v)) equal)
-    by_value k e there named small false other = name_again texts k e field.1 rest there small value ∙ ap (λ n. Ok ((n, field.1), rest)) named
+    by_value k e there named small false other = name_again texts 0 k e field.1 rest (omega arith) there small value ∙ ap (λ n. Ok ((n, field.1), rest)) named
 
     by_first : (o : Option ℕ) → first_entry field.0 ≡ o → line_in texts (encoded_line field ++ rest) ≡ Ok (field, rest)
-    by_first None none = rw none (literal_again texts field rest name value)
+    by_first None none = rw none (literal_again texts 0 field rest (omega arith) name value)
     by_first (Some k) some =
         let e = first_found field.0 k some in
         rw (some, e.1) (by_value k e.0 e.1 e.2 e.3 (bytes_eq e.0.1 field.1) refl)
+
+-- ---- lines of field lists
+
+by_name : (texts : Texts) (n flags : ℕ) (field : Field) (k : ℕ) (rest : List ℕ) → n < 2 → flags ≡ 5 + 2 * n → first_entry field.0 ≡ Some k → IsReadable texts field.1
+    → line_in texts ((shortest_int 4 flags k ++ encoded_string 7 0 field.1) ++ rest) ≡ Ok (field, rest)
+by_name texts n flags field k rest never is some value =
+    let e = first_found field.0 k some in
+    rw is (name_again texts n k e.0 field.1 rest never e.1 e.3 value ∙ ap (λ (x : List ℕ). Ok ((x, field.1), rest)) e.2)
+
+by_literal : (texts : Texts) (never : Bool) (field : Field) (o : Option ℕ) (rest : List ℕ) → first_entry field.0 ≡ o → IsReadable texts field.0 → IsReadable texts field.1
+    → line_in texts (literal_line never o field ++ rest) ≡ Ok (field, rest)
+by_literal texts true field (Some k) rest some name value = by_name texts 1 7 field k rest (omega arith) refl some value
+by_literal texts false field (Some k) rest some name value = by_name texts 0 5 field k rest (omega arith) refl some value
+by_literal texts true field None rest none name value = literal_again texts 1 field rest (omega arith) name value
+by_literal texts false field None rest none name value = literal_again texts 0 field rest (omega arith) name value
+
+shortest_again : (texts : Texts) (field : Field) (rest : List ℕ) → IsReadable texts field.0 → IsReadable texts field.1 → line_in texts (shortest_line field ++ rest) ≡ Ok (field, rest)
+unfolding shortest_line
+shortest_again texts field rest name value = by_index (exact_entry field) (exact_found field)
+  where
+    by_index : (o : Option ℕ) → FindsStatic field o → line_in texts (line_with o field ++ rest) ≡ Ok (field, rest)
+    by_index (Some k) found = indexed_again texts k field rest found.0 (entry_below k field found.0)
+    by_index None none = by_literal texts (is_sensitive field) field (first_entry field.0) rest refl name value
+
+pub shortest_line_again : (field : Field) (rest : List ℕ) → IsOctets field.0 → IsOctets field.1 → octet_line_at (shortest_line field ++ rest) ≡ Ok (field, rest)
+shortest_line_again field rest name value = shortest_again Octets field rest (octets_readable field.0 name) (octets_readable field.1 value)
 
 pub text_line_again : (field : Field) (rest : List ℕ) → IsText field.0 → IsText field.1 → line_at (encoded_line field ++ rest) ≡ Ok (field, rest)
 text_line_again field rest name value = line_again Utf8 field rest (text_readable field.0 name) (text_readable field.1 value)
@@ -182,3 +213,11 @@ octet_lines_again (field ∷ fields) (name, value, others) = (flat_map encoded_l
 pub prefix_again : (fields : List Field) → after_prefix (section_of fields) ≡ Ok (flat_map encoded_line fields)
 unfolding section_of after_prefix integer_at
 prefix_again fields = refl
+
+pub shortest_lines_again : (fields : List Field) → AreOctets fields → AreOctetLines (flat_map shortest_line fields) fields []
+shortest_lines_again [] are = refl
+shortest_lines_again (field ∷ fields) (name, value, others) = (flat_map shortest_line fields, shortest_line_again field (flat_map shortest_line fields) name value, shortest_lines_again fields others)
+
+pub shortest_prefix : (fields : List Field) → after_prefix (shortest_section fields) ≡ Ok (flat_map shortest_line fields)
+unfolding shortest_section after_prefix integer_at
+shortest_prefix fields = refl

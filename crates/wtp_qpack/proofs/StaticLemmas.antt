@@ -35,7 +35,7 @@ some_of (Some j) k e = ap Some (eqb-true j k e)
 pub same_bytes : (xs ys : List ℕ) → bytes_eq xs ys ≡ true → xs ≡ ys
 same_bytes xs ys e = (bytes_eq-Decides xs ys).0 e
 
-in_table : (p : Field → Bool) → list_all p static_table ≡ true → (k : ℕ) (e : Field) → entry_at k ≡ Some e → p e ≡ true
+pub in_table : (p : Field → Bool) → list_all p static_table ≡ true → (k : ℕ) (e : Field) → entry_at k ≡ Some e → p e ≡ true
 in_table p all k e at =
     let within : k < length static_table = slice_get_within static_table k e at in
     subst (λ (x : Field). p x ≡ true) (get_or_from_slice_get static_table k e e at) (AllPass-from_list_all p static_table all k e within)
@@ -150,14 +150,16 @@ pub past : (k : ℕ) → 99 ≤ k → entry_at k ≡ None
 unfolding static_table
 past k h = slice_get_past static_table k h
 
+pub entry_below : (k : ℕ) (e : Field) → entry_at k ≡ Some e → k < 99
+entry_below k e some = elim (cases_lt k 99) [
+  | inl lt ↦ lt
+  | inr ge ↦ cc (past k ge, some)
+]
+
 -- the first entry of a name is an entry, and has the name
 pub first_found : (name : List ℕ) (k : ℕ) → first_entry name ≡ Some k → (e : Field) × (entry_at k ≡ Some e) × (e.0 ≡ name) × (k < 99)
 first_found name k e =
     let d : Field = ([], []) in
     let there = position-Some (λ (e : Field). bytes_eq e.0 name) static_table k d e in
     let some : entry_at k ≡ Some (get_or static_table k d) = slice_get-get_or static_table k d there.0 in
-    let small : k < 99 = elim (cases_lt k 99) [
-      | inl lt ↦ lt
-      | inr ge ↦ cc (past k ge, some)
-    ] in
-    (get_or static_table k d, some, same_bytes (get_or static_table k d).0 name there.1, small)
+    (get_or static_table k d, some, same_bytes (get_or static_table k d).0 name there.1, entry_below k (get_or static_table k d) some)

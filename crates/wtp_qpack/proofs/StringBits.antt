@@ -86,7 +86,7 @@ coded_first (y ∷ u) x rest h (small, pad, p, e) =
 abbrev pub HasNoWord : List Bool → Type 0
 HasNoWord seen = (x : ℕ) (more : List Bool) → x < 257 → seen ≡ code x ++ more → ⊥
 
-code_some : (x : ℕ) → x < 257 → 0 < length (code x)
+pub code_some : (x : ℕ) → x < 257 → 0 < length (code x)
 code_some x h = elim (cases_lt 0 (length (code x))) [
   | inl lt ↦ lt
   | inr none ↦ absurd (none_ones (code x) none (ones_long x h))

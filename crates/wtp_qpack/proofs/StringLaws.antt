@@ -8,6 +8,7 @@ use Rattle.std.proofs.lemmas.List.{length-append, take-append-drop}
 use Rattle.std.proofs.Math.Seq.{drop-append_seam, take-append_seam}
 use Rattle.wtp_qpack.specs.declared.qpack.DecodingError.{DecodingError}
 use Rattle.wtp_qpack.specs.declared.qpack.DecodingError.TheVariants.{UnexpectedFin, InvalidString}
+use Rattle.wtp_qpack.specs.declared.qpack.string_literal.Texts.{Texts}
 use Rattle.wtp_qpack.specs.declared.qpack.string_literal.Texts.TheVariants.{Utf8}
 use Rattle.wtp_huffman.specs.Huffman.{IsHuffman}
 use Rattle.wtp_qpack.specs.Field.{IsText}
@@ -37,7 +38,7 @@ utf8_found bytes t e = elim (chosen (is_utf8 bytes) (Ok bytes) (Err InvalidStrin
   | inr bad ↦ cc bad.1
 ]
 
-some_text : (o : Option (List ℕ)) (t : List ℕ) → or_invalid o ≡ Ok t → o ≡ Some t
+pub some_text : (o : Option (List ℕ)) (t : List ℕ) → or_invalid o ≡ Ok t → o ≡ Some t
 some_text None t e = cc e
 some_text (Some u) t e = cc e
 
@@ -90,23 +91,23 @@ string_read n t s rest h =
     ap (λ z. string_at n (z ++ rest)) h.parts ∙ whole_read n h.size h.body rest h.is_size ∙ rw (content_is (flag_above n h.size) t h.body h.is_text h.utf8) refl
 
 -- what was read of the length and the text
-record Parts (n : ℕ) (bytes t rest : List ℕ) : Type 0 where
-  count : ℕ
-  behind : List ℕ
-  size : integer_at n bytes ≡ Ok (count, behind)
-  enough : count ≤ length behind
-  text : text_of Utf8 (flag_above n bytes) (take count behind) ≡ Ok t
-  left : drop count behind ≡ rest
+pub record Parts (texts : Texts) (n : ℕ) (bytes t rest : List ℕ) : Type 0 where
+  pub count : ℕ
+  pub behind : List ℕ
+  pub size : integer_at n bytes ≡ Ok (count, behind)
+  pub enough : count ≤ length behind
+  pub text : text_of texts (flag_above n bytes) (take count behind) ≡ Ok t
+  pub left : drop count behind ≡ rest
 
-parts_of : (n : ℕ) (bytes t rest : List ℕ) → string_at n bytes ≡ Ok (t, rest) → Parts n bytes t rest
+pub parts_of : (texts : Texts) (n : ℕ) (bytes t rest : List ℕ) → string_in texts n bytes ≡ Ok (t, rest) → Parts texts n bytes t rest
 unfolding string_in
-parts_of n bytes t rest e =
-    let size = bind_ok (integer_at n bytes) (λ (m : ℕ × List ℕ). cond (nat_lt (length m.1) m.0) (Err UnexpectedFin) (text_of Utf8 (flag_above n bytes) (take m.0 m.1) >>= λ t. Ok (t, drop m.0 m.1))) (t, rest) e in
+parts_of texts n bytes t rest e =
+    let size = bind_ok (integer_at n bytes) (λ (m : ℕ × List ℕ). cond (nat_lt (length m.1) m.0) (Err UnexpectedFin) (text_of texts (flag_above n bytes) (take m.0 m.1) >>= λ t. Ok (t, drop m.0 m.1))) (t, rest) e in
     let m : ℕ × List ℕ = size.0 in
-    elim (chosen (nat_lt (length m.1) m.0) (Err UnexpectedFin) (text_of Utf8 (flag_above n bytes) (take m.0 m.1) >>= λ t. Ok (t, drop m.0 m.1)) (Ok (t, rest)) size.2) [
+    elim (chosen (nat_lt (length m.1) m.0) (Err UnexpectedFin) (text_of texts (flag_above n bytes) (take m.0 m.1) >>= λ t. Ok (t, drop m.0 m.1)) (Ok (t, rest)) size.2) [
       | inl few ↦ cc few.1
       | inr enough ↦
-          let text = bind_ok (text_of Utf8 (flag_above n bytes) (take m.0 m.1)) (λ t. Ok (t, drop m.0 m.1)) (t, rest) enough.1 in
+          let text = bind_ok (text_of texts (flag_above n bytes) (take m.0 m.1)) (λ t. Ok (t, drop m.0 m.1)) (t, rest) enough.1 in
           record {
             count = m.0;
             behind = m.1;
@@ -119,7 +120,7 @@ parts_of n bytes t rest e =
 
 pub string_found : (n : ℕ) (t bytes rest : List ℕ) → n ≤ 8 → string_at n bytes ≡ Ok (t, rest) → (s : List ℕ) × IsString n t s × (bytes ≡ s ++ rest)
 string_found n t bytes rest few e =
-    let p = parts_of n bytes t rest e in
+    let p = parts_of Utf8 n bytes t rest e in
     let size = int_found n p.count bytes p.behind few p.size in
     let body : List ℕ = take p.count p.behind in
     let long : length body ≡ p.count = length-take-le p.count p.behind p.enough in

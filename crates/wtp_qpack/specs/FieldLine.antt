@@ -22,7 +22,8 @@ use Rattle.wtp_qpack.specs.declared.qpack.string_literal.Texts.TheVariants.{Utf8
 use Rattle.wtp_qpack.specs.Field.{Field}
 use Rattle.wtp_qpack.specs.Qpack.{GivesUnlessMemory, ◌>>=◌}
 use Rattle.wtp_qpack.specs.Integer.{integer_at, shortest_int}
-use Rattle.wtp_qpack.specs.StaticTable.{entry_at, first_entry}
+use Rattle.wtp_qpack.specs.Sensitive.{is_sensitive}
+use Rattle.wtp_qpack.specs.StaticTable.{entry_at, first_entry, exact_entry}
 use Rattle.wtp_qpack.specs.StringLiteral.{string_in, is_coded, text_in, encoded_string}
 
 -- the bit at a position of a byte, the lowest at 0
@@ -144,7 +145,7 @@ abbrev pub GivesParts :
     List ℕ → Result Parts DecodingError → Result (Field × List ℕ) DecodingError → Type 0
 GivesParts room result line = GivesUnlessMemory (parts_view room) result line
 
--- ---- writing
+-- ---- writing: lines of header maps, which look only at the first entry with the name
 
 abbrev pub has_value : Option Field → List ℕ → Bool
 has_value None value = false
@@ -161,3 +162,22 @@ line_of None field = encoded_string 3 2 field.0 ++ encoded_string 7 0 field.1
 
 unfoldable pub encoded_line : Field → List ℕ
 encoded_line field = line_of (first_entry field.0) field
+
+-- ---- writing: lines of field lists, each as short as it can be without the dynamic table
+
+-- A literal, with the bit N if the field is never indexed: 01N1, the index of an entry with the name,
+-- and the value (section 4.5.4); or, if there is none, 001N, the name and the value (section 4.5.6).
+abbrev pub literal_line : (never : Bool) → Option ℕ → Field → List ℕ
+literal_line never (Some index) field =
+    shortest_int 4 (if never then 7 else 5) index ++ encoded_string 7 0 field.1
+literal_line never None field =
+    encoded_string 3 (if never then 3 else 2) field.0 ++ encoded_string 7 0 field.1
+
+-- 11 and the index of the entry that is the field (section 4.5.2); or, if there is none, a literal by
+-- the first entry with its name, which is never indexed if the field is sensitive
+abbrev pub line_with : Option ℕ → Field → List ℕ
+line_with (Some index) field = shortest_int 6 3 index
+line_with None field = literal_line (is_sensitive field) (first_entry field.0) field
+
+unfoldable pub shortest_line : Field → List ℕ
+shortest_line field = line_with (exact_entry field) field

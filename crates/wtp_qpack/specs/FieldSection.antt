@@ -5,7 +5,7 @@ use Rattle.wtp_qpack.specs.declared.qpack.DecodingError.{DecodingError}
 use Rattle.wtp_qpack.specs.Field.{Field, field_map}
 use Rattle.wtp_qpack.specs.Qpack.{◌>>=◌}
 use Rattle.wtp_qpack.specs.Integer.{integer_at}
-use Rattle.wtp_qpack.specs.FieldLine.{line_at, NeedsMemory, encoded_line}
+use Rattle.wtp_qpack.specs.FieldLine.{line_at, NeedsMemory, encoded_line, shortest_line}
 
 -- The bytes after the prefix of a section (section 4.5.1): the Required Insert Count, an integer
 -- with prefix 8, and the Delta Base, one with prefix 7. Both are ignored.
@@ -61,3 +61,7 @@ map_at bytes = section_at bytes >>= λ lines. Ok (field_map lines)
 -- an empty prefix, and the line of each field in turn
 unfoldable pub section_of : List Field → List ℕ
 section_of fields = 0 ∷ 0 ∷ flat_map encoded_line fields
+
+-- the same with the shortest lines: the section of a field list
+unfoldable pub shortest_section : List Field → List ℕ
+shortest_section fields = 0 ∷ 0 ∷ flat_map shortest_line fields

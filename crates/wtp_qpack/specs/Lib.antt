@@ -3,6 +3,7 @@ pub mod Integer
 pub mod Field
 pub mod StaticTable
 pub mod StaticSlots
+pub mod Sensitive
 pub mod StringLiteral
 pub mod FieldLine
 pub mod FieldSection

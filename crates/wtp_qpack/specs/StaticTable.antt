@@ -1,5 +1,5 @@
 -- The static table (RFC 9204, section 3.1 and Appendix A).
-use Rattle.std.specs.Prelude.{◌≡◌, ◌≢◌, ℕ, ◌<◌, List, [], ◌∷◌, Option, Some, None, codes, position, slice_get}
+use Rattle.std.specs.Prelude.{◌≡◌, ◌≢◌, ℕ, ◌<◌, Bool, ◌&&◌, List, [], ◌∷◌, Option, Some, None, codes, position, slice_get}
 use Rattle.std.specs.Str.{bytes_eq}
 use Rattle.wtp_qpack.specs.Field.{Field}
 
@@ -134,3 +134,11 @@ abbrev pub FindsStatic : Field → Option ℕ → Type 0
 FindsStatic field None = (index : ℕ) → entry_at index ≢ Some field
 FindsStatic field (Some index) =
     (entry_at index ≡ Some field) × ((lower : ℕ) → lower < index → entry_at lower ≢ Some field)
+
+-- the entry has the name and the value of a field
+abbrev pub is_entry : Field → Field → Bool
+is_entry field entry = bytes_eq entry.0 field.0 && bytes_eq entry.1 field.1
+
+-- the index of the entry that is a field, if there is one
+abbrev pub exact_entry : Field → Option ℕ
+exact_entry field = position (is_entry field) static_table

@@ -9,3 +9,4 @@ pub mod laws;
 pub mod parts;
 pub mod qpack;
 pub mod section;
+pub mod sensitive;

@@ -1,10 +1,14 @@
 //! Laws of field lines as bytes, and of the lines and maps of texts that they make.
-ghost use Rattle.std.specs.Prelude.{◌≡◌, ◌⊎◌, ℕ, ◌<◌, List, [], ◌++◌, length, Ok, Err};
+ghost use Rattle.std.specs.Prelude.{◌≡◌, ◌⊎◌, ℕ, ◌+◌, ◌<◌, ◌≤◌, List, [], ◌++◌, length, Some, None};
+ghost use Rattle.std.specs.Prelude.{Ok, Err};
 ghost use Rattle.wtp_qpack.specs.declared.qpack.DecodingError.{DecodingError};
 ghost use Rattle.wtp_qpack.specs.declared.qpack.DecodingError.TheVariants.{InvalidString};
 ghost use Rattle.wtp_qpack.specs.Field.{Field, IsOctets, AreOctets, field_map};
-ghost use Rattle.wtp_qpack.specs.FieldLine.{line_at, encoded_line};
-ghost use Rattle.wtp_qpack.specs.FieldSection.{after_prefix, map_at, section_of};
+ghost use Rattle.wtp_qpack.specs.Integer.{shortest_int};
+ghost use Rattle.wtp_qpack.specs.Sensitive.{is_sensitive};
+ghost use Rattle.wtp_qpack.specs.StaticTable.{first_entry, FindsStatic};
+ghost use Rattle.wtp_qpack.specs.FieldLine.{line_at, encoded_line, literal_line, shortest_line};
+ghost use Rattle.wtp_qpack.specs.FieldSection.{after_prefix, map_at, section_of, shortest_section};
 ghost use Rattle.wtp_qpack.specs.FieldLines.{octet_line_at, as_texts, AreOctetLines, AreUtf8Fields};
 
 /// A line of bytes is the line of texts, if its name and its value are UTF-8, and otherwise no
@@ -44,4 +48,27 @@ pub fn lines_again()
         → octet_line_at (encoded_line field ++ rest) ≡ Ok (field, rest) }
     ensures section { (fields : List Field) → AreOctets fields → (lines : List ℕ)
         × (after_prefix (section_of fields) ≡ Ok lines) × AreOctetLines lines fields [] }
+{}
+
+/// The line of a field in a list is the index of the static entry that is the field, where there is
+/// one; otherwise a literal, with the bit N exactly if the field is sensitive. It reads as its field,
+/// whatever follows, and the section of a list has the lines of its fields, in their order.
+pub fn shortest_lines()
+    ensures indexed { (field : Field) (index : ℕ) → FindsStatic field (Some index)
+        → shortest_line field ≡ shortest_int 6 3 index }
+    ensures literal { (field : Field) → FindsStatic field None
+        → shortest_line field ≡ literal_line (is_sensitive field) (first_entry field.0) field }
+    ensures line { (field : Field) (rest : List ℕ) → IsOctets field.0 → IsOctets field.1
+        → octet_line_at (shortest_line field ++ rest) ≡ Ok (field, rest) }
+    ensures section { (fields : List Field) → AreOctets fields → (lines : List ℕ)
+        × (after_prefix (shortest_section fields) ≡ Ok lines) × AreOctetLines lines fields [] }
+{}
+
+/// No line without the dynamic table is a field in fewer bytes than its line in a list, and no section
+/// without the dynamic table has the fields of a list in fewer bytes than the list's.
+pub fn no_shorter_lines()
+    ensures line { (bytes rest : List ℕ) (field : Field) → octet_line_at bytes ≡ Ok (field, rest)
+        → length (shortest_line field) + length rest ≤ length bytes }
+    ensures section { (section lines : List ℕ) (fields : List Field) → after_prefix section ≡ Ok lines
+        → AreOctetLines lines fields [] → length (shortest_section fields) ≤ length section }
 {}

@@ -8,7 +8,7 @@ ghost use Rattle.wtp_qpack.specs.declared.qpack.DecodingError.TheVariants.{Memor
 ghost use Rattle.wtp_qpack.specs.declared.qpack.string_literal.Texts.TheVariants.{Utf8};
 ghost use Rattle.wtp_qpack.specs.Field.{IsText};
 ghost use Rattle.wtp_qpack.specs.Qpack.{Gives, GivesUnlessMemory};
-ghost use Rattle.wtp_qpack.specs.StaticTable.{entry_at};
+ghost use Rattle.wtp_qpack.specs.StaticTable.{entry_at, first_entry, exact_entry};
 ghost use Rattle.wtp_qpack.specs.StringLiteral.{Grows};
 ghost use Rattle.wtp_qpack.specs.FieldLine.{bit, table_of, representation_of, or_not_found};
 ghost use Rattle.wtp_qpack.specs.FieldLine.{indexed_at, name_reference_in, literal_name_in};
@@ -16,9 +16,11 @@ ghost use Rattle.wtp_qpack.specs.FieldLine.{line_by, line_in, line_at, named_ent
 ghost use Rattle.wtp_qpack.specs.FieldLine.{value_is_coded, has_coded, is_coded_in, NeedsMemory};
 ghost use Rattle.wtp_qpack.specs.FieldLine.{line_view, parts_view, GivesParts};
 ghost use Rattle.wtp_qpack.specs.FieldLine.{has_value, encoded_line, line_of};
+ghost use Rattle.wtp_qpack.specs.FieldLine.{literal_line, shortest_line};
 
 use super::string_literal::Texts;
 use super::{DecodingError, integer, static_table, string_literal};
+use crate::sensitive::is_sensitive;
 use std::alloc::{AllocError, Global};
 
 /// The table that an index refers to, given by the bit T.
@@ -358,4 +360,64 @@ pub fn write_octets(out: &mut Vec<u8>, name: &[u8], value: &[u8]) -> Result<(), 
     ensures front { BeginsWith out.old.items out.new.items }
 {
     write_by(out, static_table::first_entry_of(name), name, value)
+}
+
+/// Returns the index of the static entry that is a field, given the first entry with its name.
+#[tactic(auto, using(crate::proofs::ShortestLines::none_exact, crate::proofs::ShortestLines::exact_is))]
+fn exact_entry(first: Option<usize>, name: &[u8], value: &[u8]) -> Option<u64>
+    requires { first ≡ first_entry name.now }
+    ensures { result ≡ exact_entry (name.now, value.now) }
+{
+    match first {
+        Some(first) => static_table::entry_of(first as u64, name, value),
+        None => None,
+    }
+}
+
+/// Appends the literal of a field, with the name of a static entry or its own, and with the bit N if
+/// the field is never indexed.
+fn write_literal(
+    out: &mut Vec<u8>,
+    never: bool,
+    named: Option<usize>,
+    name: &[u8],
+    value: &[u8],
+) -> Result<(), AllocError>
+    ensures ok { OnOk result (out.new.items
+        ≡ out.old.items ++ literal_line never named (name.now, value.now)) }
+    ensures front { BeginsWith out.old.items out.new.items }
+{
+    match named {
+        Some(index) => {
+            let flags = if never { 0b0111 } else { 0b0101 };
+            integer::write::<4>(out, flags, index as u64)?;
+            string_literal::write::<7>(out, 0, value)
+        }
+        None => {
+            let flags = if never { 0b11 } else { 0b10 };
+            string_literal::write::<3>(out, flags, name)?;
+            string_literal::write::<7>(out, 0, value)
+        }
+    }
+}
+
+/// Appends the shortest line of a field without the dynamic table. The name and the value need not be
+/// UTF-8.
+///
+/// It is the index of the static entry with this name and value (RFC 9204, section 4.5.2), or else a
+/// literal, with the first static entry that has the name (section 4.5.4) or with the name itself
+/// (section 4.5.6). A literal has the bit N if the field [is sensitive](crate::sensitive::is_sensitive).
+///
+/// Returns [`AllocError`] if allocation fails. Then `out` begins with what it contained before, and
+/// what follows is unspecified.
+#[tactic(auto, unfolding(crate::specs::FieldLine::shortest_line))]
+pub fn write_shortest(out: &mut Vec<u8>, name: &[u8], value: &[u8]) -> Result<(), AllocError>
+    ensures ok { OnOk result (out.new.items ≡ out.old.items ++ shortest_line (name.now, value.now)) }
+    ensures front { BeginsWith out.old.items out.new.items }
+{
+    let first = static_table::first_entry_of(name);
+    match exact_entry(first, name, value) {
+        Some(index) => integer::write::<6>(out, 0b11, index),
+        None => write_literal(out, is_sensitive(name, value), first, name, value),
+    }
 }
