@@ -216,6 +216,10 @@ var ruleRows = []struct {
 	{false, AskedOther, RuleInvalidTe, ":status 200\nte trailers"},
 	{false, AskedSession, RuleUnexpectedStatus, ":status 204"},
 	{false, AskedSession, RuleContentField, ":status 200\ncontent-type a/b"},
+	// RFC 9110, sections 8.6 and 9.3.6: they may be received
+	{false, AskedOther, RuleInvalidContentLength, ":status 103\ncontent-length 5"},
+	{false, AskedHead, RuleInvalidContentLength, ":status 204\ncontent-length 5"},
+	{false, AskedConnect, RuleInvalidContentLength, ":status 200\ncontent-length 5"},
 }
 
 func TestSendingRules(t *testing.T) {

@@ -93,10 +93,12 @@ int wt_sending_response(const wt_connection *connection, uint64_t id, uint32_t a
    rules of their message, and written in their order, with repeated names. It allocates.
    Content or the end may follow a request, but a CONNECT waits for its answer. A 2xx response to a
    request for a session opens it: call wt_stream_answer too.
-   WT_OK, WT_BUFFER_TOO_SMALL: as above. WT_REFUSED: a rule that the fields break;
+   WT_OK, WT_BUFFER_TOO_SMALL: as above. WT_REFUSED: the first of these that holds:
    WT_SEND_UNEXPECTED after the head of the message; WT_SEND_TOO_LARGE for more than the peer
-   accepts; WT_SEND_UNSUPPORTED for a session; or WT_SEND_TOO_MANY_INTERIM. WT_INVALID: *sending is
-   not valid, or a field is not within the texts. WT_MEMORY. */
+   accepts; a rule that the fields break, as does a content-length in a response with status 1xx or
+   204, or 2xx to a CONNECT (RFC 9110, section 8.6); WT_SEND_UNSUPPORTED for a session; or
+   WT_SEND_TOO_MANY_INTERIM. WT_INVALID: *sending is not valid, or a field is not within the texts.
+   WT_MEMORY. */
 int wt_sending_headers(wt_sending *sending, const wt_field *fields, size_t fields_length,
                        const uint8_t *texts, size_t texts_length, uint8_t *out, size_t room,
                        size_t *used, uint32_t *why);

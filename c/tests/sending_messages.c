@@ -139,6 +139,10 @@ static const struct {
     {WT_ASKED_OTHER, WT_RULE_INVALID_TE, ":status 200\nte trailers\n"},
     {WT_ASKED_SESSION, WT_RULE_UNEXPECTED_STATUS, ":status 204\n"},
     {WT_ASKED_SESSION, WT_RULE_CONTENT_FIELD, ":status 200\ncontent-type a/b\n"},
+    /* RFC 9110, sections 8.6 and 9.3.6: they may be received */
+    {WT_ASKED_OTHER, WT_RULE_INVALID_CONTENT_LENGTH, ":status 103\ncontent-length 5\n"},
+    {WT_ASKED_HEAD, WT_RULE_INVALID_CONTENT_LENGTH, ":status 204\ncontent-length 5\n"},
+    {WT_ASKED_CONNECT, WT_RULE_INVALID_CONTENT_LENGTH, ":status 200\ncontent-length 5\n"},
 };
 
 static void broken(void) {

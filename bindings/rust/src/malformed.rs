@@ -26,8 +26,9 @@ pub enum Malformed {
     LatePseudoHeader,
     /// A pseudo-header field is repeated (RFC 9114, section 4.3).
     RepeatedPseudoHeader,
-    /// A `content-length` is not a decimal number below 2^62, or two of them differ (RFC 9110,
-    /// section 8.6).
+    /// A `content-length` is not a decimal number below 2^62, or two of them differ; or a response that
+    /// is sent has one, with status 1xx or 204, or 2xx to a CONNECT request (RFC 9110, sections 8.6 and
+    /// 9.3.6).
     InvalidContentLength,
     /// A request has no `:method` (RFC 9114, section 4.3.1).
     MissingMethod,

@@ -268,6 +268,10 @@ const RULES: &[(Option<Asked>, Malformed, &str, &str)] = &[
     (Some(Asked::Other), Malformed::InvalidTe, ":status 200\n", "te trailers"),
     (Some(Asked::Session), Malformed::UnexpectedStatus, "", ":status 204"),
     (Some(Asked::Session), Malformed::ContentField, ":status 200\n", "content-type a/b"),
+    // RFC 9110, sections 8.6 and 9.3.6: they may be received
+    (Some(Asked::Other), Malformed::InvalidContentLength, ":status 103\n", "content-length 5"),
+    (Some(Asked::Head), Malformed::InvalidContentLength, ":status 204\n", "content-length 5"),
+    (Some(Asked::Connect), Malformed::InvalidContentLength, ":status 200\n", "content-length 5"),
 ];
 
 #[test]

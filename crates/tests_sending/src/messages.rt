@@ -3,6 +3,7 @@ use crate::same::assert_same;
 use std::alloc::Global;
 use std::process::Abort;
 use std::test::Fail;
+use wtp_core::bytes::BufferWriter;
 use wtp_core::ids::{SessionId, StreamId};
 use wtp_core::varint::VarInt;
 use wtp_fields::fields::{FieldList, FieldSectionError};
@@ -163,5 +164,157 @@ fn refused_sections_are_not_written(rt: HostRuntime) -> Result<(), Fail> {
     let rule = Malformed::MissingStatus;
     assert_same(&rt, wrong, Err(SendError::Malformed(rule)), "no :status");
     assert_written(&rt, &mut out, b"", "nothing");
+    Ok(())
+}
+
+/// A response to a request that asked for this, and whether a server must not send it.
+struct LengthRow {
+    asked: Asked,
+    section: &'static [u8],
+    refused: bool,
+    case: &'static str,
+}
+
+/// Responses with `content-length: 0` or `content-length: 5`, if with any (RFC 9110, sections 8.6 and 9.3.6).
+static LENGTHS: [LengthRow; 12] = [
+    LengthRow {
+        asked: Asked::Other,
+        section: b"\x00\x00\xff\x00\xc4",
+        refused: true,
+        case: "100",
+    },
+    LengthRow {
+        asked: Asked::Other,
+        section: b"\x00\x00\xd8\x54\x015",
+        refused: true,
+        case: "103",
+    },
+    LengthRow {
+        asked: Asked::Session,
+        section: b"\x00\x00\xd8\xc4",
+        refused: true,
+        case: "103 to a session's request",
+    },
+    LengthRow {
+        asked: Asked::Other,
+        section: b"\x00\x00\xff\x01\x54\x015",
+        refused: true,
+        case: "204",
+    },
+    LengthRow {
+        asked: Asked::Head,
+        section: b"\x00\x00\xff\x01\xc4",
+        refused: true,
+        case: "204 to HEAD",
+    },
+    LengthRow {
+        asked: Asked::Connect,
+        section: b"\x00\x00\xd9\x54\x015",
+        refused: true,
+        case: "200 to CONNECT",
+    },
+    LengthRow {
+        asked: Asked::Connect,
+        section: b"\x00\x00\xff\x01",
+        refused: false,
+        case: "204 to CONNECT without a length",
+    },
+    LengthRow {
+        asked: Asked::Connect,
+        section: b"\x00\x00\xdb\x54\x015",
+        refused: false,
+        case: "404 to CONNECT",
+    },
+    LengthRow {
+        asked: Asked::Head,
+        section: b"\x00\x00\xd9\x54\x015",
+        refused: false,
+        case: "200 to HEAD",
+    },
+    LengthRow {
+        asked: Asked::Other,
+        section: b"\x00\x00\xda\x54\x015",
+        refused: false,
+        case: "304",
+    },
+    LengthRow {
+        asked: Asked::Other,
+        section: b"\x00\x00\xd9\x54\x015",
+        refused: false,
+        case: "200",
+    },
+    LengthRow {
+        asked: Asked::Session,
+        section: b"\x00\x00\xdb\x54\x015",
+        refused: false,
+        case: "404 to a session's request",
+    },
+];
+
+#[test]
+fn a_length_that_says_nothing_is_not_sent(rt: HostRuntime) -> Result<(), Fail> {
+    let alloc = rt.alloc();
+    for row in &LENGTHS {
+        let mut out = Vec::new(alloc);
+        let mut sending = Sending::response(stream(&rt, 4), row.asked, Peer::new());
+        let came = sending.headers(alloc, &list_of(alloc, row.section)?, &mut out);
+        let rule = Malformed::InvalidContentLength;
+        let wanted = if row.refused {
+            Err(SendError::Malformed(rule))
+        } else {
+            Ok(())
+        };
+        assert_same(&rt, came, wanted, row.case);
+        assert_same(&rt, out.is_empty(), row.refused, row.case);
+        let next = sending.headers(alloc, &list_of(alloc, b"\x00\x00\xd9")?, &mut out);
+        assert_same(&rt, next.is_ok(), row.refused, row.case);
+    }
+    Ok(())
+}
+
+#[test]
+fn the_first_of_several_reasons_is_returned(rt: HostRuntime) -> Result<(), Fail> {
+    let alloc = rt.alloc();
+    let mut none = [];
+    let mut full = BufferWriter::new(&mut none);
+    let small = Peer {
+        max_section: 41,
+        ..Peer::new()
+    };
+    let vary = list_of(alloc, &VARY)?;
+    let malformed = Err(SendError::Malformed(Malformed::MissingStatus));
+    let mut sending = Sending::response(stream(&rt, 4), Asked::Other, small);
+    let came = sending.headers(alloc, &vary, &mut full);
+    assert_same(
+        &rt,
+        came,
+        Err(SendError::TooLarge),
+        "above the limit of 41 bytes, malformed",
+    );
+    let mut sending = Sending::response(stream(&rt, 4), Asked::Other, Peer::new());
+    let came = sending.headers(alloc, &vary, &mut full);
+    assert_same(&rt, came, malformed, "malformed, no space");
+    let came = sending.headers(alloc, &list_of(alloc, &OK)?, &mut full);
+    assert_same(&rt, came, Err(SendError::EndOfBuffer), "no space");
+    let mut out = Vec::new(alloc);
+    sending.headers(alloc, &list_of(alloc, &OK)?, &mut out)?;
+    let came = sending.headers(alloc, &vary, &mut full);
+    assert_same(
+        &rt,
+        came,
+        Err(SendError::Unexpected),
+        "after the head, malformed",
+    );
+    let came = sending.trailers(alloc, &list_of(alloc, &OK)?, &mut full);
+    let unknown = Err(SendError::Malformed(Malformed::UnknownPseudoHeader));
+    assert_same(&rt, came, unknown, "malformed trailers, no space");
+    sending.data(1, &mut out)?;
+    let came = sending.trailers(alloc, &list_of(alloc, &OK)?, &mut full);
+    assert_same(
+        &rt,
+        came,
+        Err(SendError::DataMissing),
+        "a byte is missing, malformed",
+    );
     Ok(())
 }

@@ -11,6 +11,8 @@ mod errors;
 #[cfg(test)]
 mod given_up;
 #[cfg(test)]
+mod lengths;
+#[cfg(test)]
 mod playing;
 #[cfg(test)]
 mod refused;

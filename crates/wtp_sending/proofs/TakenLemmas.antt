@@ -1,5 +1,5 @@
 -- The sections that are sent are never malformed to the receiver.
-use Rattle.std.proofs.Common.{◌≡◌, ℕ, nat_lt, Bool, true, false, List, Option, Some, IsOk, Result, Ok, Err, refl, sym, ap, ◌∙◌}
+use Rattle.std.proofs.Common.{◌≡◌, ℕ, nat_lt, Bool, true, false, List, Some, IsOk, Result, Ok, Err, refl, sym, ap, ◌∙◌}
 use Rattle.wtp_qpack.specs.Field.{Field}
 use Rattle.wtp_messages.specs.declared.content.Content.{Content}
 use Rattle.wtp_messages.specs.declared.malformed.Malformed.{Malformed}
@@ -10,24 +10,23 @@ use Rattle.wtp_messages.specs.declared.message.Section.{Section}
 use Rattle.wtp_messages.specs.declared.message.Section.TheVariants as found
 use Rattle.wtp_messages.specs.declared.message.Stage.{Stage}
 use Rattle.wtp_messages.specs.declared.message.Stage.TheVariants as stage
-use Rattle.wtp_messages.specs.declared.request.Request.{Request}
 use Rattle.wtp_messages.specs.declared.response.Asked.{Asked}
 use Rattle.wtp_messages.specs.declared.response.Response.{Response}
 use Rattle.wtp_messages.specs.declared.section.SectionKind.TheVariants as section
 use Rattle.wtp_messages.specs.Content.{content_of}
 use Rattle.wtp_messages.specs.Length.{content_length}
-use Rattle.wtp_messages.specs.Message.{with_head, with_trailers, is_interim, RequestComes, ResponseComes, TrailersCome, HeadComes, SectionComes}
-use Rattle.wtp_messages.specs.Request.{request_breaks, IsRequest}
-use Rattle.wtp_messages.specs.Response.{response_breaks, status_of, expected, IsResponse}
-use Rattle.wtp_messages.specs.Section.{section_breaks, IsSection}
+use Rattle.wtp_messages.specs.Message.{with_head, is_interim, RequestComes, ResponseComes, TrailersCome, HeadComes, SectionComes}
+use Rattle.wtp_messages.specs.Request.{request_breaks}
+use Rattle.wtp_messages.specs.Response.{response_breaks, expected, IsResponse}
+use Rattle.wtp_messages.specs.Section.{section_breaks}
 use Rattle.wtp_sending.specs.Sent.{Takes}
 
 -- the result is a section and leads there
-record Agree (result : Result Section Malformed) (n new : Message) : Type 0 where
-  ok : IsOk result
-  same : n ≡ new
+pub record Agree (result : Result Section Malformed) (n new : Message) : Type 0 where
+  pub ok : IsOk result
+  pub same : n ≡ new
 
-both : {A : Type 0} (b : Bool) → b ≡ true → b ≡ false → A
+pub both : {A : Type 0} (b : Bool) → b ≡ true → b ≡ false → A
 both b t f = absurd cc
 
 some_is : (x y : ℕ) → Some x ≡ Some y → x ≡ y
@@ -45,7 +44,7 @@ request_agrees extended m fields (found.Interim a) new result n h k = absurd h
 request_agrees extended m fields (found.Response a) new result n h k = absurd h
 request_agrees extended m fields found.Trailers new result n h k = absurd h
 
-same_status : (asked : Asked) (fields : List Field) (a b : Response) → IsResponse asked fields a → IsResponse asked fields b → b.status ≡ a.status
+pub same_status : (asked : Asked) (fields : List Field) (a b : Response) → IsResponse asked fields a → IsResponse asked fields b → b.status ≡ a.status
 same_status asked fields a b x y = some_is b.status a.status (sym y.status ∙ x.status)
 
 same_content : (asked : Asked) (fields : List Field) (a b : Response) → IsResponse asked fields a → IsResponse asked fields b → b.content ≡ a.content
@@ -85,7 +84,7 @@ head_agrees : (r : Role) (m : Message) (fields : List Field) (first : Section) (
 head_agrees (role.Request extended) m fields first new result n h k = request_agrees extended m fields first new result n h k
 head_agrees (role.Response asked) m fields first new result n h k = response_agrees asked m fields first new result n h k
 
-section_agrees : (s : Stage) (m : Message) (fields : List Field) (first : Section) (new : Message) (result : Result Section Malformed) (n : Message) → SectionComes s m fields (Ok first) new → SectionComes s m fields result n → Agree result n new
+pub section_agrees : (s : Stage) (m : Message) (fields : List Field) (first : Section) (new : Message) (result : Result Section Malformed) (n : Message) → SectionComes s m fields (Ok first) new → SectionComes s m fields result n → Agree result n new
 section_agrees stage.Head m fields first new result n h k = head_agrees m.role m fields first new result n h k
 section_agrees stage.Body m fields first new result n h k = trailers_agree m fields first new result n h k
 section_agrees stage.End m fields first new result n h k = trailers_agree m fields first new result n h k

@@ -1,13 +1,11 @@
 -- HEADERS whose sections refer to the dynamic table: what is proposed to the encoder, what is written,
 -- and what the encoder is then (RFC 9204, sections 2.1 and 4.5; RFC 9114, section 4.1).
-use Rattle.std.specs.Prelude.{◌≡◌, ◌⊎◌, ℕ, ◌<◌, ◌≤◌, ◌^◌, true, false, not, ◌&&◌, List, [], ◌∷◌, ◌++◌, map, length, take, Option, Result, Ok, Err}
+use Rattle.std.specs.Prelude.{◌≡◌, ◌⊎◌, ℕ, ◌<◌, ◌≤◌, ◌^◌, List, [], ◌∷◌, ◌++◌, map, length, take, Option, Result, Ok}
 use Rattle.wtp_core.specs.Writer.{LacksRoom}
 use Rattle.wtp_wire.specs.Content.{HeadersOf}
 use Rattle.wtp_wire.specs.Wire.{wire}
 use Rattle.wtp_qpack.specs.Field.{Field}
 use Rattle.wtp_fields.specs.FieldList.{list_size}
-use Rattle.wtp_messages.specs.declared.message.Message.{Message}
-use Rattle.wtp_messages.specs.Message.{end_of}
 use Rattle.wtp_frames.specs.declared.endpoint.Endpoint.{Endpoint}
 use Rattle.wtp_frames.specs.declared.reader.Reader.{Reader}
 use Rattle.wtp_frames.specs.Grammar.{section_item}
@@ -19,11 +17,10 @@ use Rattle.wtp_dynamic_encoder.specs.Choosing.{field_of}
 use Rattle.wtp_dynamic_encoder.specs.Encoding.{State, AreOffered, Ordered, Encodes, IsSent}
 use Rattle.wtp_sending.specs.declared.error.SendError.{SendError}
 use Rattle.wtp_sending.specs.declared.error.SendError.TheVariants as error
-use Rattle.wtp_sending.specs.declared.message.Place.{Place}
 use Rattle.wtp_sending.specs.declared.message.Place.TheVariants.{Head, Content, Trailers}
 use Rattle.wtp_sending.specs.declared.message.Sending.{Sending}
 use Rattle.wtp_sending.specs.Indexing.{indexing_of}
-use Rattle.wtp_sending.specs.Message.{is_at_head, is_head_stage, is_content, interims_of, is_unsupported, IsHead, IsInterim, Breaks, AreTrailers}
+use Rattle.wtp_sending.specs.Message.{interims_of, IsHead, MayBeHead, RefusesHead, AreTrailers, MayBeTrailers, RefusesTail}
 use Rattle.wtp_sending.specs.Sent.{IsAfter}
 
 -- ---- what is proposed
@@ -122,28 +119,19 @@ pub record SendsHeadAs (section : List ℕ) (old : Sending) (fields : List Field
   pub head : IsHead old (interims_of old.place) fields new.message new.place
   pub others : new ≡ record old { message = new.message; place = new.place }
 
--- the fields may be sent as the head of the message, or as an interim response
-abbrev pub MayBeHead : Sending → List Field → Type 0
-MayBeHead s fields =
-    (s.place ≡ Head (interims_of s.place)) × (list_size fields ≤ s.peer.max_section)
-    × (m : Message) × (place : Place) × IsHead s (interims_of s.place) fields m place
-
--- Why HEADERS of a head are refused. The encoder is asked only for a head that may be sent.
+-- Why HEADERS of a head are refused: it may not be sent, and the encoder is not asked; or else its frame
+-- is not written.
 abbrev pub RefusesHeadersWith : Sending → List Field → (old new : State) → (before after : List ℕ)
     → Option (List ℕ) → SendError → Type 0
-RefusesHeadersWith s fields old new before after room error.Unexpected =
-    (is_at_head s ≡ false) × IsIdle old new before after
-RefusesHeadersWith s fields old new before after room error.TooManyInterim =
-    (64 ≤ interims_of s.place) × IsInterim s fields × IsIdle old new before after
-RefusesHeadersWith s fields old new before after room error.Unsupported =
-    (is_unsupported s.peer fields ≡ true) × IsIdle old new before after
-RefusesHeadersWith s fields old new before after room (error.Malformed rule) =
-    Breaks s fields rule × IsIdle old new before after
 RefusesHeadersWith s fields old new before after room error.TooLarge =
-    ((s.peer.max_section < list_size fields) × IsIdle old new before after)
+    (RefusesHead s fields error.TooLarge × IsIdle old new before after)
     ⊎ (MayBeHead s fields × LacksEncoded s.id fields old new before after room error.TooLarge)
+RefusesHeadersWith s fields old new before after room error.EndOfBuffer =
+    MayBeHead s fields × LacksEncoded s.id fields old new before after room error.EndOfBuffer
+RefusesHeadersWith s fields old new before after room error.Memory =
+    MayBeHead s fields × LacksEncoded s.id fields old new before after room error.Memory
 RefusesHeadersWith s fields old new before after room other =
-    MayBeHead s fields × LacksEncoded s.id fields old new before after room other
+    RefusesHead s fields other × IsIdle old new before after
 
 -- ---- trailers
 
@@ -157,28 +145,18 @@ pub record SendsTrailersAs (section : List ℕ) (old : Sending) (fields : List F
   pub are : AreTrailers old fields new.message
   pub others : new ≡ record old { message = new.message; place = Trailers }
 
--- the fields may be sent as the trailers of the message
-abbrev pub MayBeTrailers : Sending → List Field → Type 0
-MayBeTrailers s fields =
-    (s.place ≡ Content) × (s.owed ≡ 0) × (list_size fields ≤ s.peer.max_section)
-    × (m : Message) × AreTrailers s fields m
-
 -- why trailers are refused, in the same way
 abbrev pub RefusesTrailersWith : Sending → List Field → (old new : State)
     → (before after : List ℕ) → Option (List ℕ) → SendError → Type 0
-RefusesTrailersWith s fields old new before after room error.Unexpected =
-    ((is_content s.place && not (is_head_stage s.message.stage)) ≡ false)
-    × IsIdle old new before after
-RefusesTrailersWith s fields old new before after room error.DataMissing =
-    (0 < s.owed) × IsIdle old new before after
-RefusesTrailersWith s fields old new before after room (error.Malformed rule) =
-    ((end_of s.message.stage s.message.content.left ≡ Err rule) ⊎ Breaks s fields rule)
-    × IsIdle old new before after
 RefusesTrailersWith s fields old new before after room error.TooLarge =
-    ((s.peer.max_section < list_size fields) × IsIdle old new before after)
+    (RefusesTail s fields error.TooLarge × IsIdle old new before after)
     ⊎ (MayBeTrailers s fields × LacksEncoded s.id fields old new before after room error.TooLarge)
+RefusesTrailersWith s fields old new before after room error.EndOfBuffer =
+    MayBeTrailers s fields × LacksEncoded s.id fields old new before after room error.EndOfBuffer
+RefusesTrailersWith s fields old new before after room error.Memory =
+    MayBeTrailers s fields × LacksEncoded s.id fields old new before after room error.Memory
 RefusesTrailersWith s fields old new before after room other =
-    MayBeTrailers s fields × LacksEncoded s.id fields old new before after room other
+    RefusesTail s fields other × IsIdle old new before after
 
 -- ---- the other end
 

@@ -1,27 +1,24 @@
 -- What may be sent on the stream of a message: interim responses, the head of the message, DATA
 -- with its bytes, trailers, and the end (RFC 9114, sections 4.1 and 4.4).
-use Rattle.std.specs.Prelude.{◌≡◌, ◌⊎◌, ℕ, ◌+◌, ◌-◌, ◌<◌, ◌≤◌, ◌^◌, ◌==◌, nat_lt, nat_le, Bool, true, false, not, ◌&&◌, if◌then◌else◌, List, length, Option, Some, Result, Ok, Err}
-use Rattle.wtp_core.specs.Varint.{shortest}
+use Rattle.std.specs.Prelude.{◌≡◌, ◌⊎◌, ℕ, ◌+◌, ◌-◌, ◌<◌, ◌≤◌, ◌^◌, ◌==◌, nat_lt, Bool, true, false, not, ◌&&◌, if◌then◌else◌, List, length, Option, Some, Result, Ok, Err}
 use Rattle.wtp_core.specs.Writer.{LacksRoom}
 use Rattle.wtp_wire.specs.Content.{HeadersOf}
 use Rattle.wtp_wire.specs.Wire.{wire}
 use Rattle.wtp_qpack.specs.Field.{Field}
 use Rattle.wtp_qpack.specs.FieldSection.{section_of}
 use Rattle.wtp_fields.specs.FieldList.{list_size}
-use Rattle.wtp_messages.specs.declared.malformed.Malformed.TheVariants.{ContentTooLong, MissingHead}
+use Rattle.wtp_messages.specs.declared.malformed.Malformed.TheVariants.{ContentTooLong, InvalidContentLength, MissingHead}
 use Rattle.wtp_messages.specs.declared.message.Message.{Message}
 use Rattle.wtp_messages.specs.declared.message.Role.{Role}
 use Rattle.wtp_messages.specs.declared.message.Role.TheVariants as role
-use Rattle.wtp_messages.specs.declared.message.Stage.{Stage}
-use Rattle.wtp_messages.specs.declared.message.Stage.TheVariants as stage
 use Rattle.wtp_messages.specs.declared.message.Section.{Section}
 use Rattle.wtp_messages.specs.declared.message.Section.TheVariants as found
 use Rattle.wtp_messages.specs.declared.response.Asked.TheVariants as asked
 use Rattle.wtp_messages.specs.declared.malformed.Malformed.{Malformed as Rule}
 use Rattle.wtp_messages.specs.Content.{fits, left_after}
-use Rattle.wtp_messages.specs.Message.{message_of, end_of, SectionComes}
+use Rattle.wtp_messages.specs.Message.{message_of, is_head_stage, end_of, SectionComes}
 use Rattle.wtp_messages.specs.Request.{is_connect, asks_for_session}
-use Rattle.wtp_messages.specs.Response.{is_success}
+use Rattle.wtp_messages.specs.Response.{is_success, has_forbidden_length}
 use Rattle.wtp_sending.specs.declared.error.SendError.{SendError}
 use Rattle.wtp_sending.specs.declared.error.SendError.TheVariants as error
 use Rattle.wtp_sending.specs.declared.peer.Peer.{Peer}
@@ -56,10 +53,6 @@ abbrev pub is_head : Place → Bool
 is_head (Head k) = true
 is_head other = false
 
-abbrev pub is_head_stage : Stage → Bool
-is_head_stage stage.Head = true
-is_head_stage other = false
-
 abbrev pub is_at_head : Sending → Bool
 is_at_head s = is_head s.place && is_head_stage s.message.stage
 
@@ -92,6 +85,18 @@ after_head r k fields found.Trailers = Trailers
 abbrev pub is_unsupported : Peer → List Field → Bool
 is_unsupported peer fields = asks_for_session fields && not peer.sessions
 
+-- a response to this request with this status has a content-length that a server must not send
+abbrev pub has_length_at : Role → List Field → ℕ → Bool
+has_length_at (role.Request extended) fields status = false
+has_length_at (role.Response kind) fields status = has_forbidden_length kind fields status
+
+-- the section has a content-length that a server must not send (RFC 9110, section 8.6)
+abbrev pub has_wrong_length : Role → List Field → Section → Bool
+has_wrong_length r fields (found.Request request) = false
+has_wrong_length r fields (found.Interim response) = has_length_at r fields response.status
+has_wrong_length r fields (found.Response response) = has_length_at r fields response.status
+has_wrong_length r fields found.Trailers = false
+
 -- it may be sent: sessions are supported, and interim responses are at most 64
 abbrev pub IsAllowed : Peer → ℕ → List Field → Section → Type 0
 IsAllowed peer k fields (found.Request request) = is_unsupported peer fields ≡ false
@@ -105,8 +110,19 @@ pub record IsHead (s : Sending) (k : ℕ) (fields : List Field) (m : Message) (p
     Type 0 where
   pub found : Section
   pub comes : SectionComes s.message.stage s.message fields (Ok found) m
+  pub no_length : has_wrong_length s.role fields found ≡ false
   pub allowed : IsAllowed s.peer k fields found
   pub leads : after_head s.role k fields found ≡ place
+
+-- the fields may be sent as the head of the message, or as an interim response; they lead to this
+-- message and this place
+abbrev pub LeadsToHead : Sending → List Field → Message → Place → Type 0
+LeadsToHead s fields m place =
+    (s.place ≡ Head (interims_of s.place)) × (list_size fields ≤ s.peer.max_section)
+    × IsHead s (interims_of s.place) fields m place
+
+abbrev pub MayBeHead : Sending → List Field → Type 0
+MayBeHead s fields = (m : Message) × (place : Place) × LeadsToHead s fields m place
 
 -- the section is sent as the head of the message, or as an interim response
 pub record SendsHead (old : Sending) (fields : List Field) (new : Sending) : Type 0 where
@@ -116,40 +132,53 @@ pub record SendsHead (old : Sending) (fields : List Field) (new : Sending) : Typ
   pub head : IsHead old (interims_of old.place) fields new.message new.place
   pub others : new ≡ record old { message = new.message; place = new.place }
 
+-- ---- a head that is refused
+
 -- the section breaks this rule of its message
 abbrev pub Breaks : Sending → List Field → Rule → Type 0
 Breaks s fields rule = SectionComes s.message.stage s.message fields (Err rule) s.message
 
--- the section is that of an interim response
-abbrev pub IsInterim : Sending → List Field → Type 0
-IsInterim s fields =
-    (found : Section) × (m : Message) × SectionComes s.message.stage s.message fields (Ok found) m
-    × (after_head s.role 0 fields found ≡ Head 1)
+-- the section breaks no rule of its message, and is this one
+abbrev pub IsSection : Sending → List Field → Section → Type 0
+IsSection s fields found =
+    (m : Message) × SectionComes s.message.stage s.message fields (Ok found) m
 
--- why a head is refused, once its size is checked
-abbrev pub RefusesHead : Sending → ℕ → List Field → SendError → Type 0
-RefusesHead s k fields error.Unexpected = is_head_stage s.message.stage ≡ false
-RefusesHead s k fields error.TooManyInterim = (64 ≤ k) × IsInterim s fields
-RefusesHead s k fields error.Unsupported = is_unsupported s.peer fields ≡ true
-RefusesHead s k fields (error.Malformed rule) = Breaks s fields rule
-RefusesHead s k fields other = ⊥
+-- The section breaks this rule of its message, or one of what is sent: it has a content-length.
+abbrev pub BreaksHead : Sending → List Field → Rule → Type 0
+BreaksHead s fields rule =
+    Breaks s fields rule
+    ⊎ ((found : Section) × IsSection s fields found × (has_wrong_length s.role fields found ≡ true)
+    × (rule ≡ InvalidContentLength))
 
--- a section is larger than the peer accepts, or than a frame can have
-abbrev pub IsTooLarge : Peer → List Field → Type 0
-IsTooLarge peer fields =
-    (peer.max_section < list_size fields) ⊎ (2 ^ 62 ≤ length (section_of fields))
+-- why the section, after so many interim responses, may not be sent: it asks for a session, which
+-- the peer does not support, or there are too many interim responses
+abbrev pub Hinders : Peer → ℕ → List Field → Section → SendError → Type 0
+Hinders peer k fields (found.Request request) error.Unsupported = is_unsupported peer fields ≡ true
+Hinders peer k fields (found.Interim response) error.TooManyInterim = 64 ≤ k
+Hinders peer k fields other e = ⊥
 
--- why HEADERS of a head are refused; allocation may fail
-abbrev pub RefusesHeaders : Sending → List Field → Option (List ℕ) → SendError → Type 0
-RefusesHeaders s fields room error.Unexpected = is_at_head s ≡ false
-RefusesHeaders s fields room error.TooManyInterim =
-    (64 ≤ interims_of s.place) × IsInterim s fields
-RefusesHeaders s fields room error.Unsupported = is_unsupported s.peer fields ≡ true
-RefusesHeaders s fields room (error.Malformed rule) = Breaks s fields rule
-RefusesHeaders s fields room error.TooLarge = IsTooLarge s.peer fields
-RefusesHeaders s fields room error.EndOfBuffer = LacksRoom room (length (headers_wire fields))
-RefusesHeaders s fields room error.Memory = Unit {0}
-RefusesHeaders s fields room other = ⊥
+-- the section breaks no rule, and may not be sent for this reason
+abbrev pub IsHindered : Sending → List Field → SendError → Type 0
+IsHindered s fields e =
+    (found : Section) × IsSection s fields found × (has_wrong_length s.role fields found ≡ false)
+    × Hinders s.peer (interims_of s.place) fields found e
+
+-- a head may be sent, and the peer accepts sections of this size
+abbrev pub FitsHead : Sending → List Field → Type 0
+FitsHead s fields = (is_at_head s ≡ true) × (list_size fields ≤ s.peer.max_section)
+
+-- Why a head may not be sent. Of several reasons it is the first of these: it is not the time; the
+-- section is larger than the peer accepts; it breaks a rule, of which any may be named; the peer does
+-- not support what it asks for, or there are too many interim responses.
+abbrev pub RefusesHead : Sending → List Field → SendError → Type 0
+RefusesHead s fields error.Unexpected = is_at_head s ≡ false
+RefusesHead s fields error.TooLarge =
+    (is_at_head s ≡ true) × (s.peer.max_section < list_size fields)
+RefusesHead s fields (error.Malformed rule) = FitsHead s fields × BreaksHead s fields rule
+RefusesHead s fields error.Unsupported = FitsHead s fields × IsHindered s fields error.Unsupported
+RefusesHead s fields error.TooManyInterim =
+    FitsHead s fields × IsHindered s fields error.TooManyInterim
+RefusesHead s fields other = ⊥
 
 -- why the HEADERS frame of a section that may be sent is not written; allocation may fail
 abbrev pub LacksSection : List Field → Option (List ℕ) → SendError → Type 0
@@ -157,6 +186,17 @@ LacksSection fields room error.TooLarge = 2 ^ 62 ≤ length (section_of fields)
 LacksSection fields room error.EndOfBuffer = LacksRoom room (length (headers_wire fields))
 LacksSection fields room error.Memory = Unit {0}
 LacksSection fields room other = ⊥
+
+-- Why HEADERS of a head are refused: it may not be sent, or else its frame is not written.
+abbrev pub RefusesHeaders : Sending → List Field → Option (List ℕ) → SendError → Type 0
+RefusesHeaders s fields room error.TooLarge =
+    RefusesHead s fields error.TooLarge
+    ⊎ (MayBeHead s fields × LacksSection fields room error.TooLarge)
+RefusesHeaders s fields room error.EndOfBuffer =
+    MayBeHead s fields × LacksSection fields room error.EndOfBuffer
+RefusesHeaders s fields room error.Memory =
+    MayBeHead s fields × LacksSection fields room error.Memory
+RefusesHeaders s fields room other = RefusesHead s fields other
 
 -- ---- content
 
@@ -215,28 +255,55 @@ pub record SendsTrailers (old : Sending) (fields : List Field) (new : Sending) :
   pub are : AreTrailers old fields new.message
   pub others : new ≡ record old { message = new.message; place = Trailers }
 
--- why trailers are refused, once their size is checked
-abbrev pub BreaksTrailers : Sending → List Field → SendError → Type 0
-BreaksTrailers s fields error.Unexpected = is_head_stage s.message.stage ≡ true
-BreaksTrailers s fields (error.Malformed rule) =
-    (end_of s.message.stage s.message.content.left ≡ Err rule) ⊎ Breaks s fields rule
-BreaksTrailers s fields other = ⊥
+-- trailers may be sent, and the peer accepts sections of this size
+abbrev pub FitsTrailers : Sending → List Field → Type 0
+FitsTrailers s fields =
+    (s.place ≡ Content) × (s.owed ≡ 0) × (list_size fields ≤ s.peer.max_section)
+
+-- the fields may be sent as the trailers of the message; they lead to this message
+abbrev pub LeadsToTrailers : Sending → List Field → Message → Type 0
+LeadsToTrailers s fields m = FitsTrailers s fields × AreTrailers s fields m
+
+abbrev pub MayBeTrailers : Sending → List Field → Type 0
+MayBeTrailers s fields = (m : Message) × LeadsToTrailers s fields m
 
 abbrev pub is_content : Place → Bool
 is_content Content = true
 is_content other = false
 
--- why trailers are refused; allocation may fail
+-- The message is not complete, or it is, and the section breaks this rule of trailers.
+abbrev pub BreaksTrailers : Sending → List Field → Rule → Type 0
+BreaksTrailers s fields rule =
+    (end_of s.message.stage s.message.content.left ≡ Err rule)
+    ⊎ ((end_of s.message.stage s.message.content.left ≡ Ok tt) × Breaks s fields rule)
+
+-- Why trailers may not be sent. Of several reasons it is the first of these: it is not the time;
+-- bytes of a DATA frame are missing; the section is larger than the peer accepts; a rule is broken.
+abbrev pub RefusesTail : Sending → List Field → SendError → Type 0
+RefusesTail s fields error.Unexpected = is_content s.place ≡ false
+RefusesTail s fields error.DataMissing = (s.place ≡ Content) × (0 < s.owed)
+RefusesTail s fields error.TooLarge =
+    (s.place ≡ Content) × (s.owed ≡ 0) × (s.peer.max_section < list_size fields)
+RefusesTail s fields (error.Malformed rule) = FitsTrailers s fields × BreaksTrailers s fields rule
+RefusesTail s fields other = ⊥
+
+-- Why trailers are refused: they may not be sent, or else their frame is not written.
 abbrev pub RefusesTrailers : Sending → List Field → Option (List ℕ) → SendError → Type 0
-RefusesTrailers s fields room error.Unexpected =
-    (is_content s.place && not (is_head_stage s.message.stage)) ≡ false
-RefusesTrailers s fields room error.DataMissing = 0 < s.owed
-RefusesTrailers s fields room (error.Malformed rule) =
-    (end_of s.message.stage s.message.content.left ≡ Err rule) ⊎ Breaks s fields rule
-RefusesTrailers s fields room error.TooLarge = IsTooLarge s.peer fields
-RefusesTrailers s fields room error.EndOfBuffer = LacksRoom room (length (headers_wire fields))
-RefusesTrailers s fields room error.Memory = Unit {0}
-RefusesTrailers s fields room other = ⊥
+RefusesTrailers s fields room error.TooLarge =
+    RefusesTail s fields error.TooLarge
+    ⊎ (MayBeTrailers s fields × LacksSection fields room error.TooLarge)
+RefusesTrailers s fields room error.EndOfBuffer =
+    MayBeTrailers s fields × LacksSection fields room error.EndOfBuffer
+RefusesTrailers s fields room error.Memory =
+    MayBeTrailers s fields × LacksSection fields room error.Memory
+RefusesTrailers s fields room other = RefusesTail s fields other
+
+-- ---- one reason
+
+-- the reasons are the same, whichever of several broken rules each names
+abbrev pub AreSameReason : SendError → SendError → Type 0
+AreSameReason (error.Malformed rule) (error.Malformed another) = Unit {0}
+AreSameReason e f = e ≡ f
 
 -- ---- the end
 

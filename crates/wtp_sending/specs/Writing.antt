@@ -41,11 +41,11 @@ Fails verdict grows room n EndOfBuffer = IsOk verdict × LacksRoom room n
 Fails verdict grows room n Memory = IsOk verdict × HasRoom room n × IsTrue grows
 Fails verdict grows room n other = verdict ≡ Err other
 
--- the same for a call that allocates memory of its own
+-- the same for a call that allocates memory of its own first, if it may be made
 abbrev pub FailsAllocating :
     {S : Type 0} → Result S SendError → Option (List ℕ) → ℕ → SendError → Type 0
 FailsAllocating verdict room n EndOfBuffer = IsOk verdict × LacksRoom room n
-FailsAllocating verdict room n Memory = Unit {0}
+FailsAllocating verdict room n Memory = IsOk verdict
 FailsAllocating verdict room n other = verdict ≡ Err other
 
 -- two numbers, each in its shortest encoding

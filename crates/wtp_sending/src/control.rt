@@ -14,7 +14,7 @@ use wtp_core::bytes::BytesWriter;
 use wtp_core::numbers::stream_type_ids;
 use wtp_core::varint::VarInt;
 use wtp_frames::endpoint::Side;
-use wtp_wire::frame::{FrameOwned, GenerateError};
+use wtp_wire::frame::Frame;
 use wtp_wire::settings::Settings;
 
 /// The type of a GOAWAY frame (RFC 9114, section 7.2.6).
@@ -60,9 +60,9 @@ impl ControlSending {
     ///
     /// # Errors
     ///
-    /// Nothing is written and nothing changes. [`SendError::Unexpected`] after the first call;
-    /// [`SendError::TooLarge`] if the payload has more than 4096 bytes; [`SendError::EndOfBuffer`]
-    /// and [`SendError::Memory`].
+    /// Nothing is written and nothing changes. Of several reasons the first is returned:
+    /// [`SendError::Unexpected`] after the first call; [`SendError::TooLarge`] if the payload has more
+    /// than 4096 bytes; [`SendError::Memory`]; and [`SendError::EndOfBuffer`].
     pub fn settings<W: BytesWriter>(
         &mut self,
         alloc: Global,
@@ -80,14 +80,10 @@ impl ControlSending {
         if self.settled {
             return Err(SendError::Unexpected);
         }
-        let frame = match settings.generate_frame(alloc) {
-            Ok(frame) => frame,
-            Err(GenerateError::PayloadTooLong) => return Err(SendError::TooLarge),
-            Err(GenerateError::Memory) => return Err(SendError::Memory),
-        };
-        if frame.payload().len() > MAX_SETTINGS {
+        let mut payload = [0; MAX_SETTINGS];
+        let Ok(frame) = settings.generate_frame_ref(&mut payload) else {
             return Err(SendError::TooLarge);
-        }
+        };
         let bytes = first_bytes(alloc, &frame)?;
         put_all(bytes.as_slice(), out)?;
         self.settled = true;
@@ -145,7 +141,7 @@ fn is_named(to: Side, id: VarInt) -> bool
 }
 
 /// Returns the type of the stream, and SETTINGS.
-fn first_bytes(alloc: Global, frame: &FrameOwned) -> Result<Vec<u8>, SendError>
+fn first_bytes(alloc: Global, frame: &Frame<'_>) -> Result<Vec<u8>, SendError>
     ensures { MatchResult result (λ bytes. bytes.items ≡ shortest 0x00 ++ wire frame.now)
         (λ e. e ≡ SendError.Memory) }
 {

@@ -24,7 +24,8 @@ ghost use Rattle.wtp_sending.specs.declared.message.Place.TheVariants.{Head};
 ghost use Rattle.wtp_sending.specs.declared.message.Sending.{Sending};
 ghost use Rattle.wtp_sending.specs.Control.{after_settings, goaway_bytes, after_goaway, IsControlAt, IsControlRead};
 ghost use Rattle.wtp_sending.specs.Encoded.{IsEncoded, sent_in, SendsHeadAs, SendsTrailersAs, ReadsSection};
-ghost use Rattle.wtp_sending.specs.Message.{SendsHead, SendsTrailers};
+ghost use Rattle.wtp_sending.specs.declared.error.SendError.{SendError};
+ghost use Rattle.wtp_sending.specs.Message.{SendsHead, SendsTrailers, MayBeHead, RefusesHead, MayBeTrailers, RefusesTail, AreSameReason};
 ghost use Rattle.wtp_sending.specs.Sent.{Sent, Leads, LeadsAll, IsAt, IsRead, AreRead, Takes};
 ghost use Rattle.wtp_sending.specs.Session.{uni_head, bi_head, datagram_head};
 
@@ -48,6 +49,20 @@ pub fn sent_sections_are_accepted()
         → Takes old.message fields new.message }
     ensures trailers { (old new : Sending) (fields : List Field) → SendsTrailers old fields new
         → Takes old.message fields new.message }
+{}
+
+/// A section that may not be sent has one reason, whichever broken rule it names, and one that may be sent
+/// has none: a reason is returned exactly if it is the first that holds, and those of memory and of space
+/// only if none does.
+pub fn sections_are_refused_for_one_reason()
+    ensures head { (s : Sending) (fields : List Field) (e f : SendError)
+        → RefusesHead s fields e → RefusesHead s fields f → AreSameReason e f }
+    ensures sent_head { (s : Sending) (fields : List Field) (e : SendError)
+        → MayBeHead s fields → RefusesHead s fields e → ⊥ }
+    ensures trailers { (s : Sending) (fields : List Field) (e f : SendError)
+        → RefusesTail s fields e → RefusesTail s fields f → AreSameReason e f }
+    ensures sent_trailers { (s : Sending) (fields : List Field) (e : SendError)
+        → MayBeTrailers s fields → RefusesTail s fields e → ⊥ }
 {}
 
 /// HEADERS are read by the other end as the section that was sent, whatever the section is, as one that

@@ -1,14 +1,14 @@
 //! The sending side of a message's stream (RFC 9114, sections 4.1 and 4.4).
-ghost use Rattle.std.specs.Prelude.{◌≡◌, ◌<◌, ◌^◌, Ok, Err, OnOk, OnErr, IfErr, MatchResult, length, nat_le};
+ghost use Rattle.std.specs.Prelude.{◌≡◌, ◌<◌, ◌^◌, Ok, Err, OnOk, OnErr, IfErr, MatchResult, length, nat_le, true, false};
 ghost use Rattle.wtp_qpack.specs.FieldSection.{section_of};
 ghost use Rattle.wtp_fields.specs.FieldList.{list_size};
 ghost use Rattle.wtp_messages.specs.declared.message.Role.TheVariants as role;
 ghost use Rattle.wtp_messages.specs.Names.{has_value as has_value_is};
 ghost use Rattle.wtp_sending.specs.Writing.{WritesAll, Fails};
-ghost use Rattle.wtp_sending.specs.Message.{sending_of, headers_wire, IsHead, SendsHead, RefusesHead, RefusesHeaders};
+ghost use Rattle.wtp_sending.specs.Message.{sending_of, headers_wire, LeadsToHead, MayBeHead, SendsHead, RefusesHead, RefusesHeaders, has_length_at};
 ghost use Rattle.wtp_sending.specs.Message.{after_response as after_response_is, after_request as after_request_is, is_unsupported as is_unsupported_is};
 ghost use Rattle.wtp_sending.specs.Message.{data_head, data_at, after_data, counts, after_bytes};
-ghost use Rattle.wtp_sending.specs.Message.{SendsTrailers, AreTrailers, BreaksTrailers, RefusesTrailers, LacksSection, after_end, opens, placed, Changes};
+ghost use Rattle.wtp_sending.specs.Message.{SendsTrailers, LeadsToTrailers, RefusesTail, RefusesTrailers, LacksSection, after_end, opens, placed, Changes};
 
 mod encoded;
 mod session;
@@ -24,7 +24,7 @@ use wtp_core::varint::VarInt;
 use wtp_fields::fields::{FieldList, left_after};
 use wtp_messages::malformed::Malformed;
 use wtp_messages::message::{Message, Role, Section};
-use wtp_messages::response::Asked;
+use wtp_messages::response::{Asked, Response};
 use wtp_wire::frame::{GenerateError, frame_kind_ids};
 
 /// How much of a message was sent.
@@ -101,12 +101,9 @@ impl Sending {
     ///
     /// # Errors
     ///
-    /// Nothing is written and nothing changes. [`SendError::Unexpected`] after the head of the
-    /// message; [`SendError::TooLarge`] if the section is larger than the peer accepts;
-    /// [`SendError::Malformed`] with a rule that it breaks; [`SendError::Unsupported`] if it asks
-    /// for a session that the peer does not support; [`SendError::TooManyInterim`] after 64 interim
-    /// responses, as many as `wtp_frames` reads; [`SendError::EndOfBuffer`]; and
-    /// [`SendError::Memory`].
+    /// Nothing is written and nothing changes. The error is the first of those of
+    /// [`Sending::check_headers`], if it has one. Otherwise it is [`SendError::TooLarge`] if the
+    /// section has 2^62 bytes or more, [`SendError::EndOfBuffer`], or [`SendError::Memory`].
     pub fn headers<W: BytesWriter>(
         &mut self,
         alloc: Global,
@@ -120,13 +117,7 @@ impl Sending {
             (W.room out.old) (W.written out.new) (W.room out.new) }
         ensures target { W.target out.new ≡ W.target out.old }
     {
-        let Place::Head(interims) = self.place else {
-            return Err(SendError::Unexpected);
-        };
-        if !fits(list, self.peer.max_section) {
-            return Err(SendError::TooLarge);
-        }
-        match self.head(list, interims) {
+        match self.head(list) {
             Ok((message, place)) => match put_section(alloc, list, out) {
                 Ok(()) => {
                     self.message = message;
@@ -139,28 +130,61 @@ impl Sending {
         }
     }
 
-    /// Takes the head of the message after so many interim responses. Returns the message and the
-    /// place after it.
-    fn head(&self, list: &FieldList, interims: u8) -> Result<(Message, Place), SendError>
-        ensures { MatchResult result (λ x. IsHead self.now interims list.now x.0 x.1)
-            (λ e. RefusesHead self.now interims list.now e) }
+    /// Checks that these fields may be sent by [`Sending::headers`] now, whatever memory and space
+    /// there are.
+    ///
+    /// # Errors
+    ///
+    /// Of several reasons the first is returned: [`SendError::Unexpected`] after the head of the
+    /// message; [`SendError::TooLarge`] if the section is larger than the peer accepts;
+    /// [`SendError::Malformed`] with a rule that it breaks, also that of a `content-length` that a
+    /// server must not send (RFC 9110, section 8.6); [`SendError::Unsupported`] if it asks for a
+    /// session that the peer does not support, and [`SendError::TooManyInterim`] after 64 interim
+    /// responses, as many as `wtp_frames` reads.
+    pub fn check_headers(&self, list: &FieldList) -> Result<(), SendError>
+        ensures { MatchResult result (λ u. MayBeHead self.now list.now)
+            (λ e. RefusesHead self.now list.now e) }
     {
-        let mut message = self.message;
-        match message.section(list) {
-            Ok(Section::Request(_)) => {
-                if is_unsupported(list, &self.peer) {
-                    return Err(SendError::Unsupported);
-                }
-                Ok((message, after_request(list)))
-            }
-            Ok(Section::Interim(_)) if interims < 64 => Ok((message, Place::Head(interims + 1))),
-            Ok(Section::Interim(_)) => Err(SendError::TooManyInterim),
-            Ok(Section::Response(response)) => {
-                Ok((message, after_response(self.role, response.status)))
-            }
-            Ok(Section::Trailers) => Err(SendError::Unexpected),
-            Err(rule) => Err(SendError::Malformed(rule)),
+        match self.head(list) {
+            Ok(_) => Ok(()),
+            Err(error) => Err(error),
         }
+    }
+
+    /// Takes the head of the message. Returns the message and the place after it.
+    fn head(&self, list: &FieldList) -> Result<(Message, Place), SendError>
+        ensures { MatchResult result (λ x. LeadsToHead self.now list.now x.0 x.1)
+            (λ e. RefusesHead self.now list.now e) }
+    {
+        let Place::Head(interims) = self.place else {
+            return Err(SendError::Unexpected);
+        };
+        if self.message.has_head() {
+            return Err(SendError::Unexpected);
+        }
+        if !fits(list, self.peer.max_section) {
+            return Err(SendError::TooLarge);
+        }
+        let mut message = self.message;
+        let place = match message.section(list)? {
+            Section::Request(_) if is_unsupported(list, &self.peer) => {
+                return Err(SendError::Unsupported);
+            }
+            Section::Request(_) => after_request(list),
+            Section::Interim(response) => {
+                check_sent(self.role, list, &response)?;
+                if interims > 63 {
+                    return Err(SendError::TooManyInterim);
+                }
+                Place::Head(interims + 1)
+            }
+            Section::Response(response) => {
+                check_sent(self.role, list, &response)?;
+                after_response(self.role, response.status)
+            }
+            Section::Trailers => return Err(SendError::Unexpected),
+        };
+        Ok((message, place))
     }
 
     /// Writes the head of a DATA frame with `len` bytes, which are to be sent after it:
@@ -244,11 +268,13 @@ impl Sending {
     ///
     /// # Errors
     ///
-    /// Nothing is written and nothing changes. [`SendError::Unexpected`] before the head of the
-    /// message, after its trailers, and on the stream of a CONNECT; [`SendError::DataMissing`] if
-    /// bytes of the last DATA frame are still to be sent; [`SendError::Malformed`] if there is less
-    /// content than `content-length` announced, and with a rule that the trailers break;
-    /// [`SendError::TooLarge`], [`SendError::EndOfBuffer`] and [`SendError::Memory`].
+    /// Nothing is written and nothing changes. Of several reasons the first is returned:
+    /// [`SendError::Unexpected`] before the head of the message, after its trailers, and on the
+    /// stream of a CONNECT; [`SendError::DataMissing`] if bytes of the last DATA frame are still to
+    /// be sent; [`SendError::TooLarge`] if the section is larger than the peer accepts;
+    /// [`SendError::Malformed`] if there is less content than `content-length` announced, and with a
+    /// rule that the trailers break; and then those of a frame that is not written, as in
+    /// [`Sending::headers`].
     pub fn trailers<W: BytesWriter>(
         &mut self,
         alloc: Global,
@@ -262,16 +288,7 @@ impl Sending {
             (W.room out.old) (W.written out.new) (W.room out.new) }
         ensures target { W.target out.new ≡ W.target out.old }
     {
-        let Place::Content = self.place else {
-            return Err(SendError::Unexpected);
-        };
-        if self.owed > 0 {
-            return Err(SendError::DataMissing);
-        }
-        if !fits(list, self.peer.max_section) {
-            return Err(SendError::TooLarge);
-        }
-        match self.with_trailers(list) {
+        match self.tail(list) {
             Ok(message) => match put_section(alloc, list, out) {
                 Ok(()) => {
                     self.message = message;
@@ -284,20 +301,26 @@ impl Sending {
         }
     }
 
-    /// Returns the message after its trailers.
-    fn with_trailers(&self, list: &FieldList) -> Result<Message, SendError>
-        ensures { MatchResult result (λ m. AreTrailers self.now list.now m)
-            (λ e. BreaksTrailers self.now list.now e) }
+    /// Takes the trailers. Returns the message after them.
+    fn tail(&self, list: &FieldList) -> Result<Message, SendError>
+        ensures { MatchResult result (λ m. LeadsToTrailers self.now list.now m)
+            (λ e. RefusesTail self.now list.now e) }
     {
-        if let Err(rule) = self.message.finish() {
-            return Err(SendError::Malformed(rule));
+        let Place::Content = self.place else {
+            return Err(SendError::Unexpected);
+        };
+        if self.owed > 0 {
+            return Err(SendError::DataMissing);
         }
+        if !fits(list, self.peer.max_section) {
+            return Err(SendError::TooLarge);
+        }
+        self.message.finish()?;
         let mut message = self.message;
-        match message.section(list) {
-            Ok(Section::Trailers) => Ok(message),
-            Ok(_) => Err(SendError::Unexpected),
-            Err(rule) => Err(SendError::Malformed(rule)),
-        }
+        let Section::Trailers = message.section(list)? else {
+            return Err(SendError::Unexpected);
+        };
+        Ok(message)
     }
 
     /// Ends the message: the stream is to be ended with the last bytes that were written.
@@ -365,6 +388,18 @@ fn put_section<W: BytesWriter>(
         Ok(frame) => put_frame(alloc, &frame, out),
         Err(GenerateError::Memory) => Err(SendError::Memory),
         Err(GenerateError::PayloadTooLong) => Err(SendError::TooLarge),
+    }
+}
+
+/// Checks that a response may be sent to the request with this role, as [`Response::check_sent`] does.
+fn check_sent(role: Role, list: &FieldList, response: &Response) -> Result<(), Malformed>
+    ensures { MatchResult result (λ u. has_length_at role list.now response.now.status ≡ false)
+        (λ rule. (has_length_at role list.now response.now.status ≡ true)
+        × (rule ≡ Malformed.InvalidContentLength)) }
+{
+    match role {
+        Role::Request(_) => Ok(()),
+        Role::Response(asked) => response.check_sent(list, asked),
     }
 }
 

@@ -7,6 +7,7 @@ use Rattle.wtp_messages.specs.Response.{status_of}
 use Rattle.wtp_sending.specs.declared.error.SendError.{SendError}
 use Rattle.wtp_sending.specs.declared.error.SendError.TheVariants.{Memory}
 use Rattle.wtp_sending.specs.declared.message.Sending.{Sending}
+use Rattle.wtp_sending.specs.Message.{MayBeHead}
 use Rattle.wtp_sending.specs.Encoded.{IsEncoded, IsIdle, SendsHeadAs, SendsTrailersAs, RefusesHeadersWith, RefusesTrailersWith}
 use Rattle.wtp_streams.specs.declared.h3.half.Half.{Half}
 use Rattle.wtp_streams.specs.declared.h3.half.Half.TheVariants.{Message}
@@ -88,16 +89,16 @@ pub record RequestsAs (fields : List Field) (e f : Encoder) (before after sectio
   pub others :
       new ≡ with_table (with_new_half old id (Message next)) (opens_in old.table id (asked_of fields))
 
--- why it is refused: it may not be sent, or there is no memory for its stream, and the encoder is not asked; or
--- wtp_sending refuses it
-abbrev pub RefusesRequestOr : (idle : Type 0) → (Sending → SendError → Type 0) → Result (Unit {0}) Refused → Sending
-    → Refused → Type 0
-RefusesRequestOr idle F (Err r) s e = (e ≡ r) × idle
-RefusesRequestOr idle F (Ok u) s (Send e) = F s e ⊎ ((e ≡ Memory) × idle)
-RefusesRequestOr idle F (Ok u) s other = ⊥
+-- why it is refused: it may not be sent, or wtp_sending refuses it; or nothing but memory for its stream is lacking, and the
+-- encoder is not asked
+abbrev pub RefusesRequestOr : List Field → (idle : Type 0) → (Sending → SendError → Type 0) → Result (Unit {0}) Refused
+    → Sending → Refused → Type 0
+RefusesRequestOr fields idle F (Err r) s e = (e ≡ r) × idle
+RefusesRequestOr fields idle F (Ok u) s (Send e) = F s e ⊎ ((e ≡ Memory) × MayBeHead s fields × idle)
+RefusesRequestOr fields idle F (Ok u) s other = ⊥
 
 abbrev pub RefusesRequestAs : List Field → (e f : Encoder) → (before after : List ℕ) → Option (List ℕ) → Ends → ℕ
     → Refused → Type 0
 RefusesRequestAs fields e f before after room old id r =
-    RefusesRequestOr (IsIdle e f before after) (λ s y. RefusesHeadersWith s fields e f before after room y)
+    RefusesRequestOr fields (IsIdle e f before after) (λ s y. RefusesHeadersWith s fields e f before after room y)
     (may_request old id fields) (request_at old id) r

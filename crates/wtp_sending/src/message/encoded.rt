@@ -3,7 +3,7 @@ ghost use Rattle.std.specs.Prelude.{◌≡◌, ℕ, List, [], ◌<◌, ◌≤◌
 ghost use Rattle.wtp_sending.specs.Writing.{WritesAll};
 ghost use Rattle.wtp_sending.specs.Encoded.{done, section_wire, AreProposals, IsEncoded, LacksEncoded, LacksFrame, SendsHeadAs, RefusesHeadersWith, SendsTrailersAs, RefusesTrailersWith};
 
-use super::{Place, Sending, fits};
+use super::{Place, Sending};
 use crate::error::SendError;
 use crate::indexing::indexing_of;
 use crate::write::put_frame;
@@ -25,12 +25,10 @@ impl Sending {
     ///
     /// # Errors
     ///
-    /// Nothing is written, and the state and the sections that are not acknowledged stay.
-    /// [`SendError::Unexpected`], [`SendError::TooManyInterim`], [`SendError::Unsupported`],
-    /// [`SendError::Malformed`], and [`SendError::TooLarge`] if the list is larger than the peer
-    /// accepts, as of [`Sending::headers`]: then nothing is inserted. [`SendError::TooLarge`] if the
-    /// section has 2^62 bytes or more; [`SendError::EndOfBuffer`]; and [`SendError::Memory`]. Then
-    /// entries may have been inserted, and the call can be made again.
+    /// Nothing is written, and the state and the sections that are not acknowledged stay. The error
+    /// is that of [`Sending::check_headers`], if it has one: then nothing is inserted. Otherwise it is
+    /// [`SendError::TooLarge`] if the section has 2^62 bytes or more, [`SendError::EndOfBuffer`], or
+    /// [`SendError::Memory`]. Then entries may have been inserted, and the call can be made again.
     pub fn headers_with<W: BytesWriter>(
         &mut self,
         alloc: Global,
@@ -52,13 +50,7 @@ impl Sending {
             × (W.room out.new ≡ W.room out.old)) }
         ensures target { W.target out.new ≡ W.target out.old }
     {
-        let Place::Head(interims) = self.place else {
-            return Err(SendError::Unexpected);
-        };
-        if !fits(list, self.peer.max_section) {
-            return Err(SendError::TooLarge);
-        }
-        match self.head(list, interims) {
+        match self.head(list) {
             Ok((message, place)) => {
                 match put_encoded(alloc, self.id, list, encoder, instructions, out) {
                     Ok(()) => {
@@ -105,16 +97,7 @@ impl Sending {
             × (W.room out.new ≡ W.room out.old)) }
         ensures target { W.target out.new ≡ W.target out.old }
     {
-        let Place::Content = self.place else {
-            return Err(SendError::Unexpected);
-        };
-        if self.owed > 0 {
-            return Err(SendError::DataMissing);
-        }
-        if !fits(list, self.peer.max_section) {
-            return Err(SendError::TooLarge);
-        }
-        match self.with_trailers(list) {
+        match self.tail(list) {
             Ok(message) => match put_encoded(alloc, self.id, list, encoder, instructions, out) {
                 Ok(()) => {
                     self.message = message;

@@ -121,9 +121,9 @@ impl Sending {
     ///
     /// # Errors
     ///
-    /// Nothing is written and nothing changes. [`SendError::Unexpected`] if the session is not
-    /// open; [`SendError::TooLarge`] if the reason has more than 1024 bytes;
-    /// [`SendError::EndOfBuffer`] and [`SendError::Memory`].
+    /// Nothing is written and nothing changes. Of several reasons the first is returned:
+    /// [`SendError::Unexpected`] if the session is not open; [`SendError::TooLarge`] if the reason
+    /// has more than 1024 bytes; [`SendError::Memory`]; and [`SendError::EndOfBuffer`].
     pub fn close<W: BytesWriter>(
         &mut self,
         alloc: Global,
@@ -154,7 +154,8 @@ impl Sending {
 fn close_capsule(alloc: Global, code: u32, reason: &str) -> Result<Vec<u8>, SendError>
     ensures { MatchResult result
         (λ bytes. (bytes.items ≡ close_wire (code, reason.now)) × (length reason.now ≤ 1024))
-        (λ e. (e ≡ SendError.Memory) ⊎ ((e ≡ SendError.TooLarge) × (1024 < length reason.now))) }
+        (λ e. ((e ≡ SendError.Memory) × (length reason.now ≤ 1024))
+        ⊎ ((e ≡ SendError.TooLarge) × (1024 < length reason.now))) }
 {
     let close = match CloseWebTransportSession::new(alloc, code, reason) {
         Ok(close) => close,

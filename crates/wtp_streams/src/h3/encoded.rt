@@ -6,7 +6,7 @@ ghost use Rattle.wtp_streams.specs.Encoded.{RespondsAs, RefusesRespond, TrailsAs
 ghost use Rattle.wtp_streams.specs.Ends.{ends_of};
 
 use crate::h3::H3Connection;
-use crate::h3::half::{Half, session_id, status_of};
+use crate::h3::half::{Half, session_id, status_of, without_memory};
 use crate::h3::refused::Refused;
 use std::collections::btree_map::Entry;
 use wtp_core::bytes::BytesWriter;
@@ -57,7 +57,7 @@ impl H3Connection {
         };
         let mut sending = Sending::request(session, self.streams.peer());
         match self.halves.entry(id) {
-            Err(_) => Err(Refused::Send(SendError::Memory)),
+            Err(_) => Err(Refused::Send(without_memory(&sending, list))),
             Ok(entry) => match entry {
                 Entry::Occupied(_) => Err(Refused::StreamExists),
                 Entry::Vacant(place) => match self.streams.request_with(

@@ -1,8 +1,8 @@
 //! The own half of a stream with a message.
-ghost use Rattle.std.specs.Prelude.{◌≡◌, OnOk, OnErr, IfErr, MatchOption, length, false, true};
+ghost use Rattle.std.specs.Prelude.{◌≡◌, ◌⊎◌, OnOk, OnErr, IfErr, MatchOption, length, false, true};
 ghost use Rattle.wtp_messages.specs.Names.{has_value as has_value_is};
 ghost use Rattle.wtp_messages.specs.Response.{status_of as status_of_is};
-ghost use Rattle.wtp_sending.specs.Message.{data_head, headers_wire, after_data, after_bytes, after_end, RefusesHeaders, RefusesTrailers};
+ghost use Rattle.wtp_sending.specs.Message.{data_head, headers_wire, after_data, after_bytes, after_end, MayBeHead, RefusesHead, RefusesHeaders, RefusesTrailers};
 ghost use Rattle.wtp_sending.specs.Sent.{SentDataHead, SentTrailers, SentClose};
 ghost use Rattle.wtp_sending.specs.Session.{in_session, datagram_head, drain_wire, close_data, after_close};
 ghost use Rattle.wtp_sending.specs.Writing.{WritesAll, Fails, FailsAllocating};
@@ -284,5 +284,17 @@ pub(crate) fn status_of(list: &FieldList) -> Option<u32>
     match list.first(b":status") {
         Some(text) => three_digits(text),
         None => None,
+    }
+}
+
+// Returns why HEADERS are not sent where there is no memory for their stream: they may not be sent, or else
+// memory is lacking.
+pub(crate) fn without_memory(sending: &Sending, list: &FieldList) -> SendError
+    ensures { RefusesHead sending.now list.now result
+        ⊎ ((result ≡ SendError.Memory) × MayBeHead sending.now list.now) }
+{
+    match sending.check_headers(list) {
+        Ok(()) => SendError::Memory,
+        Err(error) => error,
     }
 }

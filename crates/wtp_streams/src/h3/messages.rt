@@ -7,7 +7,7 @@ ghost use Rattle.wtp_streams.specs.Ends.{ends_of, peer_in};
 ghost use Rattle.wtp_streams.specs.Sends.{Sends, Responds, Requests, Finishes, Refuses, HalfSends, HalfRefuses, HalfChanges, RefusesBy, RefusesRequest, response_in, request_at, may_request as may_request_is, has_stream as has_stream_is, answered_with, after_half};
 
 use crate::h3::H3Connection;
-use crate::h3::half::{Half, session_id, status_of};
+use crate::h3::half::{Half, session_id, status_of, without_memory};
 use crate::h3::refused::Refused;
 use std::collections::btree_map::Entry;
 use wtp_core::bytes::BytesWriter;
@@ -50,7 +50,7 @@ impl H3Connection {
         };
         let mut sending = Sending::request(session, self.streams.peer());
         match self.halves.entry(id) {
-            Err(_) => Err(Refused::Send(SendError::Memory)),
+            Err(_) => Err(Refused::Send(without_memory(&sending, list))),
             Ok(entry) => match entry {
                 Entry::Occupied(_) => Err(Refused::StreamExists),
                 Entry::Vacant(place) => match self

@@ -55,16 +55,19 @@ impl H3Connection {
         match half {
             Half::Idle => Err(Refused::NoStream),
             Half::Asked(_) => Err(Refused::Send(SendError::Unexpected)),
-            Half::Message(sending) => match self.opened.entry(id) {
-                Err(_) => Err(Refused::Send(SendError::Memory)),
-                Ok(entry) => match entry {
-                    Entry::Occupied(_) => Err(Refused::StreamExists),
-                    Entry::Vacant(place) => match sending.unidirectional(out) {
-                        Ok(()) => {
-                            place.insert(session);
-                            Ok(())
-                        }
-                        Err(error) => Err(Refused::Send(error)),
+            Half::Message(sending) => match sending.check_session() {
+                Err(error) => Err(Refused::Send(error)),
+                Ok(()) => match self.opened.entry(id) {
+                    Err(_) => Err(Refused::Send(SendError::Memory)),
+                    Ok(entry) => match entry {
+                        Entry::Occupied(_) => Err(Refused::StreamExists),
+                        Entry::Vacant(place) => match sending.unidirectional(out) {
+                            Ok(()) => {
+                                place.insert(session);
+                                Ok(())
+                            }
+                            Err(error) => Err(Refused::Send(error)),
+                        },
                     },
                 },
             },

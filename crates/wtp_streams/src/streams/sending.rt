@@ -1,7 +1,7 @@
 //! What the own halves of streams need: what the peer allows, and streams that are opened with their first
 //! bytes.
 ghost use Rattle.std.specs.Prelude.{◌≡◌, ◌⊎◌, ℕ, List, Ok, OnOk, OnErr, IfErr, None, is_some, length};
-ghost use Rattle.wtp_sending.specs.Message.{headers_wire, SendsHead, RefusesHeaders};
+ghost use Rattle.wtp_sending.specs.Message.{headers_wire, MayBeHead, SendsHead, RefusesHeaders};
 ghost use Rattle.wtp_sending.specs.Encoded.{done, section_wire, IsIdle, RefusesHeadersWith};
 ghost use Rattle.wtp_sending.specs.declared.error.SendError.TheVariants as SendError;
 ghost use Rattle.wtp_sending.specs.Session.{in_session, bi_head};
@@ -13,7 +13,7 @@ ghost use Rattle.wtp_streams.specs.Sends.{is_leaving as is_leaving_is, may_exten
 ghost use Rattle.wtp_streams.specs.Table.{table_of, entry_at, known_in, has_ended as has_ended_is};
 
 use crate::entry::Entry as Kept;
-use crate::h3::half::{asked_of, is_extended};
+use crate::h3::half::{asked_of, is_extended, without_memory};
 use crate::h3::refused::Refused;
 use crate::streams::Streams;
 use crate::streams::sessions::has_ended;
@@ -135,9 +135,9 @@ impl Streams {
         let stream = self.connection.open(asked);
         let stays = matches!(asked, Asked::Session);
         match self.table.entry(id) {
-            Err(_) => Err(SendError::Memory),
+            Err(_) => Err(without_memory(sending, list)),
             Ok(entry) => match entry {
-                Entry::Occupied(_) => Err(SendError::Memory),
+                Entry::Occupied(_) => Err(without_memory(sending, list)),
                 Entry::Vacant(place) => match sending.headers(alloc, list, out) {
                     Ok(()) => {
                         place.insert(Kept::new(stream, None, stays));
@@ -170,8 +170,8 @@ impl Streams {
         ensures opened { OnOk result (table_of self.new ≡ opens_in (table_of self.old) id (asked_of_is list.now)) }
         ensures refused { IfErr result (λ e. RefusesHeadersWith sending.old list.now encoder.old encoder.new
             instructions.old.items instructions.new.items (W.room out.old) e
-            ⊎ ((e ≡ SendError.Memory) × IsIdle encoder.old encoder.new instructions.old.items
-            instructions.new.items)) }
+            ⊎ ((e ≡ SendError.Memory) × MayBeHead sending.old list.now
+            × IsIdle encoder.old encoder.new instructions.old.items instructions.new.items)) }
         ensures kept { OnErr result (table_of self.new ≡ table_of self.old) }
         ensures unwritten { OnErr result ((W.written out.new ≡ W.written out.old)
             × (W.room out.new ≡ W.room out.old)) }
@@ -181,9 +181,9 @@ impl Streams {
         let stream = self.connection.open(asked);
         let stays = matches!(asked, Asked::Session);
         match self.table.entry(id) {
-            Err(_) => Err(SendError::Memory),
+            Err(_) => Err(without_memory(sending, list)),
             Ok(entry) => match entry {
-                Entry::Occupied(_) => Err(SendError::Memory),
+                Entry::Occupied(_) => Err(without_memory(sending, list)),
                 Entry::Vacant(place) => {
                     match sending.headers_with(alloc, list, encoder, instructions, out) {
                         Ok(()) => {
@@ -216,6 +216,7 @@ impl Streams {
             (W.written out.new) (W.room out.new) }
         ensures target { W.target out.new ≡ W.target out.old }
     {
+        sending.check_session()?;
         match self.table.entry(id) {
             Err(_) => Err(SendError::Memory),
             Ok(entry) => match entry {
