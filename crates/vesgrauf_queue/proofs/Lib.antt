@@ -1,0 +1,11 @@
+pub mod LayoutLemmas
+pub mod BlockLemmas
+pub mod PieceLemmas
+pub mod FreeLemmas
+pub mod ReuseLemmas
+pub mod CutLemmas
+pub mod QueueLemmas
+pub mod RunLemmas
+pub mod EndLemmas
+pub mod ResetLemmas
+pub mod KeptLemmas
