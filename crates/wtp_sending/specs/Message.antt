@@ -6,7 +6,7 @@ use Rattle.wtp_core.specs.Writer.{LacksRoom}
 use Rattle.wtp_wire.specs.Content.{HeadersOf}
 use Rattle.wtp_wire.specs.Wire.{wire}
 use Rattle.wtp_qpack.specs.Field.{Field}
-use Rattle.wtp_qpack.specs.FieldSection.{section_of}
+use Rattle.wtp_qpack.specs.FieldSection.{shortest_section}
 use Rattle.wtp_fields.specs.FieldList.{list_size}
 use Rattle.wtp_messages.specs.declared.malformed.Malformed.TheVariants.{ContentTooLong, MissingHead}
 use Rattle.wtp_messages.specs.declared.message.Message.{Message}
@@ -49,7 +49,7 @@ sending_of id r peer = record {
 
 -- the HEADERS frame of these fields
 abbrev pub headers_wire : List Field → List ℕ
-headers_wire fields = wire (HeadersOf (section_of fields))
+headers_wire fields = wire (HeadersOf (shortest_section fields))
 
 -- the head is still to be sent
 abbrev pub is_head : Place → Bool
@@ -112,7 +112,7 @@ pub record IsHead (s : Sending) (k : ℕ) (fields : List Field) (m : Message) (p
 pub record SendsHead (old : Sending) (fields : List Field) (new : Sending) : Type 0 where
   pub at : old.place ≡ Head (interims_of old.place)
   pub fits : list_size fields ≤ old.peer.max_section
-  pub framed : length (section_of fields) < 2 ^ 62
+  pub framed : length (shortest_section fields) < 2 ^ 62
   pub head : IsHead old (interims_of old.place) fields new.message new.place
   pub others : new ≡ record old { message = new.message; place = new.place }
 
@@ -137,7 +137,7 @@ RefusesHead s k fields other = ⊥
 -- a section is larger than the peer accepts, or than a frame can have
 abbrev pub IsTooLarge : Peer → List Field → Type 0
 IsTooLarge peer fields =
-    (peer.max_section < list_size fields) ⊎ (2 ^ 62 ≤ length (section_of fields))
+    (peer.max_section < list_size fields) ⊎ (2 ^ 62 ≤ length (shortest_section fields))
 
 -- why HEADERS of a head are refused; allocation may fail
 abbrev pub RefusesHeaders : Sending → List Field → Option (List ℕ) → SendError → Type 0
@@ -153,7 +153,7 @@ RefusesHeaders s fields room other = ⊥
 
 -- why the HEADERS frame of a section that may be sent is not written; allocation may fail
 abbrev pub LacksSection : List Field → Option (List ℕ) → SendError → Type 0
-LacksSection fields room error.TooLarge = 2 ^ 62 ≤ length (section_of fields)
+LacksSection fields room error.TooLarge = 2 ^ 62 ≤ length (shortest_section fields)
 LacksSection fields room error.EndOfBuffer = LacksRoom room (length (headers_wire fields))
 LacksSection fields room error.Memory = Unit {0}
 LacksSection fields room other = ⊥
@@ -211,7 +211,7 @@ pub record SendsTrailers (old : Sending) (fields : List Field) (new : Sending) :
   pub at : old.place ≡ Content
   pub none : old.owed ≡ 0
   pub fits : list_size fields ≤ old.peer.max_section
-  pub framed : length (section_of fields) < 2 ^ 62
+  pub framed : length (shortest_section fields) < 2 ^ 62
   pub are : AreTrailers old fields new.message
   pub others : new ≡ record old { message = new.message; place = Trailers }
 
