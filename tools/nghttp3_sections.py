@@ -1,5 +1,5 @@
-"""Field sections without a dynamic table, read by nghttp3 (Debian's libnghttp3-dev), which shares
-no code with the programs."""
+"""Field sections without a dynamic table, read and written by nghttp3 (Debian's libnghttp3-dev),
+which shares no code with the programs."""
 
 import ctypes
 import functools
@@ -18,8 +18,29 @@ class Line(ctypes.Structure):
     ]
 
 
+class Pair(ctypes.Structure):
+    _fields_ = [
+        ("name", ctypes.c_char_p),
+        ("value", ctypes.c_char_p),
+        ("name_len", ctypes.c_size_t),
+        ("value_len", ctypes.c_size_t),
+        ("flags", ctypes.c_uint8),
+    ]
+
+
+class Room(ctypes.Structure):
+    _fields_ = [(name, ctypes.c_void_p) for name in ("begin", "end", "pos", "last")]
+
+    def content(self):
+        """Returns the bytes that were written."""
+        count = (self.last or 0) - (self.pos or 0)
+        return ctypes.string_at(self.pos, count) if count else b""
+
+
 # What nghttp3_qpack_decoder_read_request says of what it read.
 EMIT, FINAL = 1, 2
+# What nghttp3_qpack_encoder_encode is told of a field.
+NEVER_INDEX = 1
 
 
 @functools.cache
@@ -38,11 +59,17 @@ def library():
         *(pointer, pointer, pointer, pointer),
         *(ctypes.c_char_p, ctypes.c_size_t, ctypes.c_int),
     ]
+    lib.nghttp3_qpack_encoder_new.argtypes = [pointer, ctypes.c_size_t, pointer]
+    lib.nghttp3_qpack_encoder_encode.argtypes = [
+        *(pointer, pointer, pointer, pointer),
+        *(ctypes.c_int64, pointer, ctypes.c_size_t),
+    ]
+    lib.nghttp3_buf_free.argtypes = [pointer, pointer]
     lib.nghttp3_rcbuf_get_buf.restype = Buffer
     lib.nghttp3_rcbuf_get_buf.argtypes = [pointer]
     lib.nghttp3_rcbuf_decref.argtypes = [pointer]
-    for name in ("nghttp3_qpack_decoder_del", "nghttp3_qpack_stream_context_del"):
-        getattr(lib, name).argtypes = [pointer]
+    for name in ("decoder_del", "encoder_del", "stream_context_del"):
+        getattr(lib, f"nghttp3_qpack_{name}").argtypes = [pointer]
     return lib
 
 
@@ -87,3 +114,26 @@ def read_lines(decoder, context, section):
             return fields
         if count == 0 and not flags.value & EMIT:
             return None
+
+
+def section_of(fields, is_never):
+    """Returns the section of fields, of which it is told which are never indexed."""
+    lib = library()
+    memory = lib.nghttp3_mem_default()
+    encoder, rooms = ctypes.c_void_p(), [Room() for _ in range(3)]
+    pairs = (Pair * len(fields))(
+        *(
+            Pair(name, value, len(name), len(value), NEVER_INDEX if is_never(name, value) else 0)
+            for name, value in fields
+        )
+    )
+    lib.nghttp3_qpack_encoder_new(ctypes.byref(encoder), 0, memory)
+    places = [ctypes.byref(room) for room in rooms]
+    fault = lib.nghttp3_qpack_encoder_encode(encoder, *places, 0, pairs, len(fields))
+    prefix, lines, instructions = (room.content() for room in rooms)
+    for place in places:
+        lib.nghttp3_buf_free(place, memory)
+    lib.nghttp3_qpack_encoder_del(encoder)
+    if fault or instructions:
+        raise SystemExit(f"nghttp3 answers {fault}, with {len(instructions)} bytes of instructions")
+    return prefix + lines

@@ -107,9 +107,10 @@ type FieldList []Field
 // do. The error is QPACKDecompressionFailed or [ErrMemory].
 func DecodeFields(section []byte) (FieldList, error) { return cFieldsRead(section) }
 
-// Append appends the field section of the list: each text in the Huffman code if that is shorter. That a message may
-// have these fields is for the caller to check: a [Sending] does so. The error is [ErrInvalid] if a name or a value is
-// not UTF-8, and [ErrMemory].
+// Append appends the field section of the list, in as few bytes as is possible with the static table only. Fields whose
+// values an attacker could guess, as authorization and short cookies, are never indexed. That a message may have these
+// fields is for the caller to check: a [Sending] does so. The error is [ErrInvalid] if a name or a value is not UTF-8,
+// and [ErrMemory].
 func (list FieldList) Append(out []byte) ([]byte, error) { return cFieldsWrite(out, list) }
 
 // First returns the first value of a name, and whether there is one.

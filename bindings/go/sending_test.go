@@ -61,7 +61,7 @@ var (
 const (
 	sessionLines = ":method CONNECT\n:scheme https\n:authority a\n:path /\n:protocol webtransport"
 	// the bytes of the responses 200 and 103
-	acceptBytes = "\x01\x07\x00\x00\x5f\x09\x82\x10\x01"
+	acceptBytes = "\x01\x03\x00\x00\xd9"
 	hintBytes   = "\x01\x03\x00\x00\xd8"
 )
 
@@ -113,7 +113,7 @@ func TestSendingResponse(t *testing.T) {
 		sendRow{data(3), "", SendUnexpected},
 		sendRow{sniff, "", SendUnexpected},
 		sendRow{finish, "", RuleMissingHead},
-		sendRow{headers(":status 200\ncontent-length 5"), "\x01\x0a\x00\x00\x5f\x09\x82\x10\x01\x54\x015", nil},
+		sendRow{headers(":status 200\ncontent-length 5"), "\x01\x06\x00\x00\xd9\x54\x015", nil},
 		sendRow{accepts, "", SendUnexpected},
 		sendRow{data(0), "", SendEmptyData},
 		sendRow{data(1 << 62), "", SendTooLarge},
@@ -238,11 +238,11 @@ func TestSendingByTheSettingsOfThePeer(t *testing.T) {
 	// sections of 167 bytes; then each setting has its default, and then extended CONNECT without sessions
 	sendRows(t, requestOn(t, clientAfter(t, "\x03\x06\x40\xa7"), 4),
 		sendRow{getOfAB, "", SendTooLarge},
-		sendRow{get, "\x01\x13\x00\x00\x5f\x00\x03GET\x5f\x07\x84\x9d\x29\xad\x1f\x50\x01a\xc1", nil},
+		sendRow{get, "\x01\x08\x00\x00\xd1\xd7\x50\x01a\xc1", nil},
 		sendRow{trailers("a " + strings.Repeat("1", 140)), "", SendTooLarge},
 	)
 	sendRows(t, requestOn(t, newClient(t), 0),
-		sendRow{getOfAB, "\x01\x14\x00\x00\x5f\x00\x03GET\x5f\x07\x84\x9d\x29\xad\x1f\x50\x02ab\xc1", nil},
+		sendRow{getOfAB, "\x01\x09\x00\x00\xd1\xd7\x50\x02ab\xc1", nil},
 		sendRow{headers(sessionLines), "", SendUnexpected},
 	)
 	sendRows(t, requestOn(t, clientAfter(t, "\x02\x08\x01"), 4), sendRow{headers(sessionLines), "", SendUnsupported})
@@ -274,7 +274,7 @@ func TestSendingSessions(t *testing.T) {
 	sendRows(t, s, closedRows...)
 	sendRows(t, s, sendRow{finish, "", SendUnexpected})
 	s = responseOn(t, server, 4, AskedSession)
-	sendRows(t, s, sendRow{headers(":status 404"), "\x01\x08\x00\x00\x5f\x09\x03404", nil})
+	sendRows(t, s, sendRow{headers(":status 404"), "\x01\x03\x00\x00\xdb", nil})
 	sendRows(t, s, closedRows...)
 	sendRows(t, s, sendRow{data(1), "\x00\x01", nil})
 	sendRows(t, responseOn(t, server, 1<<62-4, AskedSession), // an ID of eight bytes

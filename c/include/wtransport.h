@@ -287,8 +287,9 @@ typedef struct wt_field {
 int wt_fields_read(const uint8_t *section, size_t length, wt_field *fields, size_t fields_room,
                    uint8_t *texts, size_t texts_room, size_t *count, size_t *used, uint64_t *error_code);
 
-/* Writes a field section: the fields in their order, each text in the Huffman code if that is shorter.
-   Names and values are written as they are, pseudo-header fields too: that they are allowed in a message
+/* Writes a field section: the fields in their order, in as few bytes as is possible with the static table
+   only. Those whose values an attacker could guess, as authorization and short cookies, are never indexed
+   (RFC 9204, section 7.1.3). Names and values are written as they are, pseudo-header fields too: that they are allowed in a message
    (RFC 9114, sections 4.2 and 4.3) is for the caller to check. It allocates.
    WT_OK, WT_BUFFER_TOO_SMALL: as above. WT_INVALID: a field is not within the texts or is not UTF-8. WT_MEMORY. */
 int wt_fields_write(const wt_field *fields, size_t count, const uint8_t *texts, size_t texts_length,

@@ -1,5 +1,6 @@
 /* Field sections beside nghttp3: of random lists of fields, what either encodes the other decodes to
-   the same lines in the same order. Argument: how many lists (default: 1000000 each way). */
+   the same lines in the same order, and ours is no longer. Argument: how many lists (default: 1000000
+   each way). */
 #include "sections.h"
 #include <stdio.h>
 #include <stdlib.h>
@@ -104,11 +105,15 @@ static void compare(nghttp3_vec name, nghttp3_vec value, void *data) {
   if (!same(name.base, name.len, value.base, value.len, with->lines++)) with->good = 0;
 }
 
+/* Theirs is no shorter, and the same bytes if it is as long: it is longer by a literal of a field that
+   is never indexed, where we have the index of an entry. */
 static int they_read(void) {
-  static uint8_t section[2 * TEXTS];
+  static uint8_t section[2 * TEXTS], theirs[2 * TEXTS];
   size_t used;
   comparison with = {0, 1};
+  int64_t most = write_section(pairs, count, theirs, sizeof theirs);
   if (wt_fields_write(fields, count, texts, size, section, sizeof section, &used) != WT_OK) return 0;
+  if (most < (int64_t)used || (most == (int64_t)used && memcmp(section, theirs, used) != 0)) return 0;
   return read_section(section, used, compare, &with) == (int64_t)count && with.good;
 }
 

@@ -71,6 +71,18 @@ static const char written[] =
     "\x2f\x01\x25\xa8\x49\xe9\x5b\xa9\x7d\x7f"
     "\x89\x25\xa8\x49\xe9\x5b\xb8\xe8\xb4\xbf";
 
+/* entries 25 and 23; the name of entry 84 and a value, with the bit N; entry 84 */
+static const char indexed[] = "\x00\x00\xd9\xd7\x7f\x45\x01" "a\xff\x15";
+
+static void test_entries(void) {
+  static const char texts[] = ":status200:schemehttpsauthorizationa";
+  static const wt_field fields[] = {{0, 7, 7, 3}, {10, 7, 17, 5}, {22, 13, 35, 1}, {22, 13, 36, 0}};
+  uint8_t out[32];
+  size_t size = sizeof indexed - 1, used = UNCHANGED;
+  CHECK(wt_fields_write(fields, 4, (const uint8_t *)texts, sizeof texts - 1, out, sizeof out, &used) == WT_OK);
+  CHECK(used == size && memcmp(out, indexed, size) == 0);
+}
+
 static void test_write(void) {
   static const char texts[] = ":methodCONNECT:authoritywww.example.comcustom-keycustom-value\xff";
   static const wt_field fields[] = {{0, 7, 7, 7}, {14, 10, 24, 15}, {39, 10, 49, 12}};
@@ -97,6 +109,7 @@ static void test_write(void) {
 void test_fields(void) {
   test_read();
   test_write();
+  test_entries();
   faulty("", 0);
   faulty("\x00", 1);
   faulty("\x00\x00\x80", 3);     /* an entry of the dynamic table */

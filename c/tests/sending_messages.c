@@ -36,7 +36,7 @@ static void whole(void) {
   refuses(&three, &s, WT_SEND_UNEXPECTED);
   refuses(&sniff, &s, WT_SEND_UNEXPECTED);
   refuses_end(&s, WT_RULE_MISSING_HEAD);
-  writes(&five, &s, "\x01\x0a\x00\x00\x5f\x09\x82\x10\x01\x54\x01" "5", 12);
+  writes(&five, &s, "\x01\x06\x00\x00\xd9\x54\x01" "5", 8);
   refuses(&ok, &s, WT_SEND_UNEXPECTED);
   refuses(&none, &s, WT_SEND_EMPTY_DATA);
   refuses(&huge, &s, WT_SEND_TOO_LARGE);
@@ -72,7 +72,7 @@ static void interim(void) {
   int i;
   for (i = 0; i < 64; i++) writes(&hints, &s, "\x01\x03\x00\x00\xd8", 5);
   refuses(&hints, &s, WT_SEND_TOO_MANY_INTERIM);
-  writes(&ok, &s, "\x01\x07\x00\x00\x5f\x09\x82\x10\x01", 9);
+  writes(&ok, &s, "\x01\x03\x00\x00\xd9", 5);
   refuses(&three, &s, WT_RULE_CONTENT_TOO_LONG);
   ends(&s);
 }
@@ -95,7 +95,7 @@ static void tunnel(void) {
   refuses(&sniff, &s, WT_SEND_UNEXPECTED);
   ends(&s);
   s = response_on(&d, 8, WT_ASKED_CONNECT);
-  writes(&ok, &s, "\x01\x07\x00\x00\x5f\x09\x82\x10\x01", 9);
+  writes(&ok, &s, "\x01\x03\x00\x00\xd9", 5);
   refuses(&sniff, &s, WT_SEND_UNEXPECTED);
   writes(&three, &s, "\x00\x03", 2);
 }
@@ -174,11 +174,9 @@ static void allowed(void) {
   configure(&c, 3, small, sizeof small);
   s = request_on(&c, 4);
   refuses(&more, &s, WT_SEND_TOO_LARGE);
-  writes(&fits, &s, "\x01\x13\x00\x00\x5f\x00\x03" "GET"
-         "\x5f\x07\x84\x9d\x29\xad\x1f\x50\x01" "a\xc1", 21);
+  writes(&fits, &s, "\x01\x08\x00\x00\xd1\xd7\x50\x01" "a\xc1", 10);
   refuses(&large, &s, WT_SEND_TOO_LARGE);
-  writes(&more, &before, "\x01\x14\x00\x00\x5f\x00\x03" "GET"
-         "\x5f\x07\x84\x9d\x29\xad\x1f\x50\x02" "ab\xc1", 22);
+  writes(&more, &before, "\x01\x09\x00\x00\xd1\xd7\x50\x02" "ab\xc1", 11);
   refuses(&session, &before, WT_SEND_UNEXPECTED);
   configure(&d, 3, extended, sizeof extended);
   s = request_on(&d, 4);

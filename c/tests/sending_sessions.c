@@ -40,15 +40,15 @@ static void server(void) {
   is_closed(&s);
   writes(&hints, &s, "\x01\x03\x00\x00\xd8", 5);
   is_closed(&s);
-  writes(&ok, &s, "\x01\x07\x00\x00\x5f\x09\x82\x10\x01", 9);
+  writes(&ok, &s, "\x01\x03\x00\x00\xd9", 5);
   CHECK(wt_sending_connected(&s, &why) == WT_REFUSED && why == WT_SEND_UNEXPECTED);
   is_open(&s);
   s = response_on(&c, 4, WT_ASKED_SESSION);
-  writes(&no, &s, "\x01\x08\x00\x00\x5f\x09\x03" "404", 10);
+  writes(&no, &s, "\x01\x03\x00\x00\xdb", 5);
   is_closed(&s);
   writes(&content, &s, "\x00\x01", 2);
   s = response_on(&c, (UINT64_C(1) << 62) - 4, WT_ASKED_SESSION);
-  writes(&ok, &s, "\x01\x07\x00\x00\x5f\x09\x82\x10\x01", 9);
+  writes(&ok, &s, "\x01\x03\x00\x00\xd9", 5);
   writes(&uni, &s, "\x40\x54\xff\xff\xff\xff\xff\xff\xff\xfc", 10);
   writes(&bi, &s, "\x40\x41\xff\xff\xff\xff\xff\xff\xff\xfc", 10);
   writes(&datagram, &s, "\xcf\xff\xff\xff\xff\xff\xff\xff", 8);
@@ -90,7 +90,7 @@ static void reasons(void) {
   size_t used = UNCHANGED;
   uint32_t why = UNCHANGED;
   memset(reason, 'a', sizeof reason);
-  writes(&ok, &s, "\x01\x07\x00\x00\x5f\x09\x82\x10\x01", 9);
+  writes(&ok, &s, "\x01\x03\x00\x00\xd9", 5);
   same = s;
   CHECK(wt_sending_close(&s, 0, reason, 1025, out, sizeof out, &used, &why) == WT_REFUSED);
   CHECK(why == WT_SEND_TOO_LARGE && used == UNCHANGED);

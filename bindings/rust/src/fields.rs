@@ -76,8 +76,10 @@ impl FieldList {
         }
     }
 
-    /// Appends the field section of the list: each text in the Huffman code if that is shorter. That a
-    /// message may have these fields is for the caller to check: a [`Sending`](crate::Sending) does so.
+    /// Appends the field section of the list, in as few bytes as is possible with the static table only.
+    /// Fields whose values an attacker could guess, as `authorization` and short cookies, are never indexed.
+    /// That a message may have these fields is for the caller to check: a [`Sending`](crate::Sending) does
+    /// so.
     ///
     /// # Errors
     ///

@@ -109,7 +109,7 @@ fn response(connection: &Connection, id: u64, asked: Asked) -> Sending {
 
 const SESSIONS: &[u8] = b"\x09\x08\x01\x33\x01\xab\x60\x37\x42\x01";
 const OK: Call = Headers(":status 200");
-const OK_BYTES: Wanted = Ok(b"\x01\x07\x00\x00\x5f\x09\x82\x10\x01");
+const OK_BYTES: Wanted = Ok(b"\x01\x03\x00\x00\xd9");
 const HINTS: (Call, Wanted) = (Headers(":status 103"), Ok(b"\x01\x03\x00\x00\xd8"));
 /// A section of 173 bytes.
 const LARGE: Call = Trailers(
@@ -133,7 +133,7 @@ fn a_response_with_content_and_trailers() {
             (Finish, malformed(Malformed::MissingHead)),
             (
                 Headers(":status 200\ncontent-length 5"),
-                Ok(b"\x01\x0a\x00\x00\x5f\x09\x82\x10\x01\x54\x015"),
+                Ok(b"\x01\x06\x00\x00\xd9\x54\x015"),
             ),
             (OK, UNEXPECTED),
             (Data(0), refused(SendError::EmptyData)),
@@ -302,7 +302,7 @@ fn the_settings_of_the_peer_say_what_may_be_sent() {
                 Headers(":method GET\n:scheme https\n:authority ab\n:path /"),
                 refused(SendError::TooLarge),
             ),
-            (GET, Ok(b"\x01\x13\x00\x00\x5f\x00\x03GET\x5f\x07\x84\x9d\x29\xad\x1f\x50\x01a\xc1")),
+            (GET, Ok(b"\x01\x08\x00\x00\xd1\xd7\x50\x01a\xc1")),
             (LARGE, refused(SendError::TooLarge)),
         ],
     );
@@ -312,7 +312,7 @@ fn the_settings_of_the_peer_say_what_may_be_sent() {
         &[
             (
                 Headers(":method GET\n:scheme https\n:authority ab\n:path /"),
-                Ok(b"\x01\x14\x00\x00\x5f\x00\x03GET\x5f\x07\x84\x9d\x29\xad\x1f\x50\x02ab\xc1"),
+                Ok(b"\x01\x09\x00\x00\xd1\xd7\x50\x02ab\xc1"),
             ),
             (SESSION, UNEXPECTED),
         ],
@@ -351,7 +351,7 @@ fn sessions_of_a_server() {
     }
     play(&mut sending, &[(Finish, UNEXPECTED)]);
     let mut sending = response(&server, 4, Asked::Session);
-    let refused = (Headers(":status 404"), Ok(&b"\x01\x08\x00\x00\x5f\x09\x03404"[..]));
+    let refused = (Headers(":status 404"), Ok(&b"\x01\x03\x00\x00\xdb"[..]));
     for rows in [&[refused][..], CLOSED, &[(Data(1), Ok(b"\x00\x01"))]] {
         play(&mut sending, rows);
     }

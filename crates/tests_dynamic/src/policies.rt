@@ -161,14 +161,14 @@ static ROWS: [Row; 6] = [
         ],
     ),
     (
-        "a field that is never indexed is a literal with the bit N",
+        "a field that is never indexed is a static entry, or a literal with the bit N",
         1,
         &[
             Step::Resizes(220, true),
             Step::Sends(
                 0,
                 &[SECRET_AB, SECRET_ROOT, SECRET_AUTHORIZATION, AUTHORIZATION],
-                b"\x00\x00\x31a\x01b\x71\x01/\x7f\x45\x01a\x5f\x45\x01a",
+                b"\x00\x00\x31a\x01b\xc1\x7f\x45\x01a\x5f\x45\x01a",
                 &[AB, ROOT, (b"authorization", b"a"), (b"authorization", b"a")],
             ),
             Step::Has(&[]),

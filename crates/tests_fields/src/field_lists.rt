@@ -11,7 +11,11 @@ use wtp_fields::session::{HeadersParseError, UrlParseError};
 use wtp_wire::frame::{FrameKind, FrameOwned};
 
 /// The list of a section, read once more where memory was refused.
-fn list_of(alloc: Global, section: &[u8], limit: u64) -> Result<FieldList, FieldSectionError> {
+pub(crate) fn list_of(
+    alloc: Global,
+    section: &[u8],
+    limit: u64,
+) -> Result<FieldList, FieldSectionError> {
     match FieldList::decode(alloc, section, limit) {
         Err(FieldSectionError::Memory) => FieldList::decode(alloc, section, limit),
         result => result,
@@ -19,7 +23,12 @@ fn list_of(alloc: Global, section: &[u8], limit: u64) -> Result<FieldList, Field
 }
 
 /// Asserts that a list has these fields and no other, in this order.
-fn assert_list(rt: &impl Abort, list: &FieldList, fields: &[(&[u8], &[u8])], case: &str) {
+pub(crate) fn assert_list(
+    rt: &impl Abort,
+    list: &FieldList,
+    fields: &[(&[u8], &[u8])],
+    case: &str,
+) {
     assert_same(rt, list.len(), fields.len(), case);
     assert_same(rt, list.is_empty(), fields.is_empty(), case);
     for (line, (name, value)) in list.iter().zip(fields) {
@@ -456,8 +465,8 @@ fn sent_responses_past_refused_memory(rt: HostRuntime) {
     assert_same(
         &rt,
         frame.payload(),
-        b"\x00\x00\x5f\x09\x82\x10\x01\x5e\x01a\x5e\x01b".as_slice(),
-        "a section by the first entry of each name",
+        b"\x00\x00\xd9\x7e\x01a\x7e\x01b".as_slice(),
+        "an entry, and literals that are never indexed",
     );
 }
 

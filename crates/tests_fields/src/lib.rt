@@ -17,4 +17,6 @@ mod responses;
 #[cfg(test)]
 mod same;
 #[cfg(test)]
+mod sent_sections;
+#[cfg(test)]
 mod session_errors;

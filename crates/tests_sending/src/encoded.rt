@@ -57,6 +57,13 @@ static KEEPS_SECRETS: [u8; 20] = [
     0x03, b'a', b'=', b'b',
 ];
 
+/// HEADERS of [`SECRETS`] without the dynamic table: the same but for the authority.
+static KEEPS_SECRETS_ALONE: [u8; 33] = [
+    0x01, 0x1f, 0x00, 0x00, 0xd1, 0xd7, 0x50, 0x8c, 0xf1, 0xe3, 0xc2, 0xe5, 0xf2, 0x3a, 0x6b, 0xa0,
+    0xab, 0x90, 0xf4, 0xff, 0x51, 0x02, b'/', b'a', 0x7f, 0x45, 0x01, b'a', 0x75, 0x03, b'a', b'=',
+    b'b',
+];
+
 /// HEADERS of [`COOKIE`]: a static entry, and a literal with the bit N.
 static KEEPS_COOKIE: [u8; 10] = [0x01, 0x08, 0x00, 0x00, 0xd9, 0x7e, 0x03, b'a', b'=', b'b'];
 
@@ -156,10 +163,16 @@ fn secrets_are_never_indexed(rt: HostRuntime) -> Result<(), Fail> {
     request.headers_with(alloc, &list, &mut encoder, &mut bytes, &mut out)?;
     assert_written(&rt, &mut out, &KEEPS_SECRETS, "a request");
     assert_written(&rt, &mut bytes, &INSERT, "the authority alone");
+    let mut other = Sending::request(stream(&rt, 4), Peer::new());
+    other.headers(alloc, &list, &mut out)?;
+    assert_written(&rt, &mut out, &KEEPS_SECRETS_ALONE, "without the table");
     let mut response = Sending::response(stream(&rt, 4), Asked::Other, Peer::new());
     let list = FieldList::from_fields(alloc, &COOKIE)?;
     response.headers_with(alloc, &list, &mut encoder, &mut bytes, &mut out)?;
     assert_written(&rt, &mut out, &KEEPS_COOKIE, "a response");
+    let mut other = Sending::response(stream(&rt, 8), Asked::Other, Peer::new());
+    other.headers(alloc, &list, &mut out)?;
+    assert_written(&rt, &mut out, &KEEPS_COOKIE, "without the table");
     assert_written(&rt, &mut bytes, b"", "nothing is inserted");
     let vary = list_of(alloc, b"\x00\x00\xfb")?;
     response.trailers_with(alloc, &vary, &mut encoder, &mut bytes, &mut out)?;

@@ -20,12 +20,7 @@ fn a_server_opens_a_session_by_its_answer(rt: HostRuntime) -> Result<(), Fail> {
     let early = sending.unidirectional(&mut out);
     assert_same(&rt, early, Err(SendError::Unexpected), "before the answer");
     sending.headers(alloc, &list_of(alloc, &ANSWERS[0])?, &mut out)?;
-    assert_written(
-        &rt,
-        &mut out,
-        b"\x01\x07\x00\x00\x5f\x09\x82\x10\x01",
-        "the answer",
-    );
+    assert_written(&rt, &mut out, b"\x01\x03\x00\x00\xd9", "the answer");
     sending.unidirectional(&mut out)?;
     assert_written(&rt, &mut out, b"\x40\x54\x04", "a unidirectional stream");
     sending.bidirectional(&mut out)?;
@@ -67,12 +62,7 @@ fn a_refused_session_has_a_body(rt: HostRuntime) -> Result<(), Fail> {
     let no = sending.check_session();
     assert_same(&rt, no, Err(SendError::Unexpected), "no session");
     sending.data(5, &mut out)?;
-    assert_written(
-        &rt,
-        &mut out,
-        b"\x01\x08\x00\x00\x5f\x09\x03404\x00\x05",
-        "a body",
-    );
+    assert_written(&rt, &mut out, b"\x01\x03\x00\x00\xdb\x00\x05", "a body");
     Ok(())
 }
 

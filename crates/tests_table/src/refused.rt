@@ -137,13 +137,7 @@ fn nothing_is_sent_before_a_request(rt: HostRuntime) -> Result<(), Fail> {
     assert_refused(&rt, late, unexpected, &out, "trailers first");
     assert_refused(&rt, h3.finish(0), unexpected, &out, "the end first");
     let answer = h3.respond(0, &ok, &mut out);
-    assert_wrote(
-        &rt,
-        answer,
-        b"\x01\x07\x00\x00\x5f\x09\x82\x10\x01",
-        &mut out,
-        "the answer",
-    );
+    assert_wrote(&rt, answer, b"\x01\x03\x00\x00\xd9", &mut out, "the answer");
     Ok(())
 }
 

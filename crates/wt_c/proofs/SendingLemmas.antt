@@ -10,8 +10,8 @@ use Rattle.wtp_frames.specs.declared.endpoint.Side.{Side}
 use Rattle.wtp_frames.specs.declared.endpoint.Side.TheVariants as side
 use Rattle.wtp_frames.specs.Words.{side_number, flag_number, optional_words}
 use Rattle.wtp_qpack.specs.Field.{Field, IsOctets, AreOctets}
-use Rattle.wtp_qpack.specs.FieldLine.{encoded_line}
-use Rattle.wtp_qpack.specs.FieldSection.{section_of}
+use Rattle.wtp_qpack.specs.FieldLine.{shortest_line}
+use Rattle.wtp_qpack.specs.FieldSection.{shortest_section}
 use Rattle.wtp_sending.specs.declared.control.ControlSending.{ControlSending}
 use Rattle.wtp_sending.specs.declared.error.SendError.{SendError}
 use Rattle.wtp_sending.specs.declared.error.SendError.TheVariants as error
@@ -106,12 +106,12 @@ is_over c w has other = over_at c.goaway c.over (over_is c w has other)
 
 -- the bytes followed by the lines of the fields in `left` are the section of all fields
 pub record IsEncoding (texts out : List ℕ) (left all : List WtField) : Type 0 where
-  pub so_far : out ++ flat_map encoded_line (lines_in texts left) ≡ section_of (lines_in texts all)
+  pub so_far : out ++ flat_map shortest_line (lines_in texts left) ≡ shortest_section (lines_in texts all)
   pub within : AreWithin (length texts) left
   pub octets : AreOctets (lines_in texts left) → AreOctets (lines_in texts all)
 
-pub decoded : (lines list : List Field) → AreOctets lines → Reaches (2 ^ 64 - 1) (section_of lines) list [] → list ≡ lines
-decoded lines list octets reached = one_list (2 ^ 64 - 1) (list_size lines) (section_of lines) list lines reached (list_again (list_size lines) lines octets (omega arith))
+pub decoded : (lines list : List Field) → AreOctets lines → Reaches (2 ^ 64 - 1) (shortest_section lines) list [] → list ≡ lines
+decoded lines list octets reached = one_list (2 ^ 64 - 1) (list_size lines) (shortest_section lines) list lines reached (list_again (list_size lines) lines octets (omega arith))
 
 -- ---- bytes that fit
 

@@ -22,7 +22,7 @@ texts_of_within texts (w ∷ ws) a h = (
   texts_of_within texts ws a h.1,
 )
 
-within_of_texts : (texts : List ℕ) (fields : List WtField) → AreTextFields texts fields → AreWithin (length texts) fields
+pub within_of_texts : (texts : List ℕ) (fields : List WtField) → AreTextFields texts fields → AreWithin (length texts) fields
 within_of_texts texts [] h = tt
 within_of_texts texts (w ∷ ws) h = (h.0.within, within_of_texts texts ws h.1)
 

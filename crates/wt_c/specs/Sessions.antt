@@ -9,7 +9,7 @@ use Rattle.wtp_fields.specs.FieldMessages.{request_fault, status_of}
 use Rattle.wtp_fields.specs.FieldWriting.{list_at, push_fault}
 use Rattle.wtp_wire.specs.Content.{HeadersOf}
 use Rattle.wtp_wire.specs.Wire.{wire}
-use Rattle.wtp_fields.specs.FieldSection.{section_of}
+use Rattle.wtp_fields.specs.FieldSection.{shortest_section}
 use Rattle.wt_c.specs.Texts.{lines_in}
 use Rattle.wt_c.specs.Fields.{field_in, AreLinesOf, HasSectionFault, IsWithin}
 use Rattle.wt_c.specs.declared.fields.WtField.{WtField}
@@ -28,7 +28,7 @@ AreMessageFields texts (w ∷ ws) = IsMessageField texts w × AreMessageFields t
 
 -- the HEADERS frame of these fields, followed by the fields of C in order
 abbrev pub message_frame : List Field → List ℕ → List WtField → List ℕ
-message_frame m texts fields = wire (HeadersOf (section_of (m ++ lines_in texts fields)))
+message_frame m texts fields = wire (HeadersOf (shortest_section (m ++ lines_in texts fields)))
 
 -- there is no request for this URL: it is not UTF-8, or has an error, or is so long (16 MiB or
 -- more) that it may be rejected

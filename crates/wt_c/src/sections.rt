@@ -1,37 +1,58 @@
 //! Encodes field sections (RFC 9204, section 4.5).
-ghost use Rattle.std.specs.Prelude.{◌≡◌, ◌⊎◌, IfOk};
-ghost use Rattle.wtp_fields.specs.FieldSection.{section_of};
+ghost use Rattle.std.specs.Prelude.{◌≡◌, ◌⊎◌, length, IfOk};
+ghost use Rattle.wtp_qpack.specs.Field.{IsOctets, AreOctets};
+ghost use Rattle.wtp_qpack.specs.FieldSection.{shortest_section};
+ghost use Rattle.wt_c.specs.Fields.{AreWithin};
 ghost use Rattle.wt_c.specs.Output.{WritesPrefix, TooShort};
 ghost use Rattle.wt_c.specs.Texts.{AreTextFields, lines_in};
 
 use crate::fields::WtField;
 use crate::output::write_bytes;
 use crate::status::{BUFFER_TOO_SMALL, INVALID, MEMORY, OK};
-use crate::texts::{TextPairs, are_texts};
+use crate::texts::{are_texts, parts_of};
 use std::alloc::{AllocError, Global};
-use wtp_fields::qpack::Encoder;
+use wtp_qpack::section;
 
-/// Encodes fields, whose names and values are UTF-8, as a field section.
-fn encode_fields(alloc: Global, fields: &[WtField], texts: &[u8]) -> Result<Vec<u8>, AllocError>
-    requires { AreTextFields texts.now fields.now }
-    ensures { IfOk result (λ v. v.items ≡ section_of (lines_in texts.now fields.now)) }
+/// Returns its argument; the contract states that each byte is below 256.
+fn octets(bytes: &[u8]) -> &[u8]
+    ensures same { result.now ≡ bytes.now }
+    ensures octets { IsOctets bytes.now }
 {
-    let pairs = TextPairs {
-        left: fields,
-        texts,
-    };
-    let section = Encoder::encode(alloc, pairs)?;
-    Ok(section)
+    bytes
 }
 
-/// Writes a field section to the start of `out`. It contains the fields in order, uses only the
-/// static table, and encodes each string in the Huffman code if that is shorter.
+/// Encodes fields that are within the texts as a field section, as [`FieldList::encode`] does.
+///
+/// [`FieldList::encode`]: wtp_fields::fields::FieldList::encode
+pub(crate) fn encode_fields(
+    alloc: Global,
+    fields: &[WtField],
+    texts: &[u8],
+) -> Result<Vec<u8>, AllocError>
+    requires { AreWithin (length texts.now) fields.now }
+    ensures { IfOk result (λ v. (v.items ≡ shortest_section (lines_in texts.now fields.now))
+        × AreOctets (lines_in texts.now fields.now)) }
+{
+    let mut out = section::empty_prefix(alloc)?;
+    for field in fields {
+        let Some((name, value)) = parts_of(field, texts) else {
+            unreachable!();
+        };
+        section::write_shortest_line(&mut out, octets(name), octets(value))?;
+    }
+    Ok(out)
+}
+
+/// Writes a field section to the start of `out`. It contains the fields in order, and uses only the
+/// static table: no section that does so has these fields in fewer bytes. Literals of
+/// [sensitive fields](wtp_qpack::sensitive::is_sensitive) are never indexed.
 ///
 /// Returns `OK` with the size of the section in `used`. Returns `BUFFER_TOO_SMALL` if `out` is too
 /// short; `used` is then the size of the section, and `out` is unchanged. Returns `INVALID` if a
 /// field is not within `texts` or is not UTF-8, and otherwise `MEMORY` if allocation failed;
 /// nothing is then changed.
 #[unsafe(no_mangle)]
+#[tactic(auto, using(crate::proofs::TextLemmas::within_of_texts))]
 pub extern "C" fn wt_fields_write(
     alloc: Global,
     fields: &[WtField],
@@ -41,9 +62,9 @@ pub extern "C" fn wt_fields_write(
 ) -> i32
     ensures answers { (result ≡ OK) ⊎ ((result ≡ BUFFER_TOO_SMALL) ⊎ ((result ≡ INVALID) ⊎ (result ≡ MEMORY))) }
     ensures bytes { result ≡ OK → AreTextFields texts.now fields.now
-        × WritesPrefix (section_of (lines_in texts.now fields.now)) out.old out.new used.new }
+        × WritesPrefix (shortest_section (lines_in texts.now fields.now)) out.old out.new used.new }
     ensures room { result ≡ BUFFER_TOO_SMALL → AreTextFields texts.now fields.now
-        × TooShort (section_of (lines_in texts.now fields.now)) out.old out.new used.new }
+        × TooShort (shortest_section (lines_in texts.now fields.now)) out.old out.new used.new }
     ensures invalid { result ≡ INVALID → (¬ (AreTextFields texts.now fields.now))
         × (out.new ≡ out.old) × (used.new ≡ used.old) }
     ensures memory { result ≡ MEMORY → AreTextFields texts.now fields.now

@@ -115,22 +115,6 @@ pub(crate) fn texts_of<'a>(field: &WtField, texts: &'a [u8]) -> Option<(&'a str,
     Some((name, value))
 }
 
-/// Returns the name and the value of a field whose texts are known to be valid.
-#[inline(always)]
-fn known_texts<'a>(field: &WtField, texts: &'a [u8]) -> (&'a str, &'a str)
-    requires { IsTextField texts.now field.now }
-    ensures { (result.0.now, result.1.now) ≡ field_in texts.now field.now }
-{
-    let name = bytes_at(texts, field.name_offset, field.name_len);
-    let value = bytes_at(texts, field.value_offset, field.value_len);
-    unsafe {
-        (
-            str::from_utf8_unchecked(name),
-            str::from_utf8_unchecked(value),
-        )
-    }
-}
-
 /// Returns whether bytes are ASCII. If they are more than `max_len`, it returns `false` in any
 /// case.
 fn is_short_ascii(bytes: &[u8], max_len: usize) -> bool
@@ -178,34 +162,4 @@ pub(crate) fn are_texts(fields: &[WtField], texts: &[u8]) -> bool
         return are_within(fields, texts.len());
     }
     each_is_utf8(fields, texts)
-}
-
-/// The names and the values of fields, one after the other.
-#[derive(Drop)]
-pub(crate) struct TextPairs<'s, 'a> {
-    /// The fields that are left, all of which are pairs of texts.
-    pub(crate) left: &'s [WtField],
-    /// The bytes that the texts are in.
-    pub(crate) texts: &'a [u8],
-}
-
-impl<'s, 'a> Iterator for TextPairs<'s, 'a> {
-    type Item = (&'a str, &'a str);
-
-    ghost use Rattle.std.specs.Iterator.{YieldsFirstBy, item_count};
-    ghost use Rattle.wtp_fields.specs.Field.{field_of_texts};
-    ghost use Rattle.wt_c.specs.Texts.{AreTextFields, lines_in};
-
-    ghost can_next = { λ s. AreTextFields s.texts.now s.left.now };
-
-    ghost next_gives = { YieldsFirstBy field_of_texts (λ s. lines_in s.texts.now s.left.now) };
-
-    ghost remaining = { item_count (λ s. lines_in s.texts.now s.left.now) };
-
-    #[inline(always)]
-    fn next(&mut self) -> Option<(&'a str, &'a str)> {
-        let (field, others) = self.left.split_first()?;
-        self.left = others;
-        Some(known_texts(field, self.texts))
-    }
 }

@@ -1,7 +1,9 @@
 -- The lines of output.
-use Rattle.std.specs.Prelude.{ℕ, Bool, true, false, List, [], ◌++◌, ◌∷◌, Option, Some, None, Result, Ok, Err, codes}
+use Rattle.std.specs.Prelude.{ℕ, Bool, true, false, List, [], ◌++◌, ◌∷◌, Option, Some, None, Result, Ok, Err, codes, map}
 use Rattle.std.specs.Fmt.{decimal}
 use Rattle.hex.specs.Hex.{encode_lower}
+use Rattle.wt_qpack.specs.declared.command.Field as command
+use Rattle.wtp_qpack.specs.Field.{Field}
 use Rattle.wtp_dynamic.specs.declared.error.EncoderStreamError.{EncoderStreamError}
 use Rattle.wtp_dynamic.specs.declared.error.DecoderStreamError.{DecoderStreamError}
 use Rattle.wtp_dynamic.specs.Faults.{encoder_stream_code, decoder_stream_code}
@@ -57,3 +59,10 @@ never_text false = []
 abbrev pub field_text : (name value : List ℕ) → Bool → List ℕ
 field_text name value never =
     codes " " ++ bytes_text name ++ codes ":" ++ bytes_text value ++ never_text never
+
+-- the fields of a command as a list, and the line of its section
+abbrev pub list_in : List command.Field → List Field
+list_in fields = map (λ field. (field.name.items, field.value.items)) fields
+
+abbrev pub section_line : List ℕ → List ℕ
+section_line section = codes "section " ++ bytes_text section ++ codes "\n"

@@ -39,6 +39,8 @@ pub enum Command {
     Capacity(u64),
     /// Encodes a section of a stream.
     Encode(u64, Vec<Field>),
+    /// Encodes a section as a list of fields does, without the dynamic table.
+    List(Vec<Field>),
     /// Reads bytes of the decoder stream.
     Hear(Vec<u8>),
     /// Begins a decoder.
@@ -68,6 +70,7 @@ impl Command {
                 let (stream, rest) = first_word(rest);
                 Ok(Command::Encode(number(stream)?, read_fields(alloc, rest)?))
             }
+            "list" => Ok(Command::List(read_fields(alloc, rest)?)),
             "hear" => Ok(Command::Hear(bytes(alloc, rest)?)),
             "decoder" => {
                 let (limit, most) = first_word(rest);

@@ -9,6 +9,8 @@
 //! - `encode STREAM FIELD ..`: encodes a section. A field is `NAME:VALUE`, or `NAME:VALUE:I`, where
 //!   `I` is `i` for a field that is inserted, `w` for one that is not, and `n` for one that is never
 //!   indexed. Output: `sent INSTRUCTIONS SECTION`.
+//! - `list FIELD ..`: encodes a section as a list of fields does, without the dynamic table. Output:
+//!   `section SECTION`.
 //! - `hear BYTES`: the next bytes of the decoder stream. Output: `known N`, which is the Known
 //!   Received Count.
 //! - `decoder LIMIT MOST`: begins a decoder, by its settings. Output: `decoder`.
@@ -26,11 +28,13 @@
 mod command;
 mod decoding;
 mod encoding;
+mod listing;
 mod text;
 
 use crate::command::Command;
 use crate::decoding::Decoding;
 use crate::encoding::Encoding;
+use crate::listing::add_list;
 use anyhow::{Context, Result};
 use std::alloc::Global;
 use std::io::{BufRead, BufReader, Write};
@@ -47,6 +51,7 @@ fn run(
         Command::Encoder(settings, policy) => encoding.begin(settings, policy, out)?,
         Command::Capacity(capacity) => encoding.set_capacity(capacity, out)?,
         Command::Encode(stream, fields) => encoding.encode(stream, fields.as_slice(), out)?,
+        Command::List(fields) => add_list(alloc, fields.as_slice(), out)?,
         Command::Hear(bytes) => encoding.hear(bytes.as_slice(), out)?,
         Command::Decoder(settings) => decoding.begin(settings, out)?,
         Command::Instructions(bytes) => decoding.read_instructions(bytes.as_slice(), out)?,

@@ -100,19 +100,20 @@ IsWanted policy proposal table =
 
 -- ---- the line of a field
 
--- it is never indexed, or neither table has it as an entry to which lines refer
+-- the static table does not have it; and it is never indexed, or the dynamic table does not have it
+-- either as an entry to which lines refer
 abbrev pub IsLiteral : Table → (low bound : ℕ) → Proposal → Type 0
 IsLiteral table low bound proposal =
-    (is_never proposal.indexing ≡ true)
-    ⊎ (FindsStatic (field_of proposal) None
-    × FindsIn (is_field (field_of proposal)) table low bound None)
+    FindsStatic (field_of proposal) None
+    × ((is_never proposal.indexing ≡ true)
+    ⊎ FindsIn (is_field (field_of proposal)) table low bound None)
 
--- The first static entry that is the field, or else the latest dynamic entry; or else a literal,
--- with the name of the first static entry, or else of the latest dynamic entry, or else its own. Its
+-- The first static entry that is the field, or else the latest dynamic entry, unless the field is never
+-- indexed; or else a literal, with the name of the first static entry, or else of the latest dynamic entry, or else its own. Its
 -- dynamic entries are from an absolute index on, and below a bound.
 abbrev pub Chooses : Table → (low bound : ℕ) → Proposal → Plan → Type 0
 Chooses table low bound proposal (StaticField index) =
-    (is_never proposal.indexing ≡ false) × FindsStatic (field_of proposal) (Some index)
+    FindsStatic (field_of proposal) (Some index)
 Chooses table low bound proposal (TableField place) =
     (is_never proposal.indexing ≡ false) × FindsStatic (field_of proposal) None
     × FindsIn (is_field (field_of proposal)) table low bound (Some place)

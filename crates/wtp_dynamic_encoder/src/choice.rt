@@ -175,8 +175,8 @@ fn literal_for<'a>(
 }
 
 /// Returns how a line gives the field of a proposal, whose key this is, by dynamic entries with an absolute index from
-/// one on and below a bound: by an entry that is the field, unless it is never indexed; or else as
-/// a literal.
+/// one on and below a bound: by the static entry that is the field; or else by such a dynamic entry,
+/// unless the field is never indexed; or else as a literal.
 pub(crate) fn choose<'a>(
     table: &IndexedTable,
     low: u64,
@@ -189,11 +189,11 @@ pub(crate) fn choose<'a>(
     ensures field { planned_field table.now bound (plan_of result) ≡ Some (field_of proposal.entry) }
     ensures chosen { Chooses table.now low bound proposal.entry (plan_of result) }
 {
-    if proposal.is_never_indexed() {
-        return literal_for(table, low, bound, key, proposal);
-    }
     if let Some(index) = key.whole {
         return Plan::StaticField(index);
+    }
+    if proposal.is_never_indexed() {
+        return literal_for(table, low, bound, key, proposal);
     }
     match find_field(table, low, bound, key, proposal) {
         Some(place) => Plan::TableField(place),

@@ -301,7 +301,8 @@ impl QpackEncoder {
     /// of the tables has it as an entry that is not draining (section 2.1.1.1), or it may not be.
     /// Then each line refers to the entry of the static table that has its name and value, or else
     /// to the latest such entry of the dynamic table; or else to the name of an entry; or else it
-    /// has the texts. A field that is never indexed is a literal with the bit N (section 7.1.3).
+    /// has the texts. A field that is never indexed refers to no entry of the dynamic table that has
+    /// its value, and its literal has the bit N (section 7.1.3).
     ///
     /// No line refers to an entry that is draining, or that the decoder may not have received while
     /// the stream may not be blocked; nor to any entry of the dynamic table while as many sections

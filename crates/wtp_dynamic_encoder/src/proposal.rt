@@ -15,8 +15,9 @@ pub enum Indexing {
     Insert,
     /// It is not inserted.
     Without,
-    /// It is never indexed: its line is a literal with the bit N, so that whoever passes it on does
-    /// not index it either (section 7.1.3). For values that an attacker should not guess.
+    /// It is never indexed: unless it is an entry of the static table, whose value everyone knows, its
+    /// line is a literal with the bit N, so that whoever passes it on does not index it either (section
+    /// 7.1.3). For values that an attacker should not guess.
     Never,
 }
 

@@ -7,10 +7,10 @@ use Rattle.std.specs.List.{flat_map}
 use Rattle.std.proofs.lemmas.Bool.{and_parts, cases_eq, eqb-true}
 use Rattle.wtp_core.specs.Ids.{IsStatus}
 use Rattle.wtp_qpack.specs.declared.qpack.DecodingError.{DecodingError}
-use Rattle.wtp_qpack.specs.FieldLine.{line_in, encoded_line}
-use Rattle.wtp_qpack.specs.FieldSection.{section_of}
+use Rattle.wtp_qpack.specs.FieldLine.{line_in, encoded_line, shortest_line}
+use Rattle.wtp_qpack.specs.FieldSection.{section_of, shortest_section}
 use Rattle.wtp_qpack.specs.FieldLines.{octet_line_at, AreOctetLines}
-use Rattle.wtp_qpack.proofs.RoundTrip.{octet_lines_again, prefix_again}
+use Rattle.wtp_qpack.proofs.RoundTrip.{octet_lines_again, prefix_again, shortest_lines_again, shortest_prefix}
 use Rattle.wtp_fields.specs.declared.session.HeadersParseError.{HeadersParseError}
 use Rattle.wtp_fields.specs.SessionResponse.{status_alone}
 use Rattle.wtp_fields.specs.FieldList.{Reaches, list_size}
@@ -76,8 +76,12 @@ list_found (Ok url) m a p is authority path = found_fields (bytes_eq url.scheme 
 
 -- ---- decoding a written list
 
-pub list_again : (limit : ℕ) (fields : List Field) → AreOctets fields → list_size fields ≤ limit → Reaches limit (section_of fields) fields []
-list_again limit fields are fits = record { start = flat_map encoded_line fields; prefix = prefix_again fields; are = octet_lines_again fields are; fits = fits }
+pub list_again : (limit : ℕ) (fields : List Field) → AreOctets fields → list_size fields ≤ limit → Reaches limit (shortest_section fields) fields []
+list_again limit fields are fits = record { start = flat_map shortest_line fields; prefix = shortest_prefix fields; are = shortest_lines_again fields are; fits = fits }
+
+-- the same of a section by the first entries of names, as header maps are written
+pub fields_again : (limit : ℕ) (fields : List Field) → AreOctets fields → list_size fields ≤ limit → Reaches limit (section_of fields) fields []
+fields_again limit fields are fits = record { start = flat_map encoded_line fields; prefix = prefix_again fields; are = octet_lines_again fields are; fits = fits }
 
 no_line : (field : Field) (behind : List ℕ) → octet_line_at [] ≡ Ok (field, behind) → ⊥
 unfolding line_in

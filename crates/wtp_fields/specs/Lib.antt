@@ -11,6 +11,7 @@ pub use Rattle.wtp_qpack.specs.Integer
 pub use Rattle.wtp_qpack.specs.Field
 pub use Rattle.wtp_qpack.specs.StaticTable
 pub use Rattle.wtp_qpack.specs.StaticSlots
+pub use Rattle.wtp_qpack.specs.Sensitive
 pub use Rattle.wtp_qpack.specs.StringLiteral
 pub use Rattle.wtp_qpack.specs.FieldLine
 pub use Rattle.wtp_qpack.specs.FieldSection

@@ -9,5 +9,5 @@ pub use headers::{header_maps, header_payloads, reserved_headers};
 pub use wtp_huffman::laws::{huffman_texts, huffman_words};
 pub use wtp_qpack::laws::{
     encode_and_decode, field_lines, field_maps, field_sections, lines_again, lines_of_texts,
-    maps_of_lines, prefixed_integers, string_literals,
+    maps_of_lines, no_shorter_lines, prefixed_integers, shortest_lines, string_literals,
 };

@@ -6,8 +6,8 @@ use Rattle.std.proofs.lemmas.Nat.{le-div}
 use Rattle.std.proofs.Math.Nat.{mod-le}
 use Rattle.wtp_qpack.specs.declared.qpack.DecodingError.{DecodingError}
 use Rattle.wtp_qpack.specs.Field.{Field}
-use Rattle.wtp_qpack.specs.FieldLine.{encoded_line}
-use Rattle.wtp_qpack.specs.FieldSection.{section_of}
+use Rattle.wtp_qpack.specs.FieldLine.{shortest_line}
+use Rattle.wtp_qpack.specs.FieldSection.{shortest_section}
 use Rattle.wtp_qpack.specs.Integer.{integer_at, shortest_int}
 use Rattle.wtp_qpack.specs.StringLiteral.{flag_above}
 use Rattle.wtp_qpack.proofs.IntegerLaws.{short_int}
@@ -41,20 +41,20 @@ use Rattle.wtp_pairs.specs.Messages.{IsWithin}
 
 -- ---- sections that are written without a table
 
-no_table : (fields : List Field) → names_table (section_of fields) ≡ false
-unfolding section_of
-no_table fields = static_prefix 0 (flat_map encoded_line fields) (omega arith)
+no_table : (fields : List Field) → names_table (shortest_section fields) ≡ false
+unfolding shortest_section
+no_table fields = static_prefix 0 (flat_map shortest_line fields) (omega arith)
 
-pub alone : (e : Endpoint) (limit : ℕ) (c : Connection) (fields : List Field) → IsWithin e limit fields → IsReadable e limit c (section_of fields) fields None
+pub alone : (e : Endpoint) (limit : ℕ) (c : Connection) (fields : List Field) → IsWithin e limit fields → IsReadable e limit c (shortest_section fields) fields None
 alone e limit c fields within = record {
   encoded = within.encoded;
   has = Alone (no_table fields) (list_again limit fields within.octets within.decoded) refl;
 }
 
-pub head_alone : (old new : Sending) (fields : List Field) → SendsHead old fields new → SendsHeadAs (section_of fields) old fields new
+pub head_alone : (old new : Sending) (fields : List Field) → SendsHead old fields new → SendsHeadAs (shortest_section fields) old fields new
 head_alone old new fields h = record { at = h.at; fits = h.fits; framed = h.framed; head = h.head; others = h.others }
 
-pub trailers_alone : (old new : Sending) (fields : List Field) → SendsTrailers old fields new → SendsTrailersAs (section_of fields) old fields new
+pub trailers_alone : (old new : Sending) (fields : List Field) → SendsTrailers old fields new → SendsTrailersAs (shortest_section fields) old fields new
 trailers_alone old new fields h = record { at = h.at; none = h.none; fits = h.fits; framed = h.framed; are = h.are; others = h.others }
 
 -- ---- a section that needs no insertions

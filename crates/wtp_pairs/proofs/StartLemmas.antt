@@ -4,7 +4,7 @@ use Rattle.wtp_core.specs.Varint.{shortest, number_at}
 use Rattle.wtp_core.proofs.EncodingLemmas.{number_at-encoding}
 use Rattle.wtp_core.proofs.ShortLemmas.{shortest-encodes}
 use Rattle.wtp_qpack.specs.Field.{Field}
-use Rattle.wtp_qpack.specs.FieldSection.{section_of}
+use Rattle.wtp_qpack.specs.FieldSection.{shortest_section}
 use Rattle.wtp_frames.specs.declared.endpoint.Endpoint.{Endpoint}
 use Rattle.wtp_frames.specs.declared.endpoint.Side.{Side}
 use Rattle.wtp_frames.specs.declared.endpoint.Side.TheVariants.{Server}
@@ -67,14 +67,14 @@ opened_one limit c rest fin o going side h =
     f.gives ∙ ap (λ (n : ℕ). (n, OpenedFor «for».Message, c, request_opened c)) (omega arith)
 
 rest_of : List Field → List ℕ → List ℕ
-rest_of fields more = (shortest (length (section_of fields)) ++ section_of fields) ++ more
+rest_of fields more = (shortest (length (shortest_section fields)) ++ shortest_section fields) ++ more
 
 starts : (fields : List Field) (more : List ℕ) → headers_wire fields ++ more ≡ 1 ∷ rest_of fields more
 unfolding rest_of
 starts fields more =
-    ap (λ (l : List ℕ). l ++ more) (headers_wire_is (section_of fields))
-    ∙ append_assoc (shortest 1) (shortest (length (section_of fields)) ++ section_of fields) more
-    ∙ begins ((shortest (length (section_of fields)) ++ section_of fields) ++ more)
+    ap (λ (l : List ℕ). l ++ more) (headers_wire_is (shortest_section fields))
+    ∙ append_assoc (shortest 1) (shortest (length (shortest_section fields)) ++ shortest_section fields) more
+    ∙ begins ((shortest (length (shortest_section fields)) ++ shortest_section fields) ++ more)
 
 pub opened : (limit : ℕ) (c : Connection) (fields : List Field) (a b : List ℕ) (fin : Bool) (o : Outcome) → IsGoing c → c.streams.endpoint.side ≡ Server → 0 < length a → (more : List ℕ) → a ++ b ≡ headers_wire fields ++ more → Receives limit c (stream_of frames.Bi) a fin o → o ≡ (0, OpenedFor «for».Message, c, request_opened c)
 opened limit c fields a b fin o going side some more parts h =

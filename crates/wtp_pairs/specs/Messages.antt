@@ -1,7 +1,7 @@
 -- How far the receiving end of a message's stream is, beside what the other end sent (RFC 9114, section 4.1).
 use Rattle.std.specs.Prelude.{◌≡◌, ℕ, ◌+◌, ◌-◌, ◌<◌, ◌≤◌, Bool, true, false, List, ◌++◌, length, Option, Some, drop}
 use Rattle.wtp_qpack.specs.Field.{Field, AreOctets}
-use Rattle.wtp_qpack.specs.FieldSection.{section_of}
+use Rattle.wtp_qpack.specs.FieldSection.{shortest_section}
 use Rattle.wtp_fields.specs.FieldList.{list_size}
 use Rattle.wtp_frames.specs.declared.endpoint.Endpoint.{Endpoint}
 use Rattle.wtp_frames.specs.declared.reader.Place.{Place as Reading}
@@ -107,7 +107,7 @@ pub record Agrees (e : Endpoint) (s : Sending) (t : Stream) : Type 0 where
 -- the decoded one
 pub record IsWithin (e : Endpoint) (limit : ℕ) (fields : List Field) : Type 0 where
   pub octets : AreOctets fields
-  pub encoded : length (section_of fields) ≤ e.max_section
+  pub encoded : length (shortest_section fields) ≤ e.max_section
   pub decoded : list_size fields ≤ limit
 
 -- The call returned NoMemory after the first bytes of what was sent. With the rest of them the next call returns

@@ -8,7 +8,7 @@ use Rattle.wtp_core.proofs.LeastLemmas.{at_most_8}
 use Rattle.wtp_core.proofs.ShortLemmas.{shortest-encodes}
 use Rattle.wtp_wire.specs.CloseSession.{close_wire}
 use Rattle.wtp_qpack.specs.Field.{Field}
-use Rattle.wtp_qpack.specs.FieldSection.{section_of}
+use Rattle.wtp_qpack.specs.FieldSection.{shortest_section}
 use Rattle.wtp_messages.specs.declared.message.Role.{Role}
 use Rattle.wtp_messages.specs.declared.message.Role.TheVariants as role
 use Rattle.wtp_messages.specs.declared.message.Section.{Section}
@@ -141,12 +141,12 @@ tail_sent e section fields old new r at h =
 -- in a section of the static table alone
 pub headers_sent : (e : Endpoint) (fields : List Field) (old new : Sending) (r : Reader) → IsAt e old.place old.owed r → SendsHead old fields new → IsRead e (SentHeaders fields) new r
 headers_sent e fields old new r at h =
-    let s = head_sent e (section_of fields) fields old new r at (record { at = h.at; fits = h.fits; framed = h.framed; head = h.head; others = h.others }) in
+    let s = head_sent e (shortest_section fields) fields old new r at (record { at = h.at; fits = h.fits; framed = h.framed; head = h.head; others = h.others }) in
     record { next = s.next; gives = s.gives; at = s.at }
 
 pub trailers_sent : (e : Endpoint) (fields : List Field) (old new : Sending) (r : Reader) → IsAt e old.place old.owed r → SendsTrailers old fields new → IsRead e (SentTrailers fields) new r
 trailers_sent e fields old new r at h =
-    let s = tail_sent e (section_of fields) fields old new r at (record { at = h.at; none = h.none; fits = h.fits; framed = h.framed; are = h.are; others = h.others }) in
+    let s = tail_sent e (shortest_section fields) fields old new r at (record { at = h.at; none = h.none; fits = h.fits; framed = h.framed; are = h.are; others = h.others }) in
     record { next = s.next; gives = s.gives; at = s.at }
 
 -- ---- DATA

@@ -5,7 +5,7 @@ use Rattle.wtp_core.specs.Writer.{LacksRoom}
 use Rattle.wtp_wire.specs.Content.{HeadersOf}
 use Rattle.wtp_wire.specs.Wire.{wire}
 use Rattle.wtp_qpack.specs.Field.{Field}
-use Rattle.wtp_qpack.specs.FieldSection.{section_of}
+use Rattle.wtp_qpack.specs.FieldSection.{shortest_section}
 use Rattle.wtp_fields.specs.FieldList.{list_size}
 use Rattle.wtp_messages.specs.declared.malformed.Malformed.TheVariants.{ContentTooLong, InvalidContentLength, MissingHead}
 use Rattle.wtp_messages.specs.declared.message.Message.{Message}
@@ -46,7 +46,7 @@ sending_of id r peer = record {
 
 -- the HEADERS frame of these fields
 abbrev pub headers_wire : List Field → List ℕ
-headers_wire fields = wire (HeadersOf (section_of fields))
+headers_wire fields = wire (HeadersOf (shortest_section fields))
 
 -- the head is still to be sent
 abbrev pub is_head : Place → Bool
@@ -128,7 +128,7 @@ MayBeHead s fields = (m : Message) × (place : Place) × LeadsToHead s fields m 
 pub record SendsHead (old : Sending) (fields : List Field) (new : Sending) : Type 0 where
   pub at : old.place ≡ Head (interims_of old.place)
   pub fits : list_size fields ≤ old.peer.max_section
-  pub framed : length (section_of fields) < 2 ^ 62
+  pub framed : length (shortest_section fields) < 2 ^ 62
   pub head : IsHead old (interims_of old.place) fields new.message new.place
   pub others : new ≡ record old { message = new.message; place = new.place }
 
@@ -182,7 +182,7 @@ RefusesHead s fields other = ⊥
 
 -- why the HEADERS frame of a section that may be sent is not written; allocation may fail
 abbrev pub LacksSection : List Field → Option (List ℕ) → SendError → Type 0
-LacksSection fields room error.TooLarge = 2 ^ 62 ≤ length (section_of fields)
+LacksSection fields room error.TooLarge = 2 ^ 62 ≤ length (shortest_section fields)
 LacksSection fields room error.EndOfBuffer = LacksRoom room (length (headers_wire fields))
 LacksSection fields room error.Memory = Unit {0}
 LacksSection fields room other = ⊥
@@ -251,7 +251,7 @@ pub record SendsTrailers (old : Sending) (fields : List Field) (new : Sending) :
   pub at : old.place ≡ Content
   pub none : old.owed ≡ 0
   pub fits : list_size fields ≤ old.peer.max_section
-  pub framed : length (section_of fields) < 2 ^ 62
+  pub framed : length (shortest_section fields) < 2 ^ 62
   pub are : AreTrailers old fields new.message
   pub others : new ≡ record old { message = new.message; place = Trailers }
 

@@ -2,7 +2,7 @@
 use Rattle.std.specs.Prelude.{◌≡◌, ℕ, ◌<◌, Bool, true, false, List, [], ◌∷◌, ◌++◌, map, length, Option, None, Result, Ok, IsOk}
 use Rattle.wtp_wire.specs.CloseSession.{close_wire}
 use Rattle.wtp_qpack.specs.Field.{Field}
-use Rattle.wtp_qpack.specs.FieldSection.{section_of}
+use Rattle.wtp_qpack.specs.FieldSection.{shortest_section}
 use Rattle.wtp_messages.specs.declared.malformed.Malformed.{Malformed}
 use Rattle.wtp_messages.specs.declared.message.Message.{Message}
 use Rattle.wtp_messages.specs.declared.message.Section.{Section}
@@ -61,10 +61,10 @@ bytes_of SentEnd = []
 
 -- what they mean to a receiver with this limit for field sections
 abbrev pub items_of : ℕ → Sent → List Item
-items_of limit (SentHeaders fields) = section_item limit (section_of fields) ∷ []
+items_of limit (SentHeaders fields) = section_item limit (shortest_section fields) ∷ []
 items_of limit (SentDataHead n) = []
 items_of limit (SentBytes bytes) = map Byte bytes
-items_of limit (SentTrailers fields) = section_item limit (section_of fields) ∷ []
+items_of limit (SentTrailers fields) = section_item limit (shortest_section fields) ∷ []
 items_of limit SentDrain = map Byte (two_numbers 0x78ae 0)
 items_of limit (SentClose code reason) = map Byte (close_wire (code, reason))
 items_of limit Connected = []

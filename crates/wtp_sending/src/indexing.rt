@@ -1,25 +1,10 @@
 //! How the fields of a message are indexed in the dynamic table (RFC 9204, sections 4.5.4 and 7.1.3).
 ghost use Rattle.std.specs.Prelude.{◌≡◌};
 ghost use Rattle.wtp_messages.specs.Names.{is_one_of};
-ghost use Rattle.wtp_sending.specs.Indexing.{secret_names, varying_names, is_short_cookie, indexing_of};
+ghost use Rattle.wtp_sending.specs.Indexing.{varying_names, indexing_of};
 
 use wtp_dynamic_encoder::proposal::Indexing;
-
-/// Returns whether a name is that of a field whose values are secrets.
-fn is_secret(name: &[u8]) -> bool
-    ensures { result ≡ is_one_of secret_names name.now }
-{
-    name == b"authorization".as_slice()
-        || name == b"proxy-authorization".as_slice()
-        || name == b"set-cookie".as_slice()
-}
-
-/// Returns whether a field is a cookie that is short enough to be guessed.
-fn is_short_cookie(name: &[u8], value: &[u8]) -> bool
-    ensures { result ≡ is_short_cookie (name.now, value.now) }
-{
-    name == b"cookie".as_slice() && value.len() < 20
-}
+use wtp_qpack::sensitive::is_sensitive;
 
 /// Returns whether a name is that of a field whose values seldom come again.
 fn is_varying(name: &[u8]) -> bool
@@ -36,15 +21,14 @@ fn is_varying(name: &[u8]) -> bool
 
 /// Returns how a field of a message is indexed.
 ///
-/// Credentials (`authorization`, `proxy-authorization`), `set-cookie`, and cookies of fewer than 20
-/// bytes are never indexed: an attacker who shares the connection could guess them (RFC 9204, section
-/// 7.1.3). Fields whose values seldom come again (`:path`, `age`, `content-length`, `etag`,
-/// `if-modified-since`, `if-none-match`, `location`) are not inserted. All others are inserted if the
-/// policy of the encoder says so.
+/// [Sensitive fields](is_sensitive) are never indexed: credentials (`authorization`,
+/// `proxy-authorization`), `set-cookie`, and cookies of fewer than 20 bytes. Fields whose values seldom
+/// come again (`:path`, `age`, `content-length`, `etag`, `if-modified-since`, `if-none-match`,
+/// `location`) are not inserted. All others are inserted if the policy of the encoder says so.
 pub fn indexing_of(name: &[u8], value: &[u8]) -> Indexing
     ensures { result ≡ indexing_of (name.now, value.now) }
 {
-    if is_secret(name) || is_short_cookie(name, value) {
+    if is_sensitive(name, value) {
         Indexing::Never
     } else if is_varying(name) {
         Indexing::Without

@@ -1,6 +1,6 @@
 //! The sending side of a message's stream (RFC 9114, sections 4.1 and 4.4).
 ghost use Rattle.std.specs.Prelude.{◌≡◌, ◌<◌, ◌^◌, Ok, Err, OnOk, OnErr, IfErr, MatchResult, length, nat_le, true, false};
-ghost use Rattle.wtp_qpack.specs.FieldSection.{section_of};
+ghost use Rattle.wtp_qpack.specs.FieldSection.{shortest_section};
 ghost use Rattle.wtp_fields.specs.FieldList.{list_size};
 ghost use Rattle.wtp_messages.specs.declared.message.Role.TheVariants as role;
 ghost use Rattle.wtp_messages.specs.Names.{has_value as has_value_is};
@@ -381,7 +381,7 @@ fn put_section<W: BytesWriter>(
     ensures written { WritesAll (headers_wire list.now) result (W.written out.old)
         (W.room out.old) (W.written out.new) (W.room out.new) }
     ensures lacks { IfErr result (λ e. LacksSection list.now (W.room out.old) e) }
-    ensures framed { OnOk result (length (section_of list.now) < 2 ^ 62) }
+    ensures framed { OnOk result (length (shortest_section list.now) < 2 ^ 62) }
     ensures target { W.target out.new ≡ W.target out.old }
 {
     match list.generate_frame(alloc) {

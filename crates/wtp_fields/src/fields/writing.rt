@@ -8,7 +8,7 @@ ghost use Rattle.std.specs.Option.{option_copied};
 ghost use Rattle.url.specs.Parser.{parse_url};
 ghost use Rattle.wtp_wire.specs.Content.{HeadersOf};
 ghost use Rattle.wtp_qpack.specs.Field.{IsOctets, AreOctets};
-ghost use Rattle.wtp_qpack.specs.FieldSection.{section_of};
+ghost use Rattle.wtp_qpack.specs.FieldSection.{shortest_section};
 ghost use Rattle.wtp_fields.specs.SessionResponse.{status_alone};
 ghost use Rattle.wtp_fields.specs.FieldWriting.{is_upper, is_tchar, is_value_byte, is_blank_at};
 ghost use Rattle.wtp_fields.specs.FieldWriting.{is_field_value, name_fault, push_fault, fault_in};
@@ -131,13 +131,15 @@ impl FieldList {
     }
 
     /// Encodes the list as a field section, with its fields in order, using only the static table
-    /// (RFC 9204, section 4.5). A list from [`FieldList::request`] or [`FieldList::response`] has
+    /// (RFC 9204, section 4.5). No section without the dynamic table has these fields in fewer bytes: a
+    /// line is the index of the static entry with its name and value, or else a literal. Literals of
+    /// [sensitive fields](wtp_qpack::sensitive::is_sensitive) have the bit N. A list from [`FieldList::request`] or [`FieldList::response`] has
     /// its pseudo-header fields first, as RFC 9114, section 4.3 requires. A decoded list is written
     /// with its fields as received, whatever they are.
     ///
     /// Returns [`AllocError`] if allocation fails.
     pub fn encode(&self, alloc: Global) -> Result<Vec<u8>, AllocError>
-        ensures section { IfOk result (λ section. section.items ≡ section_of self.now) }
+        ensures section { IfOk result (λ section. section.items ≡ shortest_section self.now) }
         // The section is therefore decoded to this list.
         ensures octets { IfOk result (λ _. AreOctets self.now) }
     {
@@ -146,7 +148,7 @@ impl FieldList {
         while let Some(field) = fields.next() {
             let name = octets(field.name);
             let value = octets(field.value);
-            section::write_octet_line(&mut out, name, value)?;
+            section::write_shortest_line(&mut out, name, value)?;
         }
         Ok(out)
     }
@@ -157,9 +159,9 @@ impl FieldList {
     /// Returns [`GenerateError::Memory`] if allocation fails, and [`GenerateError::PayloadTooLong`]
     /// if the payload has 2^62 bytes or more.
     pub fn generate_frame(&self, alloc: Global) -> Result<FrameOwned, GenerateError>
-        ensures frame { IfOk result (λ frame. frame ≡ HeadersOf (section_of self.now)) }
+        ensures frame { IfOk result (λ frame. frame ≡ HeadersOf (shortest_section self.now)) }
         ensures too_long { result ≡ Err GenerateError.PayloadTooLong
-            → 2 ^ 62 ≤ length (section_of self.now) }
+            → 2 ^ 62 ≤ length (shortest_section self.now) }
     {
         let Ok(payload) = self.encode(alloc) else {
             return Err(GenerateError::Memory);

@@ -2,7 +2,7 @@
 ghost use Rattle.std.specs.Prelude.{◌≡◌, ◌≤◌, ℕ, List, [], Ok, None};
 ghost use Rattle.wtp_core.specs.Ids.{IsStatus};
 ghost use Rattle.wtp_qpack.specs.Field.{Field, AreOctets, field_map, field_value, last_value};
-ghost use Rattle.wtp_qpack.specs.FieldSection.{section_of};
+ghost use Rattle.wtp_qpack.specs.FieldSection.{section_of, shortest_section};
 ghost use Rattle.wtp_qpack.specs.FieldLines.{AreUtf8Fields};
 ghost use Rattle.wtp_fields.specs.Headers.{headers_at};
 ghost use Rattle.wtp_fields.specs.SessionRequest.{fault_of, five_fields};
@@ -26,11 +26,14 @@ pub fn maps_of_lists()
 {}
 
 /// The encoding of a list is decoded to the same list, with any limit that its size does not
-/// exceed, and a section is decoded to one list only. The list of a request is a valid request,
+/// exceed, and so is the section of a header map with these fields. A section is decoded to one list
+/// only. The list of a request is a valid request,
 /// with the map of [`SessionRequest`](crate::session::SessionRequest). The list of a response has
 /// its status code.
 pub fn sent_lists()
     ensures again { (limit : ℕ) (fields : List Field) → AreOctets fields
+        → list_size fields ≤ limit → Reaches limit (shortest_section fields) fields [] }
+    ensures map_again { (limit : ℕ) (fields : List Field) → AreOctets fields
         → list_size fields ≤ limit → Reaches limit (section_of fields) fields [] }
     ensures only { (limit bound : ℕ) (section : List ℕ) (fields others : List Field)
         → Reaches limit section fields [] → Reaches bound section others [] → fields ≡ others }

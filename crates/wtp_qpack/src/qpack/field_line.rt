@@ -350,18 +350,6 @@ pub fn write(out: &mut Vec<u8>, name: &str, value: &str) -> Result<(), AllocErro
     )
 }
 
-/// Appends the line of a field whose name and value need not be UTF-8.
-///
-/// Returns [`AllocError`] if allocation fails. Then `out` begins with what it contained before, and
-/// what follows is unspecified.
-#[tactic(auto, unfolding(crate::specs::FieldLine::encoded_line))]
-pub fn write_octets(out: &mut Vec<u8>, name: &[u8], value: &[u8]) -> Result<(), AllocError>
-    ensures ok { OnOk result (out.new.items ≡ out.old.items ++ encoded_line (name.now, value.now)) }
-    ensures front { BeginsWith out.old.items out.new.items }
-{
-    write_by(out, static_table::first_entry_of(name), name, value)
-}
-
 /// Returns the index of the static entry that is a field, given the first entry with its name.
 #[tactic(auto, using(crate::proofs::ShortestLines::none_exact, crate::proofs::ShortestLines::exact_is))]
 fn exact_entry(first: Option<usize>, name: &[u8], value: &[u8]) -> Option<u64>
