@@ -284,27 +284,26 @@ concat-AddsBoth old new head bytes added =
     ∙ ap (λ b. b ++ bytes) (concat-Adds old added.0 head added.2)
     ∙ append_assoc (concat old) head bytes
 
-onto_last-nil : (xs : List (List ℕ)) → 0 < length xs → onto_last xs [] ≡ xs
-onto_last-nil [] more = absurd (omega arith)
-onto_last-nil (x ∷ []) more = ap (λ b. b ∷ []) (append-nil x)
-onto_last-nil (x ∷ y ∷ xs) more = ap (λ zs. x ∷ zs) (onto_last-nil (y ∷ xs) (omega arith))
-
 length-onto_last : (xs : List (List ℕ)) (bytes : List ℕ) → 0 < length (onto_last xs bytes)
 length-onto_last [] bytes = omega arith
 length-onto_last (x ∷ []) bytes = omega arith
 length-onto_last (x ∷ y ∷ xs) bytes = omega arith
 
-some-Adds : (old new : List (List ℕ)) (bytes : List ℕ) → Adds old bytes new → 0 < length new
-some-Adds old new bytes added = elim added [
-  | inl e ↦ omega (arith, ap length e, length-onto_last old bytes)
-  | inr e ↦ omega (arith, ap length e, length-append old (bytes ∷ []))
-]
+-- ---- a head and bytes after it that are copied
 
-pub adds-nothing : (old new : List (List ℕ)) (head : List ℕ) → Adds old (head ++ []) new → AddsBoth old head [] new
-adds-nothing old new head added = (
-  new,
-  new,
-  subst (λ (b : List ℕ). Adds old b new) (append-nil head) added,
-  inl (sym (onto_last-nil new (some-Adds old new (head ++ []) added))),
-  inl refl,
-)
+onto_last-cons : (x : List ℕ) (xs : List (List ℕ)) (bytes : List ℕ) → 0 < length xs → onto_last (x ∷ xs) bytes ≡ x ∷ onto_last xs bytes
+onto_last-cons x [] bytes more = absurd (omega arith)
+onto_last-cons x (y ∷ xs) bytes more = refl
+
+onto_last-twice : (xs : List (List ℕ)) (head bytes : List ℕ) → onto_last (onto_last xs head) bytes ≡ onto_last xs (head ++ bytes)
+onto_last-twice [] head bytes = refl
+onto_last-twice (x ∷ []) head bytes = ap (λ b. b ∷ []) (append_assoc x head bytes)
+onto_last-twice (x ∷ y ∷ xs) head bytes =
+    onto_last-cons x (onto_last (y ∷ xs) head) bytes (length-onto_last (y ∷ xs) head)
+    ∙ ap (λ zs. x ∷ zs) (onto_last-twice (y ∷ xs) head bytes)
+
+pub adds-both : (old new : List (List ℕ)) (head bytes : List ℕ) → Adds old (head ++ bytes) new → AddsBoth old head bytes new
+adds-both old new head bytes added = elim added [
+  | inl e ↦ (onto_last old head, new, inl refl, inl (e ∙ sym (onto_last-twice old head bytes)), inl refl)
+  | inr e ↦ (old ++ head ∷ [], new, inr refl, inl (e ∙ sym (onto_last-append old head bytes)), inl refl)
+]

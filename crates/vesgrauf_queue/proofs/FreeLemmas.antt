@@ -1,12 +1,12 @@
 -- Blocks are freed from the front.
-use Rattle.std.proofs.Common.{◌≡◌, ℕ, zero, suc, ◌+◌, ◌-◌, ◌<◌, ◌≤◌, ◌^◌, List, [], ◌∷◌, ◌++◌, length, take, drop, refl, sym, ap, ◌∙◌, arith, get_or, length-append, append_assoc}
-use Rattle.std.proofs.lemmas.List.{drop_more, take_more, append-nil, drop-drop}
+use Rattle.std.proofs.Common.{subst, length-take, ◌≡◌, ℕ, zero, suc, ◌+◌, ◌-◌, ◌<◌, ◌≤◌, ◌^◌, List, [], ◌∷◌, ◌++◌, length, take, drop, refl, sym, ap, ◌∙◌, arith, get_or, length-append, append_assoc, length-drop}
+use Rattle.std.proofs.lemmas.List.{drop_more, take_more, append-nil, drop-drop, drop-take, drop-append-le}
 use Rattle.std.proofs.lemmas.List.Folds.{concat-append}
 use Rattle.std.proofs.Math.Seq.{take-add, drop-append-add}
 use Rattle.std.specs.List.{concat}
 use Rattle.std.specs.declared.vec.Vec.{Vec}
 use Rattle.std.specs.declared.alloc.Global.{Global}
-use Rattle.vesgrauf_queue.specs.Pieces.{first}
+use Rattle.vesgrauf_queue.specs.Pieces.{first, IsStartOf}
 use Rattle.vesgrauf_queue.specs.Layout.{parts, left_in, without_front, pieces_in, given_in, kept_in, IsLaid, Freed}
 
 -- some of the first blocks are gone
@@ -104,3 +104,44 @@ first-bound (w ∷ vs) v = omega (arith, w.ok.0, w.small)
 pub freed-bound : (vs : List (Vec ℕ Global)) (v : Vec ℕ Global) (lent used freed : ℕ) → IsLaid (parts vs) v.items lent used freed → freed < 2 ^ 63
 freed-bound vs v lent used zero laid = omega arith
 freed-bound vs v lent used (suc freed) laid = omega (arith, laid.needed (omega arith), first-bound vs v)
+
+-- ---- the first of the bytes that are kept
+
+no-drop : (n : ℕ) (xs : List ℕ) → n < length xs → drop n xs ≡ [] → ⊥
+no-drop n xs more none = omega (arith, more, ap length none, length-drop n xs)
+
+pub kept-start : (sealed : List (List ℕ)) (last : List ℕ) (lent used freed : ℕ) → lent ≡ 0 → freed ≤ used
+    → IsStartOf (kept_in sealed last lent used freed) (take (used - freed) (drop freed (first (left_in sealed last 0))))
+kept-start sealed last lent used freed none few =
+    let x = first (left_in sealed last 0) in
+    let size : used ≡ freed + (used - freed) = omega arith in
+    let same : kept_in sealed last lent used freed ≡ take (used - freed) (drop freed x) =
+    ap (λ k. kept_in sealed last k used freed) none
+    ∙ ap (λ k. drop freed (take k x)) size
+    ∙ drop-take freed (used - freed) x in
+    ([], same ∙ sym (append-nil (take (used - freed) (drop freed x))), λ e. same ∙ e)
+
+pub kept-start-lent : (sealed : List (List ℕ)) (last : List ℕ) (lent used freed : ℕ) → 0 < lent → IsLaid sealed last lent used freed
+    → IsStartOf (kept_in sealed last lent used freed) (drop freed (first (left_in sealed last 0)))
+kept-start-lent [] last lent used freed more laid = absurd (omega (arith, laid.few))
+kept-start-lent (x ∷ sealed) last zero used freed more laid = absurd (omega arith)
+kept-start-lent (x ∷ sealed) last (suc lent) used freed more laid =
+    let rest = concat (take lent sealed) ++ take used (first (left_in (x ∷ sealed) last (suc lent))) in (
+      rest,
+      ap (drop freed) (append_assoc x (concat (take lent sealed)) (take used (first (left_in (x ∷ sealed) last (suc lent)))))
+          ∙ drop-append-le freed x rest (within freed laid.needed),
+      λ none. absurd (no-drop freed x (short freed laid.needed) none),
+    )
+  where
+    short : (n : ℕ) → (0 < n → n < length x) → n < length x
+    short zero h = laid.filled 0 (omega arith)
+    short (suc n) h = h (omega arith)
+
+    within : (n : ℕ) → (0 < n → n < length x) → n ≤ length x
+    within n h = omega (arith, short n h)
+
+pub freed-used : (sealed : List (List ℕ)) (last : List ℕ) (lent used freed : ℕ) → lent ≡ 0 → IsLaid sealed last lent used freed → freed ≤ used
+freed-used sealed last lent used freed none laid =
+    let given : freed ≤ length (given_in sealed last 0 used) =
+    subst (λ (k : ℕ). freed ≤ length (given_in sealed last k used)) none laid.given in
+    omega (arith, given, length-take used (first (left_in sealed last 0)))

@@ -1,4 +1,4 @@
--- The last block is cleared and used again once nothing of it is kept.
+-- The last block is empty again once nothing of it is kept.
 use Rattle.std.proofs.Common.{◌≡◌, ◌≢◌, inl, inr, ℕ, zero, suc, ◌+◌, ◌-◌, ◌<◌, ◌≤◌, List, [], ◌∷◌, ◌++◌, length, take, refl, sym, ap, ◌∙◌, subst, arith, get_or, length-drop, length-take}
 use Rattle.std.proofs.lemmas.List.{drop_all, get_or-drop}
 use Rattle.vesgrauf_queue.specs.Pieces.{first}

@@ -53,7 +53,7 @@ pub record Cut (old : List (List ℕ)) (last : List ℕ) (lent excess : ℕ) (ne
   pub rest : concat (left_in new new_last lent)
       ≡ take (length (concat (left_in old last lent)) - excess) (concat (left_in old last lent))
 
--- The last block is cleared if it is the only one and all of its bytes were freed; else nothing changes.
+-- The last block is empty again if it is the only one and all of its bytes were freed; else nothing changes.
 abbrev pub Reuses : (sealed : List (List ℕ)) (last : List ℕ) (used freed : ℕ) (new_last : List ℕ) (new_used new_freed : ℕ) → Type 0
 Reuses sealed last used freed new_last new_used new_freed =
     ((sealed ≡ []) × (freed ≡ length last) × (new_last ≡ []) × (new_used ≡ 0) × (new_freed ≡ 0))

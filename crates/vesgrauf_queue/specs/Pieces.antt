@@ -32,6 +32,10 @@ after_first n [] = []
 after_first n (x ∷ []) = drop n x ∷ []
 after_first n (x ∷ y ∷ xs) = if n == length x then y ∷ xs else drop n x ∷ y ∷ xs
 
+-- the first bytes of these, and none only if there are none
+abbrev pub IsStartOf : List ℕ → List ℕ → Type 0
+IsStartOf all some = (rest : List ℕ) × (all ≡ some ++ rest) × (some ≡ [] → all ≡ [])
+
 -- What is shown of them at once: at most 16,384 bytes of the first piece, and as many of the second as that leaves.
 abbrev pub shown_first : List (List ℕ) → List ℕ
 shown_first xs = take 16384 (first xs)

@@ -1,6 +1,7 @@
 //! The bytes of a stream in blocks, which never move.
 ghost use Rattle.vesgrauf_queue.specs.Layout.{IsLaid, parts};
 
+use crate::spares::{BLOCK, Spares};
 use std::alloc::{AllocError, Global};
 use std::collections::VecDeque;
 use std::mem::replace;
@@ -9,8 +10,8 @@ mod room;
 
 use room::{block_at, cut_last, drop_freed, fill, reuse};
 
-/// How many bytes a block has room for, unless it is made for more.
-const BLOCK: usize = 16_384;
+/// Fewer bytes than these are copied, so that none of them takes a block.
+const FEW: usize = 4_096;
 
 /// How many bytes are shown at once.
 const MOST: usize = 16_384;
@@ -38,7 +39,7 @@ impl Blocks {
     ghost use Rattle.std.specs.Prelude.{◌≡◌, ◌⊎◌, if◌then◌else◌, false, ◌+◌, ◌-◌, ◌^◌, ◌<◌, [], ◌∷◌, ◌++◌, ◌≤◌, length, drop, take, OnOk, OnErr, IfErr, vec_len, vec_capacity};
     ghost use Rattle.std.specs.VecDeque.{deque_len, deque_capacity};
     ghost use Rattle.std.specs.List.{concat};
-    ghost use Rattle.vesgrauf_queue.specs.Pieces.{first as first_of, second as second_of, onto_last, Adds, AddsBoth, after_first, after_shown, shown, shown_first as shown_first_of, shown_second as shown_second_of};
+    ghost use Rattle.vesgrauf_queue.specs.Pieces.{first as first_of, second as second_of, onto_last, Adds, AddsBoth, IsStartOf, after_first, after_shown, shown, shown_first as shown_first_of, shown_second as shown_second_of};
     ghost use Rattle.vesgrauf_queue.specs.Blocks.{pieces, kept};
 
     /// Creates blocks without bytes. Nothing is allocated.
@@ -76,8 +77,8 @@ impl Blocks {
     }
 
     // Seals the last block, unless it is empty, and goes on with a fresh one.
-    fn seal(&mut self, fresh: Vec<u8>)
-        requires room { deque_len self.old.sealed < deque_capacity self.old.sealed }
+    fn seal(&mut self, spares: &mut Spares, fresh: Vec<u8>)
+        requires room { 0 < length self.old.last.items → deque_len self.old.sealed < deque_capacity self.old.sealed }
         requires empty { fresh.items ≡ [] }
         ensures pieces { (pieces self.new ≡ pieces self.old) ⊎ (pieces self.new ≡ pieces self.old ++ [] ∷ []) }
         ensures kept { kept self.new ≡ kept self.old }
@@ -89,6 +90,7 @@ impl Blocks {
         let given = self.lent == self.sealed.len() && self.used == self.last.len();
         let block = replace(&mut self.last, fresh);
         if block.is_empty() {
+            spares.put(block);
             return;
         }
         self.sealed.push_back_reserved(block);
@@ -110,7 +112,12 @@ impl Blocks {
     }
 
     // Goes on with a block of this capacity, if the last one has no room for so many bytes.
-    fn make_room(&mut self, len: usize, capacity: usize) -> Result<(), AllocError>
+    fn make_room(
+        &mut self,
+        spares: &mut Spares,
+        len: usize,
+        capacity: usize,
+    ) -> Result<(), AllocError>
         requires { len ≤ capacity }
         ensures pieces { (pieces self.new ≡ pieces self.old) ⊎ (pieces self.new ≡ pieces self.old ++ [] ∷ []) }
         ensures kept { kept self.new ≡ kept self.old }
@@ -122,9 +129,11 @@ impl Blocks {
         if len <= self.last.capacity() - self.last.len() {
             return Ok(());
         }
-        self.sealed.reserve(1)?;
-        let fresh = Vec::with_capacity(self.alloc, capacity)?;
-        self.seal(fresh);
+        if !self.last.is_empty() {
+            self.sealed.reserve(1)?;
+        }
+        let fresh = spares.take(capacity)?;
+        self.seal(spares, fresh);
         Ok(())
     }
 
@@ -144,13 +153,13 @@ impl Blocks {
     /// # Errors
     ///
     /// If memory is refused: nothing changes then.
-    pub fn push(&mut self, head: &[u8], bytes: &[u8]) -> Result<(), AllocError>
+    pub fn push(&mut self, spares: &mut Spares, head: &[u8], bytes: &[u8]) -> Result<(), AllocError>
         ensures ok { OnOk result (Adds (pieces self.old) (head.now ++ bytes.now) (pieces self.new)) }
         ensures kept { kept self.new ≡ kept self.old }
         ensures err { OnErr result (pieces self.new ≡ pieces self.old) }
     {
         let len = head.len() + bytes.len();
-        self.make_room(len, len.max(BLOCK))?;
+        self.make_room(spares, len, len.max(BLOCK))?;
         self.add(head, bytes);
         Ok(())
     }
@@ -160,7 +169,12 @@ impl Blocks {
     /// # Errors
     ///
     /// Returns the block if memory is refused: nothing changes then.
-    pub fn push_block(&mut self, head: &[u8], block: Vec<u8>) -> Result<(), Vec<u8>>
+    pub fn push_block(
+        &mut self,
+        spares: &mut Spares,
+        head: &[u8],
+        block: Vec<u8>,
+    ) -> Result<(), Vec<u8>>
         requires { 0 < length block.items }
         ensures ok { OnOk result (AddsBoth (pieces self.old) head.now block.items (pieces self.new)) }
         ensures kept { kept self.new ≡ kept self.old }
@@ -169,29 +183,34 @@ impl Blocks {
         if self.sealed.reserve(3).is_err() {
             return Err(block);
         }
-        if self.make_room(head.len(), head.len()).is_err() {
+        if self.make_room(spares, head.len(), head.len()).is_err() {
             return Err(block);
         }
         self.add(head, &[]);
-        self.seal(Vec::new(self.alloc));
+        self.seal(spares, Vec::new(self.alloc));
         self.seal_block(block);
         Ok(())
     }
 
-    /// Adds a copy of a head, and bytes after it, which are not copied. Each lies in one slice.
+    /// Adds a copy of a head, and bytes after it, which are not copied unless they are few. Each lies in one slice.
     ///
     /// # Errors
     ///
     /// Returns the bytes if memory is refused: nothing changes then.
-    pub fn push_whole(&mut self, head: &[u8], bytes: Vec<u8>) -> Result<(), Vec<u8>>
+    pub fn push_whole(
+        &mut self,
+        spares: &mut Spares,
+        head: &[u8],
+        bytes: Vec<u8>,
+    ) -> Result<(), Vec<u8>>
         ensures ok { OnOk result (AddsBoth (pieces self.old) head.now bytes.items (pieces self.new)) }
         ensures kept { kept self.new ≡ kept self.old }
         ensures err { IfErr result (λ v. (v ≡ bytes) × (pieces self.new ≡ pieces self.old)) }
     {
-        if !bytes.is_empty() {
-            return self.push_block(head, bytes);
+        if bytes.len() >= FEW {
+            return self.push_block(spares, head, bytes);
         }
-        match self.push(head, &[]) {
+        match self.push(spares, head, bytes.as_slice()) {
             Ok(()) => Ok(()),
             Err(_) => Err(bytes),
         }
@@ -246,7 +265,7 @@ impl Blocks {
     }
 
     /// Gives the first of the bytes that are shown. If they are not to be kept they are freed.
-    pub fn hand_over(&mut self, len: usize, keep: bool)
+    pub fn hand_over(&mut self, spares: &mut Spares, len: usize, keep: bool)
         requires within { len ≤ length (shown (pieces self.old)) }
         requires none { keep ≡ false → kept self.old ≡ [] }
         ensures pieces { pieces self.new ≡ after_shown len (pieces self.old) }
@@ -255,33 +274,58 @@ impl Blocks {
     {
         self.give_shown(len);
         if !keep {
-            self.free(len);
+            self.free(spares, len);
         }
     }
 
+    /// Returns the first of the bytes that are kept, as far as they lie in one slice.
+    pub fn first_kept(&self) -> &[u8]
+        ensures { IsStartOf (kept self.now) result.now }
+    {
+        let block = block_at(&self.sealed, &self.last, 0);
+        if self.lent == 0 {
+            return &block[self.freed..self.used];
+        }
+        &block[self.freed..]
+    }
+
     /// Frees the first `len` bytes that are kept.
-    pub fn free(&mut self, len: usize)
+    pub fn free(&mut self, spares: &mut Spares, len: usize)
         requires within { len ≤ length (kept self.old) }
         requires few { length (kept self.old) < 2 ^ 62 }
         ensures kept { kept self.new ≡ drop len (kept self.old) }
         ensures pieces { pieces self.new ≡ pieces self.old }
     {
-        let (lent, freed) = drop_freed(&mut self.sealed, self.lent, self.freed + len);
-        let (used, freed) = reuse(&self.sealed, &mut self.last, self.used, freed);
+        let (lent, freed) = drop_freed(&mut self.sealed, spares, self.lent, self.freed + len);
+        let (used, freed) = reuse(
+            &self.sealed,
+            &mut self.last,
+            spares,
+            self.alloc,
+            self.used,
+            freed,
+        );
         self.lent = lent;
         self.used = used;
         self.freed = freed;
     }
 
     /// Removes the last `excess` bytes that were not given.
-    pub fn cut(&mut self, excess: usize)
+    pub fn cut(&mut self, spares: &mut Spares, excess: usize)
         requires { excess ≤ length (concat (pieces self.old)) }
         ensures pieces { concat (pieces self.new)
             ≡ take (length (concat (pieces self.old)) - excess) (concat (pieces self.old)) }
         ensures kept { kept self.new ≡ kept self.old }
     {
-        cut_last(&mut self.sealed, &mut self.last, self.lent, excess);
-        let (used, freed) = reuse(&self.sealed, &mut self.last, self.used, self.freed);
+        cut_last(&mut self.sealed, &mut self.last, spares, self.lent, excess);
+        let (used, freed) = reuse(
+            &self.sealed,
+            &mut self.last,
+            spares,
+            self.alloc,
+            self.used,
+            self.freed,
+        );
         self.used = used;
         self.freed = freed;
     }

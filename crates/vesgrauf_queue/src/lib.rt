@@ -8,3 +8,4 @@ pub mod error;
 pub mod laws;
 pub mod next;
 pub mod queue;
+pub mod spares;

@@ -4,6 +4,7 @@ use crate::config::QueueConfig;
 use crate::ending::{Ending, Reset};
 use crate::error::{NotQueued, NotShown, NotTaken};
 use crate::next::Next;
+use crate::spares::Spares;
 use std::alloc::Global;
 use std::marker::Model;
 
@@ -44,7 +45,7 @@ impl Model for Queue {
 
 impl Queue {
     ghost use Rattle.std.specs.Prelude.{◌≡◌, ◌≢◌, [], drop, ◌<◌, ◌≤◌, ◌+◌, ◌-◌, ◌^◌, ◌↔◌, ◌++◌, ◌&&◌, ◌==◌, length, take, not, true, false, IfOk, OnOk, OnErr, IfErr, IsErr, IsTrue, MatchBool, MatchOption};
-    ghost use Rattle.vesgrauf_queue.specs.Pieces.{Adds, AddsBoth, shown, after_shown};
+    ghost use Rattle.vesgrauf_queue.specs.Pieces.{Adds, AddsBoth, IsStartOf, shown, after_shown};
     ghost use Rattle.vesgrauf_queue.specs.State.{State, waiting, counted as counted_is, is_full as is_full_is, is_half_free, is_reset, IsIdle, Shows, IsNotDue, HasNoReset, CanQueue, IsWhyNot, IsWhyNever};
     ghost use Rattle.vesgrauf_queue.specs.Steps.{IsNew, Does, Queues, Refuses, Finishes, Resets, Puts, PutsReset, Acknowledges, Tells, ends_with};
 
@@ -105,7 +106,12 @@ impl Queue {
     /// `Over` if the stream was finished or reset. If not, `TooLong` if it would have more than 2^62 - 1 bytes. If not,
     /// `Memory` if memory is refused. Nothing changes then.
     #[tactic(auto, using(crate::proofs::QueueLemmas::queue_steps))]
-    pub fn push(&mut self, head: &[u8], bytes: &[u8]) -> Result<bool, NotQueued>
+    pub fn push(
+        &mut self,
+        spares: &mut Spares,
+        head: &[u8],
+        bytes: &[u8],
+    ) -> Result<bool, NotQueued>
         ensures queued { IfOk result (λ room. Does (Queues (head.now ++ bytes.now) room) self.old self.new) }
         ensures together { OnOk result (Adds self.old.pieces (head.now ++ bytes.now) self.new.pieces) }
         ensures err { IfErr result (λ why. IsWhyNot self.old (length head.now + length bytes.now) why × (self.new ≡ self.old)) }
@@ -113,7 +119,7 @@ impl Queue {
     {
         let len = head.len() + bytes.len();
         self.check(len)?;
-        match self.blocks.push(head, bytes) {
+        match self.blocks.push(spares, head, bytes) {
             Ok(()) => {
                 self.waits += len;
                 let room = !self.is_full();
@@ -131,7 +137,12 @@ impl Queue {
     ///
     /// As [`push`](Self::push), with the bytes. Nothing changes then.
     #[tactic(auto, using(crate::proofs::QueueLemmas::queue_steps))]
-    pub fn push_owned(&mut self, head: &[u8], bytes: Vec<u8>) -> Result<bool, NotTaken>
+    pub fn push_owned(
+        &mut self,
+        spares: &mut Spares,
+        head: &[u8],
+        bytes: Vec<u8>,
+    ) -> Result<bool, NotTaken>
         ensures queued { IfOk result (λ room. Does (Queues (head.now ++ bytes.items) room) self.old self.new) }
         ensures together { OnOk result (AddsBoth self.old.pieces head.now bytes.items self.new.pieces) }
         ensures err { IfErr result (λ e. IsWhyNot self.old (length head.now + length bytes.items) e.why
@@ -142,7 +153,7 @@ impl Queue {
         if let Err(why) = self.check(len) {
             return Err(NotTaken { why, bytes });
         }
-        match self.blocks.push_whole(head, bytes) {
+        match self.blocks.push_whole(spares, head, bytes) {
             Ok(()) => {
                 self.waits += len;
                 let room = !self.is_full();
@@ -200,7 +211,7 @@ impl Queue {
     /// Resets the stream with an error code. What waits is dropped, but for the first `size` bytes of the stream. What
     /// QUIC took is kept as before. Returns false, and nothing changes, if the stream was reset.
     #[tactic(auto, using(crate::proofs::QueueLemmas::queue_steps))]
-    pub fn reset(&mut self, code: u64, size: u64) -> bool
+    pub fn reset(&mut self, spares: &mut Spares, code: u64, size: u64) -> bool
         ensures { MatchBool result (Does (Resets code size) self.old self.new)
             ((self.new ≡ self.old) × (is_reset self.old.ending ≡ true)) }
     {
@@ -209,7 +220,7 @@ impl Queue {
         }
         let waits = self.waits as u64;
         let still = size.saturating_sub(self.put).min(waits) as usize;
-        self.blocks.cut(self.waits - still);
+        self.blocks.cut(spares, self.waits - still);
         self.waits = still;
         self.ending = Ending::Resetting(Reset {
             code,
@@ -241,7 +252,7 @@ impl Queue {
     ///
     /// If so many bytes are not shown: nothing changes then.
     #[tactic(auto, using(crate::proofs::QueueLemmas::queue_steps))]
-    pub fn sent(&mut self, len: usize) -> Result<(), NotShown>
+    pub fn sent(&mut self, spares: &mut Spares, len: usize) -> Result<(), NotShown>
         ensures ok { OnOk result (Does (Puts (take len (waiting self.old)) (ends_with self.old (drop len (waiting self.old)))) self.old self.new) }
         ensures pieces { OnOk result (self.new.pieces ≡ after_shown len self.old.pieces) }
         ensures refused { IsErr result ↔ (length (shown self.old.pieces) < len) }
@@ -251,7 +262,8 @@ impl Queue {
         if shown < len {
             return Err(NotShown);
         }
-        self.blocks.hand_over(len, self.config.keep_until_acked);
+        self.blocks
+            .hand_over(spares, len, self.config.keep_until_acked);
         self.waits -= len;
         self.put += len as u64;
         self.ending = self.ending.after(self.waits);
@@ -264,7 +276,7 @@ impl Queue {
     ///
     /// If QUIC did not take so many: nothing changes then.
     #[tactic(auto, using(crate::proofs::QueueLemmas::queue_steps))]
-    pub fn acked(&mut self, len: u64) -> Result<(), NotShown>
+    pub fn acked(&mut self, spares: &mut Spares, len: u64) -> Result<(), NotShown>
         ensures ok { OnOk result (Does (Acknowledges len) self.old self.new) }
         ensures refused { IsErr result ↔ (self.old.put < self.old.acked + len) }
         ensures err { OnErr result (self.new ≡ self.old) }
@@ -273,10 +285,18 @@ impl Queue {
             return Err(NotShown);
         }
         if self.config.keep_until_acked {
-            self.blocks.free(len as usize);
+            self.blocks.free(spares, len as usize);
         }
         self.acked += len;
         Ok(())
+    }
+
+    /// Returns the first of the bytes that are kept, as far as they lie in one slice. They stay there until they are
+    /// acknowledged.
+    pub fn first_kept(&self) -> &[u8]
+        ensures { IsStartOf self.now.kept result.now }
+    {
+        self.blocks.first_kept()
     }
 
     /// Returns the reset that QUIC is to take, once it took the bytes that are reliable, or `None` if there is none. It

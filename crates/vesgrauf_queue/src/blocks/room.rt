@@ -5,7 +5,10 @@ ghost use Rattle.std.specs.VecDeque.{deque_len};
 ghost use Rattle.vesgrauf_queue.specs.Pieces.{first};
 ghost use Rattle.vesgrauf_queue.specs.Layout.{parts, left_in, Freed, Cut, Reuses};
 
+use crate::spares::Spares;
+use std::alloc::Global;
 use std::collections::VecDeque;
+use std::mem::replace;
 
 /// Returns the bytes of the block with this number, which is the last one if so many are not sealed.
 pub(super) fn block_at<'a>(sealed: &'a VecDeque<Vec<u8>>, last: &'a Vec<u8>, at: usize) -> &'a [u8]
@@ -30,6 +33,7 @@ pub(super) fn fill(block: &mut Vec<u8>, head: &[u8], bytes: &[u8])
 /// them.
 pub(super) fn drop_freed(
     sealed: &mut VecDeque<Vec<u8>>,
+    spares: &mut Spares,
     lent: usize,
     freed: usize,
 ) -> (usize, usize)
@@ -46,7 +50,9 @@ pub(super) fn drop_freed(
         if freed < len {
             break;
         }
-        let _ = sealed.pop_front();
+        if let Some(block) = sealed.pop_front() {
+            spares.put(block);
+        }
         freed -= len;
         lent -= 1;
     }
@@ -57,6 +63,7 @@ pub(super) fn drop_freed(
 pub(super) fn cut_last(
     sealed: &mut VecDeque<Vec<u8>>,
     last: &mut Vec<u8>,
+    spares: &mut Spares,
     lent: usize,
     excess: usize,
 )
@@ -70,23 +77,25 @@ pub(super) fn cut_last(
             break
         };
         excess -= last.len();
-        *last = block;
+        spares.put(replace(last, block));
     }
     last.truncate(last.len() - excess);
 }
 
-/// Clears the last block, if it is the only one and all of its bytes were freed. Returns how many of its bytes are given
-/// and freed then.
+/// Goes on without the last block, if it is the only one and all of its bytes were freed. Returns how many of the last
+/// block's bytes are given and freed then.
 pub(super) fn reuse(
     sealed: &VecDeque<Vec<u8>>,
     last: &mut Vec<u8>,
+    spares: &mut Spares,
+    alloc: Global,
     used: usize,
     freed: usize,
 ) -> (usize, usize)
     ensures { Reuses (parts sealed.now.items) last.old.items used freed last.new.items result.0 result.1 }
 {
     if sealed.is_empty() && freed == last.len() {
-        last.clear();
+        spares.put(replace(last, Vec::new(alloc)));
         return (0, 0);
     }
     (used, freed)

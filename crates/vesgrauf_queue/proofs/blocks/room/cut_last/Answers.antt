@@ -21,8 +21,11 @@ cutting-preserved c =
     c.in-Some.block.items c.args.lent c.args.excess c.cutting.excess before
     (omega (arith, c.cutting-test.true, c.len.ensures, c.cutting.last.ok.0))
     (omega (arith, c.if-len-lent.true, c.len-in-cutting.ensures, c.cutting.sealed.ok.0, length-parts vs, ap length popped)) in
-    subst (λ (n : ℕ). Cutting (parts c.args.sealed.now.items) c.args.last.now.items c.args.lent c.args.excess (parts c.pop_back.new.self.items) c.in-Some.block.items (c.cutting.excess - n))
-    (sym len) more
+    let last : c.replace.new.dest.items ≡ c.in-Some.block.items = ap (λ v. v.items) c.replace.ensures.after in
+    subst (λ (o : List ℕ). Cutting (parts c.args.sealed.now.items) c.args.last.now.items c.args.lent c.args.excess (parts c.pop_back.new.self.items) o (c.cutting.excess - c.len-excess.result))
+    (sym last)
+    (subst (λ (n : ℕ). Cutting (parts c.args.sealed.now.items) c.args.last.now.items c.args.lent c.args.excess (parts c.pop_back.new.self.items) c.in-Some.block.items (c.cutting.excess - n))
+    (sym len) more)
 
 pub returns : goal.returns
 returns c =
