@@ -137,7 +137,8 @@ class Wanted:
 def final_fields(said):
     """Returns the fields of the first header section that is not of an interim response, as the
     index has them, with one character for each byte."""
-    sections = ([encoded(line) for line in thing["HEADERS"]] for thing in said if "HEADERS" in thing)
+    heads = (thing["HEADERS"] for thing in said if "HEADERS" in thing)
+    sections = ([encoded(line) for line in lines] for lines in heads)
     return next((fields for fields in sections if not is_interim(fields)), None)
 
 

@@ -1,14 +1,15 @@
 #!/usr/bin/env -S python3 -B
-"""Tests what `wt_inspect connection` says of the rules that a connection breaks across its streams, and
-of how its sessions went.
+"""Tests what `wt_inspect connection` says of the rules that a connection breaks across its streams,
+and of how its sessions went.
 
     tools/inspect_verdicts.py [DIR]
 
-Each row of tools/verdict_rows.py and tools/summary_rows.py is a list of recordings that are made for
-it. The sessions of each are those that an independent reader finds (tools/session_summaries.py), and
-those of the latter rows are written there, too. Then come the connections of DIR (default: tools/recordings.d), whose streams are still open: no real stack
-breaks a rule. The program is built once, without proof, or is the one named by the environment
-variable PROGRAM. Ends with a line 'N passed, M failed'.
+Each row of tools/verdict_rows.py and tools/summary_rows.py is a list of recordings that are made
+for it. The sessions of each are those that an independent reader finds (tools/session_summaries.py),
+and those of the latter rows are written there, too. Then come the connections of DIR (default:
+tools/recordings.d), whose streams are still open: no real stack breaks a rule. The program is built
+once, without proof, or is the one named by the environment variable PROGRAM. Ends with a line
+'N passed, M failed'.
 """
 
 import json
@@ -86,8 +87,8 @@ def text_fault(case, verdicts):
 
 
 def sessions_fault(row, as_json, as_text):
-    """Returns what is wrong with what is said of the sessions of a row, in JSON before the verdicts,
-    and in the text as the part before them."""
+    """Returns what is wrong with what is said of the sessions of a row, in JSON before the
+    verdicts, and in the text as the part before them."""
     recording = Recording([(at, end, content) for (at, end), content in row.sent.items()])
     wanted = summaries_of(recording, row.options == "--open")
     items = [json.loads(line) for line in as_json.output.splitlines()]

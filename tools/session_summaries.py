@@ -1,5 +1,5 @@
-"""How the sessions of a recorded connection went, as an independent reader finds it in the bytes that
-each end sent: what wt_inspect has to say of them, as objects and as lines of text.
+"""How the sessions of a recorded connection went, as an independent reader finds it in the bytes
+that each end sent: what wt_inspect has to say of them, as objects and as lines of text.
 """
 
 from dataclasses import dataclass
@@ -255,7 +255,9 @@ def shown_reason(value):
     """Returns a text as it is, or escaped if a character of it needs that."""
     text = value.decode()
     is_plain = text.isprintable() and "\\" not in text and "\u258c" not in text
-    return text if is_plain else escaped(value, lambda byte: not 0x20 <= byte <= 0x7E or byte == 0x5C)
+    if is_plain:
+        return text
+    return escaped(value, lambda byte: not 0x20 <= byte <= 0x7E or byte == 0x5C)
 
 
 def summaries_of(recording, is_open):

@@ -158,7 +158,8 @@ LINES = {
         f"session 0: unknown path at a, response not recorded, {NONE}; open"
     ],
     "a-hostile-path": [
-        "session 0: /\\x0a\\xe2\\x96\\x8c\\x20a\\x20at\\x20b,\\x20status\\x20200\\x5c\\xe2\\x80\\xae"
+        "session 0: /\\x0a\\xe2\\x96\\x8c\\x20a\\x20at\\x20b,\\x20status\\x20200"
+        "\\x5c\\xe2\\x80\\xae"
         f" at \\xff\\x20;, response not recorded, {NONE}; open"
     ],
     "a-hostile-reason": [
