@@ -5,11 +5,11 @@ and of how its sessions went.
     tools/inspect_verdicts.py [DIR]
 
 Each row of tools/verdict_rows.py and tools/summary_rows.py is a list of recordings that are made
-for it. The sessions of each are those that an independent reader finds (tools/session_summaries.py),
-and those of the latter rows are written there, too. Then come the connections of DIR (default:
-tools/recordings.d), whose streams are still open: no real stack breaks a rule. The program is built
-once, without proof, or is the one named by the environment variable PROGRAM. Ends with a line
-'N passed, M failed'.
+for it. The sessions of each are those that an independent reader finds
+(tools/session_summaries.py), and those of the latter rows are written there, too. Then come the
+connections of DIR (default: tools/recordings.d), whose streams are still open: no real stack breaks
+a rule. The program is built once, without proof, or is the one named by the environment variable
+PROGRAM. Ends with a line 'N passed, M failed'.
 """
 
 import json
