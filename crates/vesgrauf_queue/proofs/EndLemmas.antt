@@ -7,11 +7,11 @@ use Rattle.vesgrauf_queue.specs.declared.config.QueueConfig.{QueueConfig}
 use Rattle.vesgrauf_queue.specs.declared.ending.Reset.{Reset}
 use Rattle.vesgrauf_queue.specs.declared.ending.Ending.{Ending}
 use Rattle.vesgrauf_queue.specs.declared.ending.Ending.TheVariants.{Open, Finishing, Finished, Resetting, WasReset}
-use Rattle.vesgrauf_queue.specs.State.{State, waiting, is_finishing, is_reset}
+use Rattle.vesgrauf_queue.specs.State.{State, waiting, is_finishing, is_reset, IsIdle}
 use Rattle.vesgrauf_queue.specs.Steps.{Step, Queues, Refuses, Finishes, Resets, Puts, PutsReset, Acknowledges, Tells, Leads, Run, IsPut, ends_with}
-use Rattle.vesgrauf_queue.specs.Runs.{queued, put, finished, fin_put, PutsInOrder}
+use Rattle.vesgrauf_queue.specs.Runs.{queued, put, finished, fin_put, PutsInOrder, was_reset}
 use Rattle.vesgrauf_queue.proofs.PieceLemmas.{no-bytes}
-use Rattle.vesgrauf_queue.proofs.RunLemmas.{is_open, is_reset_put, not_open, closed}
+use Rattle.vesgrauf_queue.proofs.RunLemmas.{tracks, is_open, is_reset_put, not_open, closed}
 
 -- ---- the end, and after it
 
@@ -250,3 +250,48 @@ pub whole-new : (config : QueueConfig) (xs : List Step) (t : State) → Run conf
 whole-new config xs t run h =
     let w = whole xs run.0 t run.2 h in
     (w.bytes ∙ ap (λ b. b ++ queued xs) run.1.waits, w.ended (ap is_open run.1.ending))
+
+-- ---- what is left where nothing is to be put
+
+-- a stream that is to end goes on to until QUIC takes the end, if it is not reset
+goes-on : (xs : List Step) (s t : State) → Leads xs s t → was_reset xs ≡ false → fin_put xs ≡ false
+    → (is_finishing s.ending || finished xs) ≡ true → is_finishing t.ending ≡ true
+goes-on [] s t l none out h = ap (λ (x : State). is_finishing x.ending) l ∙ by (is_finishing s.ending) h
+  where
+    by : (a : Bool) → (a || false) ≡ true → a ≡ true
+    by true e = refl
+    by false e = e
+goes-on (Queues bytes room ∷ xs) s t l none out h =
+    goes-on xs l.0 t l.2 none out (ap (λ a. a || finished xs) (ap is_finishing l.1.ending) ∙ h)
+goes-on (Refuses ∷ xs) s t l none out h =
+    goes-on xs l.0 t l.2 none out (ap (λ a. a || finished xs) (ap is_finishing l.1.ending) ∙ h)
+goes-on (Finishes ∷ xs) s t l none out h = goes-on xs l.0 t l.2 none out (or-left (is_finishing l.0.ending) (finished xs) (ap is_finishing l.1.ending))
+goes-on (Resets code size ∷ xs) s t l none out h = absurd (false≢true (sym none))
+goes-on (Puts bytes true ∷ xs) s t l none out h = absurd (false≢true (sym out))
+goes-on (Puts bytes false ∷ xs) s t l none out h =
+    goes-on xs l.0 t l.2 none out (ap (λ a. a || finished xs) (ap is_finishing l.1.ending) ∙ h)
+goes-on (PutsReset code size ∷ xs) s t l none out h =
+    goes-on xs l.0 t l.2 none out (or-right (is_finishing l.0.ending) (finished xs) (by (ap is_finishing l.1.from) h))
+  where
+    by : {a b : Bool} → a ≡ false → (a || b) ≡ true → b ≡ true
+    by {a} {b} e k = ap (λ x. x || b) (sym e) ∙ k
+goes-on (Acknowledges n ∷ xs) s t l none out h =
+    goes-on xs l.0 t l.2 none out (ap (λ a. a || finished xs) (ap is_finishing l.1.ending) ∙ h)
+goes-on (Tells ∷ xs) s t l none out h =
+    goes-on xs l.0 t l.2 none out (ap (λ a. a || finished xs) (ap is_finishing l.1.ending) ∙ h)
+
+pub ended-idle : (config : QueueConfig) (xs : List Step) (t : State) → Run config xs t → IsIdle t → was_reset xs ≡ false
+    → finished xs ≡ true → fin_put xs ≡ true
+ended-idle config xs t run idle none done = by (fin_put xs) refl
+  where
+    by : (b : Bool) → fin_put xs ≡ b → b ≡ true
+    by true e = refl
+    by false e = absurd (false≢true (sym idle.ended ∙ goes-on xs run.0 t run.2 none e (or-right (is_finishing run.0.ending) (finished xs) done)))
+
+pub put-idle : (config : QueueConfig) (xs : List Step) (t : State) → Run config xs t → IsIdle t → was_reset xs ≡ false
+    → put xs ≡ queued xs
+put-idle config xs t run idle none =
+    sym (append-nil (put xs))
+    ∙ ap (λ w. put xs ++ w) (sym idle.none)
+    ∙ sym (tracks xs run.0 t run.2 none)
+    ∙ ap (λ w. w ++ queued xs) run.1.waits

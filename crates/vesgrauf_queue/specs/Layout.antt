@@ -14,6 +14,7 @@ parts vs = map (λ v. v.items) vs
 abbrev pub left_in : List (List ℕ) → List ℕ → ℕ → List (List ℕ)
 left_in sealed last lent = drop lent sealed ++ last ∷ []
 
+-- without the first bytes of the first one
 abbrev pub without_front : ℕ → List (List ℕ) → List (List ℕ)
 without_front used [] = []
 without_front used (x ∷ xs) = drop used x ∷ xs

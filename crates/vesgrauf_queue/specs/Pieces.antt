@@ -2,11 +2,12 @@
 -- empty.
 use Rattle.std.specs.Prelude.{◌≡◌, ◌⊎◌, ℕ, ◌-◌, ◌==◌, if◌then◌else◌, nat_le, List, [], ◌∷◌, ◌++◌, length, take, drop}
 
--- the first piece, and the one after it
+-- the first piece
 abbrev pub first : List (List ℕ) → List ℕ
 first [] = []
 first (x ∷ xs) = x
 
+-- the piece after the first one
 abbrev pub second : List (List ℕ) → List ℕ
 second [] = []
 second (x ∷ xs) = first xs
@@ -36,13 +37,15 @@ after_first n (x ∷ y ∷ xs) = if n == length x then y ∷ xs else drop n x �
 abbrev pub IsStartOf : List ℕ → List ℕ → Type 0
 IsStartOf all some = (rest : List ℕ) × (all ≡ some ++ rest) × (some ≡ [] → all ≡ [])
 
--- What is shown of them at once: at most 16,384 bytes of the first piece, and as many of the second as that leaves.
+-- what is shown of the first piece: at most 16,384 bytes
 abbrev pub shown_first : List (List ℕ) → List ℕ
 shown_first xs = take 16384 (first xs)
 
+-- of the second piece as many bytes as the first one leaves
 abbrev pub shown_second : List (List ℕ) → List ℕ
 shown_second xs = take (16384 - length (first xs)) (second xs)
 
+-- all that is shown at once
 abbrev pub shown : List (List ℕ) → List ℕ
 shown xs = shown_first xs ++ shown_second xs
 

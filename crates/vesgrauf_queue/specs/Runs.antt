@@ -2,12 +2,13 @@
 use Rattle.std.specs.Prelude.{◌≡◌, ◌⊎◌, ℕ, ◌+◌, ◌≤◌, ◌||◌, not, Bool, true, false, List, [], ◌∷◌, ◌++◌, length, Option, Some, None}
 use Rattle.vesgrauf_queue.specs.Steps.{Step, Queues, Refuses, Finishes, Resets, Puts, PutsReset, Acknowledges, Tells}
 
--- all bytes that were queued, in order; and all that QUIC took
+-- all bytes that were queued, in order
 abbrev pub queued : List Step → List ℕ
 queued [] = []
 queued (Queues bytes room ∷ xs) = bytes ++ queued xs
 queued (x ∷ xs) = queued xs
 
+-- all bytes that QUIC took, in order
 abbrev pub put : List Step → List ℕ
 put [] = []
 put (Puts bytes fin ∷ xs) = bytes ++ put xs
@@ -19,17 +20,19 @@ acked [] = 0
 acked (Acknowledges n ∷ xs) = n + acked xs
 acked (x ∷ xs) = acked xs
 
--- whether the stream was finished and reset, and whether QUIC took the end
+-- whether a call finished the stream
 abbrev pub finished : List Step → Bool
 finished [] = false
 finished (Finishes ∷ xs) = true
 finished (x ∷ xs) = finished xs
 
+-- whether a call reset it
 abbrev pub was_reset : List Step → Bool
 was_reset [] = false
 was_reset (Resets code size ∷ xs) = true
 was_reset (x ∷ xs) = was_reset xs
 
+-- whether QUIC took the end
 abbrev pub fin_put : List Step → Bool
 fin_put [] = false
 fin_put (Puts bytes true ∷ xs) = true

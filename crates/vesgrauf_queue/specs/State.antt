@@ -28,9 +28,11 @@ waiting s = concat s.pieces
 abbrev pub counted : State → ℕ
 counted s = length (waiting s) + (if s.config.bound_by_acked then s.put - s.acked else 0)
 
+-- as many bytes count as the mark says, and at least one
 abbrev pub is_full : State → Bool
 is_full s = nat_lt 0 (counted s) && nat_le s.config.mark (counted s)
 
+-- at most half as many count
 abbrev pub is_half_free : State → Bool
 is_half_free s = nat_le (2 * counted s) s.config.mark
 
@@ -76,13 +78,13 @@ IsWhyNot s n Over = s.ending ≢ Open
 IsWhyNot s n TooLong = (s.ending ≡ Open) × (2 ^ 62 ≤ s.put + length (waiting s) + n)
 IsWhyNot s n Memory = CanQueue s n
 
--- and memory is not needed
+-- why so many bytes are never queued, whatever memory there is
 abbrev pub IsWhyNever : State → ℕ → NotQueued → Type 0
 IsWhyNever s n Over = s.ending ≢ Open
 IsWhyNever s n TooLong = (s.ending ≡ Open) × (2 ^ 62 ≤ s.put + length (waiting s) + n)
 IsWhyNever s n Memory = ⊥
 
--- the counts of a queue, of which the stream has less than 2 ^ 62 bytes (RFC 9000, section 4.5)
+-- the counts of a queue, of which the stream has less than 2 ^ 62 bytes (RFC 9000, section 19.8)
 pub record IsCounted (pieces : List (List ℕ)) (held : List ℕ) (count sent confirmed : ℕ) (config : QueueConfig) : Type 0 where
   pub waits : count ≡ length (concat pieces)
   pub acked : confirmed ≤ sent

@@ -25,6 +25,7 @@ pub record SameSent (s t : State) : Type 0 where
   pub kept : t.kept ≡ s.kept
   pub config : t.config ≡ s.config
 
+-- bytes are queued, with room after them or not
 pub record IsQueued (s : State) (bytes : List ℕ) (room : Bool) (t : State) : Type 0 where
   pub from : s.ending ≡ Open
   pub waits : waiting t ≡ waiting s ++ bytes
@@ -33,6 +34,7 @@ pub record IsQueued (s : State) (bytes : List ℕ) (room : Bool) (t : State) : T
   pub ending : t.ending ≡ s.ending
   pub sent : SameSent s t
 
+-- a call is told that there is no room
 pub record IsRefused (s t : State) : Type 0 where
   pub from : s.ending ≡ Open
   pub full : is_full s ≡ true
@@ -41,6 +43,7 @@ pub record IsRefused (s t : State) : Type 0 where
   pub ending : t.ending ≡ s.ending
   pub sent : SameSent s t
 
+-- the end is to follow what is queued
 pub record IsFinished (s t : State) : Type 0 where
   pub from : s.ending ≡ Open
   pub waits : waiting t ≡ waiting s
@@ -61,6 +64,7 @@ pub record IsReset (s : State) (code size : ℕ) (t : State) : Type 0 where
 abbrev pub ends_with : State → List ℕ → Bool
 ends_with s rest = is_finishing s.ending && length rest == 0
 
+-- QUIC takes bytes, and the end if it follows them
 pub record IsPut (s : State) (bytes : List ℕ) (fin : Bool) (t : State) : Type 0 where
   pub waits : waiting s ≡ bytes ++ waiting t
   pub few : length bytes ≤ 16384
@@ -72,6 +76,7 @@ pub record IsPut (s : State) (bytes : List ℕ) (fin : Bool) (t : State) : Type 
   pub kept : t.kept ≡ (if s.config.keep_until_acked then s.kept ++ bytes else s.kept)
   pub config : t.config ≡ s.config
 
+-- QUIC takes the reset, after all bytes that are reliable
 pub record IsResetPut (s : State) (code size : ℕ) (t : State) : Type 0 where
   pub from : s.ending ≡ Resetting (record { code = code; size = size })
   pub none : waiting s ≡ []
@@ -80,6 +85,7 @@ pub record IsResetPut (s : State) (code size : ℕ) (t : State) : Type 0 where
   pub ending : t.ending ≡ WasReset (record { code = code; size = size })
   pub sent : SameSent s t
 
+-- so many more of the bytes that QUIC took have come
 pub record IsAcknowledged (s : State) (n : ℕ) (t : State) : Type 0 where
   pub within : s.acked + n ≤ s.put
   pub waits : waiting t ≡ waiting s
@@ -90,6 +96,7 @@ pub record IsAcknowledged (s : State) (n : ℕ) (t : State) : Type 0 where
   pub kept : t.kept ≡ drop n s.kept
   pub config : t.config ≡ s.config
 
+-- a `Writable` is told
 pub record IsTold (s t : State) : Type 0 where
   pub from : s.ending ≡ Open
   pub due : s.owed ≡ true
@@ -99,6 +106,7 @@ pub record IsTold (s t : State) : Type 0 where
   pub ending : t.ending ≡ s.ending
   pub sent : SameSent s t
 
+-- what a step does
 abbrev pub Does : Step → State → State → Type 0
 Does (Queues bytes room) s t = IsQueued s bytes room t
 Does Refuses s t = IsRefused s t

@@ -5,7 +5,7 @@
 pub enum NotQueued {
     /// The stream was finished or reset.
     Over,
-    /// The stream would have more than 2^62 - 1 bytes (RFC 9000, section 4.5).
+    /// The stream would have more than 2^62 - 1 bytes (RFC 9000, section 19.8).
     TooLong,
     /// Memory was refused. The call can be repeated.
     Memory,

@@ -1,8 +1,8 @@
 //! Laws of all runs of a queue. Each function does nothing: its contract is the law.
-ghost use Rattle.std.specs.Prelude.{◌≡◌, ◌++◌, ◌≤◌, ℕ, List, [], Bool, true, false, length, drop, None};
+ghost use Rattle.std.specs.Prelude.{◌≡◌, ◌++◌, ◌+◌, ◌≤◌, ℕ, List, [], ◌∷◌, Bool, true, false, length, drop, None};
 ghost use Rattle.vesgrauf_queue.specs.declared.config.QueueConfig.{QueueConfig};
-ghost use Rattle.vesgrauf_queue.specs.State.{State, waiting};
-ghost use Rattle.vesgrauf_queue.specs.Steps.{Step, Run};
+ghost use Rattle.vesgrauf_queue.specs.State.{State, waiting, counted, is_full, IsIdle};
+ghost use Rattle.vesgrauf_queue.specs.Steps.{Step, Queues, Resets, Puts, PutsReset, Does, Run};
 ghost use Rattle.vesgrauf_queue.specs.Runs.{queued, put, acked, finished, was_reset, fin_put, PutsInOrder, ResetsFor, StaysWithin, owed_after};
 
 /// The bytes that were queued are those that QUIC took and then those that wait: none is lost, repeated or in another
@@ -49,4 +49,35 @@ pub fn bytes_are_kept_until_acked()
 pub fn each_refusal_is_answered_once()
     ensures { (config : QueueConfig) (steps : List Step) (s : State) → Run config steps s
         → s.owed ≡ owed_after false steps }
+{}
+
+/// When nothing is to be put of a stream that was not reset, QUIC took all that was queued, and the end if the stream
+/// was finished.
+pub fn nothing_is_left_behind()
+    ensures bytes { (config : QueueConfig) (steps : List Step) (s : State) → Run config steps s
+        → IsIdle s → was_reset steps ≡ false → put steps ≡ queued steps }
+    ensures end { (config : QueueConfig) (steps : List Step) (s : State) → Run config steps s
+        → IsIdle s → was_reset steps ≡ false → finished steps ≡ true → fin_put steps ≡ true }
+{}
+
+/// A queue that is not full takes a call of any size, and is then above the mark by that call at most. One that has no
+/// bytes that count is not full.
+pub fn one_call_passes_the_mark()
+    ensures bound { (s t : State) (bytes : List ℕ) (room : Bool) → is_full s ≡ false
+        → Does (Queues bytes room) s t → counted t ≤ s.config.mark + length bytes }
+    ensures empty { (s : State) → counted s ≡ 0 → is_full s ≡ false }
+{}
+
+/// The definitions refuse bytes after the end, two ends, two resets, bytes and an end after a reset, a reset that nobody
+/// asked for, and one before its reliable bytes. They allow a reset after the end, and before it its reliable bytes.
+pub fn wrong_orders_are_refused()
+    ensures bytes_after_the_end { PutsInOrder false false (Puts (1 ∷ []) true ∷ Puts (2 ∷ []) false ∷ []) → ⊥ }
+    ensures two_ends { PutsInOrder false false (Puts [] true ∷ Puts [] true ∷ []) → ⊥ }
+    ensures two_resets { PutsInOrder false false (PutsReset 1 0 ∷ PutsReset 1 0 ∷ []) → ⊥ }
+    ensures bytes_after_a_reset { StaysWithin None 0 (Resets 1 0 ∷ Puts (1 ∷ []) false ∷ []) → ⊥ }
+    ensures end_after_a_reset { StaysWithin None 0 (Resets 1 0 ∷ Puts [] true ∷ []) → ⊥ }
+    ensures not_asked { ResetsFor [] 0 (PutsReset 1 0 ∷ []) → ⊥ }
+    ensures too_early { ResetsFor [] 0 (Resets 1 2 ∷ Puts (1 ∷ []) false ∷ PutsReset 1 2 ∷ []) → ⊥ }
+    ensures reset_after_the_end { PutsInOrder false false (Puts (1 ∷ []) true ∷ PutsReset 1 0 ∷ []) }
+    ensures reliable { StaysWithin None 0 (Puts (1 ∷ []) false ∷ Resets 1 2 ∷ Puts (2 ∷ []) false ∷ PutsReset 1 2 ∷ []) }
 {}

@@ -8,7 +8,7 @@ use crate::spares::Spares;
 use std::alloc::Global;
 use std::marker::Model;
 
-/// How many bytes a stream may have (RFC 9000, section 4.5).
+/// How many bytes a stream may have (RFC 9000, section 19.8).
 const MAX_LEN: u64 = 4_611_686_018_427_387_903;
 
 /// What is to be sent on one stream, until QUIC takes it, or until it is acknowledged.
