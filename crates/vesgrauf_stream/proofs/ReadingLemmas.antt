@@ -1,5 +1,5 @@
 -- What is heard in bytes that are kept and some of an input.
-use Rattle.std.proofs.Common.{◌≡◌, ℕ, ◌+◌, ◌-◌, ◌≤◌, ◌<◌, ◌⊎◌, inl, inr, ◌||◌, Bool, true, false, List, [], ◌∷◌, ◌++◌, length, take, drop, refl, sym, ap, ◌∙◌, subst, le_trans, le_refl, arith, rules, append-nil, length-append, length-drop, length-take, length-take-le, take_all, take-take, drop-drop, drop_of_length-le}
+use Rattle.std.proofs.Common.{◌≡◌, ℕ, ◌+◌, ◌-◌, ◌≤◌, ◌<◌, ◌⊎◌, inl, inr, ◌||◌, IsTrue, Bool, true, false, List, [], ◌∷◌, ◌++◌, length, take, drop, refl, sym, ap, ◌∙◌, subst, le_trans, le_refl, arith, rules, append-nil, length-append, length-drop, length-take, length-take-le, take_all, take-take, drop-drop, drop_of_length-le}
 use Rattle.std.specs.Prelude.{min, ◌==◌, ◌&&◌}
 use Rattle.std.proofs.lemmas.Bool.{cases_lt}
 use Rattle.std.proofs.lemmas.List.{drop-take, drop-append-le, take-append-le}
@@ -178,7 +178,7 @@ input_hears limit fin c d r s input rest say h consumed empty last gives heard k
           subst (λ b. Call limit c r.stream b (length (unread r input) == length (unread r input) && is_ended r input) (consumed, say, d, s.stream))
           front
           (subst (λ f. Call limit c r.stream i f (consumed, say, d, s.stream)) flag gives);
-      says = heard;
+      says = (heard, λ m. refl);
       left = ap (λ k. k ++ rest.bytes.now) (kept ∙ empty) ∙ bytes ∙ ap (drop consumed) is;
       ends = ap (λ e. e || rest.fin) ended ∙ ap (λ f. r.ended || f) end;
     }
@@ -259,3 +259,6 @@ keep_turns r s input rest h =
     let end : is_ended s rest ≡ is_ended r input =
     ap (λ e. e || rest.fin) h.ended ∙ ap (λ f. is_ended r input || f) h.fin ∙ or_again r.ended input.fin in
     pair (unread r input) (unread s rest) (is_ended r input) (is_ended s rest) (sym bytes) (sym end)
+
+pub not_both : (b : Bool) → b ≡ false → IsTrue b → ⊥
+not_both b e t = search rules

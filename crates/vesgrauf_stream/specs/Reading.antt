@@ -64,9 +64,9 @@ pub record LooksAt (limit : ℕ) (c : Connection) (s : Stream) (bytes : List ℕ
   pub heard : told_in x.heard ≡ without_payload say
   pub more : IsTrue x.more ↔ (say ≡ told.More)
 
--- it is said, or that there is more to look at
+-- it is said, and that more is needed only of all bytes; or there is more to look at
 abbrev pub Says : Found → Told → ℕ → ℕ → Type 0
-Says (found.Heard h) say reach all = told_in h ≡ without_payload say
+Says (found.Heard h) say reach all = (told_in h ≡ without_payload say) × (say ≡ told.More → reach ≡ all)
 Says found.Again say reach all = (say ≡ told.More) × (reach < all)
 
 -- What the layer below gives of the first bytes that were not read, by whether the stream ends after them; and
