@@ -1,0 +1,11 @@
+use Rattle.std.proofs.Common.{◌≡◌, ◌++◌, ◌&&◌, length, take, drop, ℕ, List, Bool, subst, sym, ◌∙◌, ap, refl, le_refl, take_all, true, arith}
+use Rattle.std.specs.Prelude.{◌==◌}
+use Rattle.wtp_webtransport.specs.Events.{told_of}
+use Rattle.wtp_webtransport.specs.Tables.{Call}
+use Rattle.vesgrauf_stream.specs.Reading.{kept_of, unread, is_ended}
+use Rattle.vesgrauf_stream.proofs.ReadingLemmas.{input_hears}
+use Rattle.vesgrauf_stream.proofs.reading.Reading.next_of_input.Goals as goal
+
+pub returns-clause-heard : goal.returns-clause-heard
+returns-clause-heard c =
+    input_hears _ _ _ _ c.args.self.now _ c.args.input.now _ (told_of c.receive-received.result.event) _ c.receive-received.result.consumed c.requires c.ends_with-fin.ensures c.receive-received.ensures.received c.heard_in.ensures refl refl c.consume.ensures.bytes c.consume.ensures.fin

@@ -1,0 +1,8 @@
+//! One stream of a connection of HTTP/3 and WebTransport: what is heard in the bytes that came, however they are
+//! cut.
+#![tactic(auto)]
+
+pub mod bytes;
+pub mod heard;
+pub mod laws;
+pub mod reading;
