@@ -130,8 +130,8 @@ impl Queue {
         }
     }
 
-    /// Queues a copy of a head, and bytes after it, which are not copied, full or not. Each lies in one slice. Returns
-    /// whether there is room after them; if not, a `Writable` is owed.
+    /// Queues a copy of a head, and bytes after it, full or not. Each lies in one slice, and 4,096 bytes or more are not
+    /// copied. Returns whether there is room after them; if not, a `Writable` is owed.
     ///
     /// # Errors
     ///
@@ -167,8 +167,8 @@ impl Queue {
         }
     }
 
-    /// Returns whether the next call may queue bytes: unless the queue is full, and neither finished nor reset. After
-    /// false a `Writable` is owed.
+    /// Returns false if the queue is full, of a stream that was neither finished nor reset: a `Writable` is owed then.
+    /// Ask it before a call that may be refused; [`push`](Self::push) itself takes bytes of any number.
     pub fn admits(&mut self) -> bool
         ensures refused { (result ≡ false) ↔ ((self.old.ending ≡ Ending.Open) × (is_full_is self.old ≡ true)) }
         ensures step { MatchBool result (self.new ≡ self.old) (Does Refuses self.old self.new) }
