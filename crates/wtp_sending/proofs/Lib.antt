@@ -7,3 +7,4 @@ pub mod ControlLemmas
 pub mod SessionLemmas
 pub mod WordLemmas
 pub mod EncodedLemmas
+pub mod AlikeLemmas
