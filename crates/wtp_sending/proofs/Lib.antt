@@ -8,3 +8,4 @@ pub mod SessionLemmas
 pub mod WordLemmas
 pub mod EncodedLemmas
 pub mod RefusedLemmas
+pub mod AlikeLemmas

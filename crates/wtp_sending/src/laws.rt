@@ -1,6 +1,6 @@
 //! Laws of the definitions that the contracts cite. Each function does nothing: its contract is the
 //! law.
-ghost use Rattle.std.specs.Prelude.{◌≡◌, ◌⊎◌, ◌<◌, ◌≤◌, ◌^◌, ◌%◌, ◌/◌, ◌++◌, ℕ, List, false, Some, None, Ok};
+ghost use Rattle.std.specs.Prelude.{◌≡◌, ◌⊎◌, ◌<◌, ◌≤◌, ◌^◌, ◌%◌, ◌/◌, ◌++◌, ℕ, List, true, false, Some, None, Ok};
 ghost use Rattle.wtp_core.specs.Varint.{shortest};
 ghost use Rattle.wtp_wire.specs.Content.{SettingsOf, WebTransportOf};
 ghost use Rattle.wtp_wire.specs.Datagram.{datagram_in};
@@ -10,10 +10,15 @@ ghost use Rattle.wtp_wire.specs.HeaderFront.{Headed, header_front};
 ghost use Rattle.wtp_wire.specs.Settings.{settings_wire};
 ghost use Rattle.wtp_wire.specs.Wire.{wire};
 ghost use Rattle.wtp_qpack.specs.Field.{Field};
+ghost use Rattle.wtp_qpack.specs.FieldLine.{shortest_line};
+ghost use Rattle.wtp_qpack.specs.Sensitive.{is_sensitive};
 ghost use Rattle.wtp_dynamic.specs.Answer.{HasFields};
 ghost use Rattle.wtp_dynamic.specs.EncoderState.{Encoder, Owes, IsOpen};
+ghost use Rattle.wtp_dynamic.specs.Plans.{Plan, TableField, planned_line};
 ghost use Rattle.wtp_dynamic.specs.Table.{Table, Later, insert_count, table_size};
-ghost use Rattle.wtp_dynamic_encoder.specs.Encoding.{State, needed, sent_of};
+ghost use Rattle.wtp_dynamic_encoder.specs.declared.proposal.Proposal.{Proposal};
+ghost use Rattle.wtp_dynamic_encoder.specs.Choosing.{field_of, Chooses};
+ghost use Rattle.wtp_dynamic_encoder.specs.Encoding.{State, needed, sent_of, place_of};
 ghost use Rattle.wtp_frames.specs.declared.endpoint.Endpoint.{Endpoint};
 ghost use Rattle.wtp_frames.specs.declared.frame_type.FrameType.TheVariants as kind;
 ghost use Rattle.wtp_frames.specs.declared.reader.Reader.{Reader};
@@ -25,6 +30,7 @@ ghost use Rattle.wtp_sending.specs.declared.message.Sending.{Sending};
 ghost use Rattle.wtp_sending.specs.Control.{after_settings, goaway_bytes, after_goaway, IsControlAt, IsControlRead};
 ghost use Rattle.wtp_sending.specs.Encoded.{IsEncoded, sent_in, SendsHeadAs, SendsTrailersAs, ReadsSection};
 ghost use Rattle.wtp_sending.specs.declared.error.SendError.{SendError};
+ghost use Rattle.wtp_sending.specs.Indexing.{indexing_of};
 ghost use Rattle.wtp_sending.specs.Message.{SendsHead, SendsTrailers, MayBeHead, RefusesHead, MayBeTrailers, RefusesTail, AreSameReason};
 ghost use Rattle.wtp_sending.specs.Sent.{Sent, Leads, LeadsAll, IsAt, IsRead, AreRead, Takes};
 ghost use Rattle.wtp_sending.specs.Session.{uni_head, bi_head, datagram_head};
@@ -63,6 +69,20 @@ pub fn sections_are_refused_for_one_reason()
         → RefusesTail s fields e → RefusesTail s fields f → AreSameReason e f }
     ensures sent_trailers { (s : Sending) (fields : List Field) (e : SendError)
         → MayBeTrailers s fields → RefusesTail s fields e → ⊥ }
+{}
+
+/// A field is protected alike with an encoder of the dynamic table and without one: a line that refers
+/// to no entry of that table is the same bytes by both calls, the bit N too; and a sensitive field never
+/// refers to an entry of that table that has its value.
+pub fn lines_are_alike()
+    ensures line { (table : Table) (low bound base : ℕ) (proposal : Proposal) (plan : Plan)
+        → proposal.indexing ≡ indexing_of (field_of proposal)
+        → Chooses table low bound proposal plan → place_of plan ≡ None
+        → planned_line base plan ≡ shortest_line (field_of proposal) }
+    ensures sensitive { (table : Table) (low bound place : ℕ) (proposal : Proposal)
+        → proposal.indexing ≡ indexing_of (field_of proposal)
+        → is_sensitive (field_of proposal) ≡ true
+        → ¬ Chooses table low bound proposal (TableField place) }
 {}
 
 /// HEADERS are read by the other end as the section that was sent, whatever the section is, as one that
