@@ -228,11 +228,17 @@ static int64_t size_of_list(const bench_pair *pairs, size_t count) {
   return (int64_t)size;
 }
 
-/* Whether each library that decodes takes each library's section of these pairs. */
-static void cross(const bench_pair *pairs, size_t fields, void **libraries, int count) {
+/* Whether each library that decodes takes each library's section of these pairs, and all are as long. Returns how long. */
+static size_t cross(const bench_pair *pairs, size_t fields, void **libraries, int count) {
+  int64_t first = 0;
   for (int i = 0; i < count; ++i) {
     writes_pairs encode = (writes_pairs)dlsym(libraries[i], "bench_qpack_encode");
-    int64_t len = encode ? encode(pairs, fields, out, sizeof out) : 0;
+    int64_t len = encode ? encode(pairs, fields, out, sizeof out) : first;
+    first = first ? first : len;
+    if (len != first) {
+      printf("library %d writes a section of %lld bytes, and another one of %lld\n", i, (long long)len, (long long)first);
+      exit(1);
+    }
     for (int k = 0; encode && k < count; ++k) {
       reads decode = (reads)dlsym(libraries[k], "bench_qpack_decode");
       if (decode && (len < 0 || decode(out, (size_t)len) != (int64_t)fields)) {
@@ -241,6 +247,7 @@ static void cross(const bench_pair *pairs, size_t fields, void **libraries, int 
       }
     }
   }
+  return (size_t)first;
 }
 
 static void sections(const char *folder, void **libraries, int count) {
@@ -251,7 +258,7 @@ static void sections(const char *folder, void **libraries, int count) {
     size_t len;
     snprintf(name, sizeof name, "pairs-%s.bin", sets[i]);
     size_t fields = pairs_of(load_input(folder, name, &len), pairs);
-    cross(pairs, fields, libraries, count);
+    size_t written = cross(pairs, fields, libraries, count);
     input section = {.wanted = (int64_t)fields}, map = {.len = fields, .wanted = -1};
     snprintf(name, sizeof name, "section-%s.bin", sets[i]);
     section.bytes = load_input(folder, name, &section.len);
@@ -262,7 +269,7 @@ static void sections(const char *folder, void **libraries, int count) {
     task lines = {.label = label, .symbol = "bench_qpack_lines", .inputs = &listed, .count = 1, .bytes = section.len};
     snprintf(label, sizeof label, "qpack lines, %s", sets[i]);
     measure(&lines, libraries, count);
-    task encode = {.label = label, .symbol = "bench_qpack_encode", .pairs = pairs, .inputs = &map, .count = 1, .bytes = section.len};
+    task encode = {.label = label, .symbol = "bench_qpack_encode", .pairs = pairs, .inputs = &map, .count = 1, .bytes = written};
     snprintf(label, sizeof label, "qpack encode, %s", sets[i]);
     measure(&encode, libraries, count);
   }

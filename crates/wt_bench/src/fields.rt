@@ -1,47 +1,22 @@
 //! Field sections and settings, for C.
 
 ghost use Rattle.std.specs.Prelude.{◌≡◌, ◌≢◌, ℕ, ◌+◌, ◌<◌, ◌^◌, pos, negsuc, List, [], length};
-ghost use Rattle.std.specs.Prelude.{Ok, IfSome};
+ghost use Rattle.std.specs.Prelude.{Ok, IfOk, IfSome};
 ghost use Rattle.wtp_fields.specs.Field.{Field};
 ghost use Rattle.wt_bench.specs.Pair.{pair_fields};
 ghost use Rattle.wt_bench.specs.Fields.{field_size, list_size};
-ghost use Rattle.wtp_fields.specs.FieldSection.{after_prefix, map_at, section_of};
+ghost use Rattle.wtp_fields.specs.FieldSection.{after_prefix, map_at, shortest_section};
 ghost use Rattle.wtp_fields.specs.FieldLines.{AreOctetLines, seen_line};
 ghost use Rattle.wtp_wire.specs.Settings.{settings_in};
 
 use super::pair::Pair;
 use super::put;
-use std::alloc::Global;
+use std::alloc::{AllocError, Global};
 use std::borrow::CowSlice;
-use wtp_fields::qpack::{Decoder, Encoder, FieldBuffer, FieldLine, FieldLines};
+use wtp_fields::qpack::{Decoder, FieldBuffer, FieldLine, FieldLines};
+use wtp_qpack::section;
 use wtp_wire::frame::Frame;
 use wtp_wire::settings::Settings;
-
-/// An iterator over pairs as `&str`.
-#[derive(Drop)]
-struct Texts<'s, 'a> {
-    pairs: &'s [Pair<'a>],
-    at: usize,
-}
-
-impl<'s, 'a> Iterator for Texts<'s, 'a> {
-    type Item = (&'a str, &'a str);
-
-    ghost use Rattle.std.specs.Prelude.{drop};
-    ghost use Rattle.std.specs.Iterator.{YieldsFirstBy, item_count};
-    ghost use Rattle.wtp_fields.specs.Field.{field_of_texts};
-    ghost use Rattle.wt_bench.specs.Pair.{pair_fields};
-
-    ghost next_gives = { YieldsFirstBy field_of_texts (λ s. pair_fields (drop s.at s.pairs.now)) };
-
-    ghost remaining = { item_count (λ s. pair_fields (drop s.at s.pairs.now)) };
-
-    fn next(&mut self) -> Option<(&'a str, &'a str)> {
-        let pair = self.pairs.get(self.at)?;
-        self.at += 1;
-        Some(pair.texts())
-    }
-}
 
 /// Decodes a field section and returns the number of fields in its map.
 #[unsafe(no_mangle)]
@@ -88,12 +63,23 @@ pub extern "C" fn wt_bench_qpack_lines(alloc: Global, section: &[u8]) -> i64
     }
 }
 
-/// Encodes pairs as a field section and writes it to `out`.
+/// Encodes pairs as a field section, as a field list is encoded.
+fn encode_pairs(alloc: Global, pairs: &[Pair<'_>]) -> Result<Vec<u8>, AllocError>
+    ensures { IfOk result (λ section. section.items ≡ shortest_section (pair_fields pairs.now)) }
+{
+    let mut section = section::empty_prefix(alloc)?;
+    for pair in pairs {
+        section::write_shortest_line(&mut section, pair.name, pair.value)?;
+    }
+    Ok(section)
+}
+
+/// Encodes pairs as a field section, as a field list is encoded, and writes it to `out`.
 #[unsafe(no_mangle)]
 pub extern "C" fn wt_bench_qpack_encode(alloc: Global, pairs: &[Pair<'_>], out: &mut [u8]) -> i64
-    ensures { result ≢ negsuc 0 → result ≡ pos (length (section_of (pair_fields pairs.now))) }
+    ensures { result ≢ negsuc 0 → result ≡ pos (length (shortest_section (pair_fields pairs.now))) }
 {
-    match Encoder::encode(alloc, Texts { pairs, at: 0 }) {
+    match encode_pairs(alloc, pairs) {
         Ok(section) => put(section.as_slice(), out),
         Err(_) => -1,
     }
