@@ -19,9 +19,9 @@ use crate::output::write_bytes;
 use crate::status::{BUFFER_TOO_SMALL, INVALID, MEMORY, OK};
 use crate::texts::Rejection;
 use std::alloc::{AllocError, Global};
+use wtp_core::varint::VarInt;
 use wtp_dynamic::stored::{put_word, take_word};
 use wtp_dynamic_decoder::decoder::QpackDecoder;
-use wtp_core::varint::VarInt;
 use wtp_webtransport::connection::Connection;
 use wtp_webtransport::unacknowledged::{Unacknowledged, due_on, still_due};
 
@@ -123,7 +123,11 @@ fn section_of(required: u64, cancelled: Option<VarInt>) -> Unacknowledged
 }
 
 // Returns the bytes of a table.
-fn stored(alloc: Global, decoder: &QpackDecoder, due: Option<Unacknowledged>) -> Result<Vec<u8>, AllocError>
+fn stored(
+    alloc: Global,
+    decoder: &QpackDecoder,
+    due: Option<Unacknowledged>,
+) -> Result<Vec<u8>, AllocError>
     ensures { IfOk result (λ bytes. IsStoredBy (Some decoder.now) due bytes.items) }
 {
     let (flag, number) = words_of(due);
@@ -144,7 +148,10 @@ fn has_room(decoder: &QpackDecoder, len: usize) -> bool
 }
 
 // Returns the table at the start of bytes.
-fn restored(alloc: Global, bytes: &[u8]) -> Result<(QpackDecoder, Option<Unacknowledged>), Rejection>
+fn restored(
+    alloc: Global,
+    bytes: &[u8],
+) -> Result<(QpackDecoder, Option<Unacknowledged>), Rejection>
     ensures { MatchResult result (λ x. IsTable x.0 x.1 bytes.now)
         (λ e. e ≡ Rejection.Invalid → IsNoTable bytes.now) }
 {
