@@ -64,9 +64,9 @@ due_parts (Some u) flag number fits f g e =
 
 -- two words that are none of what is to be acknowledged
 pub no_number : (flag number : ℕ) → flag < 2 ^ 64 → number < 2 ^ 64 → flag ≡ 0 → ¬ (number ≡ 0) → (due : Option Unacknowledged) → IsCount due → ¬ (due_bytes due ≡ word flag ++ word number)
-no_number flag number f g zero some due fits e = elim (due_parts due flag number fits f g e) [
+no_number flag number f g at some due fits e = elim (due_parts due flag number fits f g e) [
   | inl none ↦ some none.1
-  | inr other ↦ omega (arith, flag_some other.0, other.2, zero)
+  | inr other ↦ omega (arith, flag_some other.0, other.2, at)
 ]
 
 no_id : (o : Option ℕ) (flag : ℕ) → IsStreamId o → due_flag o ≡ flag → ¬ (flag ≡ 1) → ¬ (flag - 2 < 2 ^ 62) → ⊥
@@ -74,21 +74,21 @@ no_id None flag fits e one large = one (sym e)
 no_id (Some id) flag fits e one large = large (omega (arith, fits, e))
 
 pub no_stream : (flag number : ℕ) → flag < 2 ^ 64 → number < 2 ^ 64 → ¬ (flag ≡ 0) → ¬ (flag ≡ 1) → ¬ (flag - 2 < 2 ^ 62) → (due : Option Unacknowledged) → IsCount due → ¬ (due_bytes due ≡ word flag ++ word number)
-no_stream flag number f g zero one large due fits e = elim (due_parts due flag number fits f g e) [
-  | inl none ↦ zero none.0
+no_stream flag number f g some one large due fits e = elim (due_parts due flag number fits f g e) [
+  | inl none ↦ some none.0
   | inr other ↦ no_id other.0 flag other.1 other.2 one large
 ]
 
 -- the words of a section whose stream was not the one that was cancelled
 pub with_stream : (flag number id : ℕ) → ¬ (flag ≡ 0) → ¬ (flag ≡ 1) → id ≡ flag - 2 → word (2 + id) ++ word number ≡ word flag ++ word number
-with_stream flag number id zero one is = ap (λ (n : ℕ). word n ++ word number) (more_than_one flag id zero one is)
+with_stream flag number id some one is = ap (λ (n : ℕ). word n ++ word number) (more_than_one flag id some one is)
   where
     more_than_one : (flag id : ℕ) → ¬ (flag ≡ 0) → ¬ (flag ≡ 1) → id ≡ flag - 2 → 2 + id ≡ flag
     more_than_one zero id none one is = absurd (none refl)
     more_than_one (suc zero) id none one is = absurd (one refl)
     more_than_one (suc (suc n)) id none one is = omega (arith, is)
 
-pub ruleset dues = (no_number, no_stream, with_stream)
+pub ruleset dues = (no_number, with_stream)
 
 -- ---- bytes that are read
 
