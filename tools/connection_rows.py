@@ -155,7 +155,7 @@ ROWS = [
             ("stream by part of a number (6.1)", b"\x80", {}),
             ("stream by a byte (6.1)", b"\0", {}),
             ("stream by a part and a reset (6.1)", b"\x80", {"after": "reset 1"}),
-            ("stream by its reset (6.1)", b"", {"after": "reset 1"}),
+            ("stream by its reset (6.1)", b"", {"before": "bytes 1", "after": "reset 1"}),
             ("stream by its end (6.1)", b"", {"end": True}),
         )
     ),

@@ -451,7 +451,8 @@ int wt_table_insert_count(const uint8_t *table, size_t table_length, uint64_t *c
 /* Writes the acknowledgment of the field section that the last call of wt_receive or wt_receive_pushed
    with this table read, if it was read with the table (RFC 9204, section 4.4.1). id is the ID of the
    stream of that call. Call it after each of these calls, whatever the event is, and before the next
-   one: a message that is malformed has a section that was read, too. It writes once.
+   one: a message that is malformed has a section that was read, too. It writes once, and nothing if
+   this stream was cancelled since.
    WT_OK: *used is the size, or 0 if nothing is due. WT_BUFFER_TOO_SMALL: *used is the size, and
    nothing else changed. WT_MEMORY. */
 int wt_table_acknowledge(uint8_t *table, size_t table_length, uint64_t id, uint8_t *out, size_t room,
@@ -465,8 +466,9 @@ int wt_table_increment(uint8_t *table, size_t table_length, uint8_t *out, size_t
 /* Writes the cancellation of the stream with this ID, unless the capacity is 0 (RFC 9204, section
    4.4.2). It writes at each call: call it once, after wt_table_acknowledge, for each stream of a
    message whose reading ends before WT_EVENT_END. That is after WT_EVENT_RESET, WT_EVENT_MALFORMED,
-   WT_EVENT_STREAM_ERROR and WT_EVENT_TOO_LARGE, and where the stream is abandoned. The answers are
-   those of wt_table_acknowledge. */
+   WT_EVENT_STREAM_ERROR and WT_EVENT_TOO_LARGE, and where the stream is abandoned. What is to be
+   acknowledged on another stream still is; after the cancellations of two streams, before it is
+   acknowledged, nothing is. The answers are those of wt_table_acknowledge. */
 int wt_table_cancel(uint8_t *table, size_t table_length, uint64_t id, uint8_t *out, size_t room,
                     size_t *used);
 

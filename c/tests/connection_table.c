@@ -182,6 +182,25 @@ static void requests(void) {
   end(t);
 }
 
+/* The cancellation of a stream keeps the acknowledgment that is due for another, and not its own. */
+static void cancellations(void) {
+  tabled *t = begin(CAPACITY);
+  reading *r;
+  insert(t, stream_b2, sizeof stream_b2 - 1, 2);
+  r = request(t, 0, "\x01\x06\x03\x00\xd1\xd7\x81\x80", 8);
+  CHECK(r->event.kind == WT_EVENT_HEADERS);
+  says(t, CANCEL, 4, 0x44);
+  says(t, ACKNOWLEDGE, 0, 0x80);
+  says(t, ACKNOWLEDGE, 0, -1);
+  free(r);
+  r = request(t, 8, "\x01\x06\x03\x00\xd1\xd7\x81\x80", 8);
+  CHECK(r->event.kind == WT_EVENT_HEADERS);
+  says(t, CANCEL, 8, 0x48);
+  says(t, ACKNOWLEDGE, 8, -1);
+  free(r);
+  end(t);
+}
+
 /* Wherever the encoder stream is cut, the table is the same. */
 static void cuts(void) {
   char whole[128];
@@ -277,7 +296,7 @@ static void wrong_bytes(void) {
   static const struct {
     size_t at;
     uint8_t byte;
-  } rows[] = {{0, 2},  {1, 1},  {8, 1},   {17, 1},  {23, 16}, {25, 1},
+  } rows[] = {{7, 65}, {7, 255}, {8, 1},   {17, 1},  {23, 16}, {25, 1},
               {39, 64}, {40, 3}, {48, 10}, {56, 255}, {64, 3},  {72, 200}};
   tabled *t = begin(CAPACITY);
   size_t row;
@@ -401,7 +420,7 @@ static void pushed(void) {
   CHECK(wt_receive_pushed(&t->connection, &r->stream, NULL, 0, t->table, t->size, &hold, room, 64,
                           NULL, 0, 0, &r->event, r->fields, 64, r->out, sizeof r->out) == WT_OK);
   CHECK(r->event.kind == WT_EVENT_END);
-  t->table[0] = 2;
+  t->table[7] = 65;
   CHECK(wt_receive_pushed(&t->connection, &r->stream, NULL, 0, t->table, t->size, &hold, room, 64,
                           NULL, 0, 0, &r->event, NULL, 0, NULL, 0) == WT_INVALID);
   CHECK(hold.taken == 0);
@@ -412,6 +431,7 @@ static void pushed(void) {
 void test_connection_table(void) {
   appendix();
   requests();
+  cancellations();
   cuts();
   faults();
   blocked();

@@ -87,12 +87,13 @@ fn streams_wait_for_the_table(rt: HostRuntime) -> Result<(), Fail> {
     let second = (h3.next_to_read(), read(&mut h3, 4));
     assert!(rt; second == (Some(4), 4), "the second");
     assert!(rt; h3.next_to_read().is_none(), "each is named once");
+    // (as of a stream that is reset while there is no memory for the acknowledgment)
+    h3.cancel(8, &mut out)?;
     h3.acknowledge(4, &mut out)?;
     h3.increment(&mut out)?;
-    h3.cancel(8, &mut out)?;
     assert!(rt;
-        out.as_slice() == [0x80, 0x84, 0x48].as_slice(),
-        "an acknowledgment of each, no increment, and the cancellation of stream 8"
+        out.as_slice() == [0x80, 0x48, 0x84].as_slice(),
+        "an acknowledgment of each, the cancellation of stream 8 between, and no increment"
     );
     Ok(())
 }

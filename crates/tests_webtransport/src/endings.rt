@@ -2,8 +2,10 @@
 //! (draft-ietf-webtrans-http3-02, section 5).
 use crate::playing::{REQUEST, configure, server};
 use crate::sessions::assert_known;
+use std::alloc::{AllocError, Global};
 use std::process::Abort;
 use wtp_connection::connection::Known;
+use wtp_frames::endpoint::{Endpoint, Side};
 use wtp_webtransport::connection::Connection;
 use wtp_webtransport::event::Event;
 use wtp_webtransport::fields::Fields;
@@ -141,6 +143,151 @@ fn streams_of_sessions_have_codes_of_the_application(rt: HostRuntime) {
         assert!(rt; found == row.application, "the code {}", row.code);
         let other = request.application_code(row.code);
         assert!(rt; other.is_none(), "the code {} of a request", row.code);
+    }
+}
+
+/// Returns a connection of a client, with WebTransport or without.
+fn client(webtransport: bool) -> Connection {
+    let mut endpoint = Endpoint::new(Side::Client);
+    endpoint.webtransport = webtransport;
+    endpoint.datagrams = webtransport;
+    Connection::new(endpoint, true)
+}
+
+/// A bidirectional stream of a server, and what comes of it.
+struct FromServer {
+    case: &'static str,
+    webtransport: bool,
+    bytes: &'static [u8],
+    /// What comes after them.
+    then: Then,
+    /// The event of the bytes or of their end, and that of the reset.
+    events: (&'static str, &'static str),
+    /// Whether the stream has codes of the application before the reset.
+    has_codes: bool,
+}
+
+/// What comes after the bytes of a stream.
+#[derive(Clone, Copy, PartialEq, Eq)]
+enum Then {
+    /// Nothing yet.
+    Open,
+    /// The end.
+    Fin,
+    /// A reset.
+    Reset,
+}
+
+/// Streams that a server may open where WebTransport is enabled, and not else (RFC 9114, section 6.1).
+static FROM_SERVER: [FromServer; 9] = [
+    FromServer {
+        case: "part of a number, without WebTransport",
+        webtransport: false,
+        bytes: &[0x80],
+        then: Then::Open,
+        events: ("error 259", ""),
+        has_codes: false,
+    },
+    FromServer {
+        case: "a byte, without WebTransport",
+        webtransport: false,
+        bytes: &[0x00],
+        then: Then::Open,
+        events: ("error 259", ""),
+        has_codes: false,
+    },
+    FromServer {
+        case: "a reset, without WebTransport",
+        webtransport: false,
+        bytes: &[],
+        then: Then::Reset,
+        events: ("more", "error 259"),
+        has_codes: false,
+    },
+    FromServer {
+        case: "part of a number and a reset, without WebTransport",
+        webtransport: false,
+        bytes: &[0x80],
+        then: Then::Reset,
+        events: ("error 259", "more"),
+        has_codes: false,
+    },
+    FromServer {
+        case: "an end, without WebTransport",
+        webtransport: false,
+        bytes: &[],
+        then: Then::Fin,
+        events: ("error 259", ""),
+        has_codes: false,
+    },
+    FromServer {
+        case: "an end, with WebTransport",
+        webtransport: true,
+        bytes: &[],
+        then: Then::Fin,
+        events: ("end", ""),
+        has_codes: false,
+    },
+    FromServer {
+        case: "part of a number and the end, with WebTransport",
+        webtransport: true,
+        bytes: &[0x40],
+        then: Then::Fin,
+        events: ("error 259", ""),
+        has_codes: false,
+    },
+    FromServer {
+        case: "a reset before the ID of the session",
+        webtransport: true,
+        bytes: &[0x40, 0x41],
+        then: Then::Reset,
+        events: ("more", "reset"),
+        has_codes: false,
+    },
+    FromServer {
+        case: "a reset after the ID of the session",
+        webtransport: true,
+        bytes: &[0x40, 0x41, 0x00],
+        then: Then::Reset,
+        events: ("joins 0", "reset"),
+        has_codes: true,
+    },
+];
+
+/// Returns the name of an event, and its number.
+fn named(alloc: Global, event: &Event<'_>) -> Result<String, AllocError> {
+    match event {
+        Event::ConnectionError(fault) => {
+            let code = fault.code().number().into_inner();
+            format!(in alloc; "error {code}")
+        }
+        Event::Joins(id) => format!(in alloc; "joins {id}"),
+        Event::More => String::from_str(alloc, "more"),
+        Event::End => String::from_str(alloc, "end"),
+        Event::Reset(None) => String::from_str(alloc, "reset"),
+        _ => String::from_str(alloc, "another event"),
+    }
+}
+
+#[test]
+fn a_server_opens_streams_of_sessions_alone(rt: HostRuntime) {
+    for row in &FROM_SERVER {
+        let mut connection = client(row.webtransport);
+        let mut fields = Fields::new(rt.alloc(), 1000);
+        let mut stream = connection.accept(1);
+        let fin = row.then == Then::Fin;
+        let read = connection.receive(&mut stream, row.bytes, fin, &mut fields);
+        if let Ok(came) = named(rt.alloc(), &read.event) {
+            assert!(rt; came.as_str() == row.events.0, "{}: {came}", row.case);
+        }
+        let code = stream.application_code(0x52e4_a40f_a8db);
+        assert!(rt; code.is_some() == row.has_codes, "{}", row.case);
+        if row.then == Then::Reset {
+            let reset = connection.reset(&mut stream);
+            if let Ok(came) = named(rt.alloc(), &reset) {
+                assert!(rt; came.as_str() == row.events.1, "{}: {came}", row.case);
+            }
+        }
     }
 }
 

@@ -13,7 +13,7 @@ pub(crate) struct Row {
 }
 
 /// Requests.
-static REQUESTS: [Row; 25] = [
+static REQUESTS: [Row; 26] = [
     Row {
         case: Case::Request,
         bytes: &[0x01, 0x08, 0x00, 0x00, 0xd1, 0xd7, 0xc1, 0x50, 0x01, 0x61],
@@ -63,6 +63,15 @@ static REQUESTS: [Row; 25] = [
             0x04, 0x61,
         ],
         events: "request 5; malformed: the content is longer than announced; ",
+    },
+    // content-length 1, and the end after the head of a DATA frame of 2 (RFC 9114, section 7.1)
+    Row {
+        case: Case::Request,
+        bytes: &[
+            0x01, 0x0b, 0x00, 0x00, 0xd4, 0xd7, 0xc1, 0x50, 0x01, 0x61, 0x54, 0x01, 0x31, 0x00,
+            0x02,
+        ],
+        events: "request 5; connection error 262; ",
     },
     // content-length 0, and a byte
     Row {
@@ -197,7 +206,7 @@ static REQUESTS: [Row; 25] = [
 ];
 
 /// CONNECT a:1 and its answers.
-static TUNNELS: [Row; 9] = [
+static TUNNELS: [Row; 10] = [
     Row {
         case: Case::Request,
         bytes: &[
@@ -212,6 +221,12 @@ static TUNNELS: [Row; 9] = [
             0x01, 0x62,
         ],
         events: "request 2; data 2; end; ",
+    },
+    // no port (RFC 9110, section 9.3.6)
+    Row {
+        case: Case::Request,
+        bytes: &[0x01, 0x06, 0x00, 0x00, 0xcf, 0x50, 0x01, 0x61],
+        events: "malformed: the authority is invalid; ",
     },
     // trailers in a tunnel
     Row {

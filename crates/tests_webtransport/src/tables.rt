@@ -291,6 +291,44 @@ fn request(connection: &mut Connection, fields: &mut Fields, id: u64, bytes: &[u
     }
 }
 
+/// Returns what is written for the request of Appendix B.2 on stream 0, which is acknowledged after the
+/// cancellations of these streams.
+fn told_after(alloc: Global, cancelled: &[u64]) -> Result<Vec<u8>, AllocError> {
+    let (mut connection, mut fields) = with_table(alloc);
+    insert(&mut connection, &mut fields, INSERTIONS.as_slice());
+    request(&mut connection, &mut fields, 0, REQUEST.as_slice());
+    let mut out = Vec::new(alloc);
+    for id in cancelled {
+        connection.cancel(*id, &mut out)?;
+    }
+    connection.acknowledge(0, &mut out)?;
+    connection.acknowledge(0, &mut out)?;
+    Ok(out)
+}
+
+/// The streams that are cancelled between a section and its acknowledgment, and what is written.
+static CANCELLED: [(&str, &[u64], &[u8]); 5] = [
+    ("none", &[], &[0x80]),
+    ("another stream (4.4.1)", &[4], &[0x44, 0x80]),
+    ("another stream twice", &[4, 4], &[0x44, 0x44, 0x80]),
+    ("its own stream (2.2.2.2)", &[0], &[0x40]),
+    (
+        "two streams, of which one may be its own",
+        &[4, 0],
+        &[0x44, 0x40],
+    ),
+];
+
+#[test]
+fn a_cancellation_keeps_the_acknowledgment_of_another_stream(rt: HostRuntime) {
+    for (case, cancelled, wanted) in &CANCELLED {
+        match told_after(rt.alloc(), cancelled) {
+            Ok(told) => assert!(rt; told.as_slice() == *wanted, "{case}"),
+            Err(_) => assert!(rt; false, "memory"),
+        }
+    }
+}
+
 #[test]
 fn a_section_is_acknowledged_for_its_stream_alone(rt: HostRuntime) {
     let (mut connection, mut fields) = with_table(rt.alloc());

@@ -28,6 +28,7 @@ use Rattle.wtp_webtransport.specs.declared.event.Waits.TheVariants as wait
 use Rattle.wtp_webtransport.specs.declared.stream.Unread.TheVariants as unread
 use Rattle.wtp_webtransport.specs.Events.{Told, Opened, Joins, Joined, Settings, Inserted, GoAway, Frame, Headers, SessionRequested, SessionReady, Rejected, SessionClosed, SessionLost, Datagram, Draining, Skipped, Data, StreamData, TooLarge, Malformed, StreamError, ConnectionError, Reset, End, NoMemory, Waits, More}
 use Rattle.wtp_webtransport.specs.Prefix.{names_table}
+use Rattle.wtp_webtransport.specs.Unacknowledged.{just_read}
 use Rattle.wtp_webtransport.specs.Receiving.{Outcome, takes, taken_of, noted, read_after, HasRead, ReadGives, ResultGives, OverGives, TableGives, PrefixGives, DecodedGives, span_in}
 use Rattle.wtp_webtransport.proofs.SectionLemmas.{Lacks, decoded_same, section_same}
 use Rattle.wtp_pairs.specs.Encoded.{noted_in, HasFields, Alone, WithTable, IsAhead, waiting_at}
@@ -39,7 +40,7 @@ told_as None o = o
 told_as (Some required) o = noted required o
 
 -- an event that goes on is not one that waits
-noted_after : (told : Told) (required : ℕ) (c : Connection) → course_of told ≡ Continues → read_after told required c ≡ record c { read = Some required }
+noted_after : (told : Told) (required : ℕ) (c : Connection) → course_of told ≡ Continues → read_after told required c ≡ record c { read = Some (just_read required) }
 noted_after (Opened p) required c e = refl
 noted_after (Joins id) required c e = refl
 noted_after (Joined id) required c e = refl

@@ -19,6 +19,7 @@ use Rattle.wtp_webtransport.specs.Calls.{HasMemory}
 use Rattle.wtp_webtransport.specs.Events.{Told, Waits}
 use Rattle.wtp_webtransport.specs.Prefix.{names_table}
 use Rattle.wtp_webtransport.specs.Receiving.{Outcome, Receives}
+use Rattle.wtp_webtransport.specs.Unacknowledged.{just_read}
 use Rattle.wtp_pairs.specs.Messages.{IsSectionRead}
 use Rattle.wtp_pairs.specs.Reads.{IsGoing}
 
@@ -28,7 +29,7 @@ use Rattle.wtp_pairs.specs.Reads.{IsGoing}
 -- to be acknowledged.
 abbrev pub noted_in : Option ℕ → Connection → Connection
 noted_in None c = c
-noted_in (Some required) c = record c { read = Some required }
+noted_in (Some required) c = record c { read = Some (just_read required) }
 
 -- a section that needs no insertions names no table
 abbrev pub need_of : ℕ → Option ℕ

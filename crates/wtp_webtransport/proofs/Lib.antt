@@ -1,3 +1,5 @@
+pub mod AcknowledgmentLemmas
+pub mod EnablingLemmas
 pub mod EndingLemmas
 pub mod CapsuleLemmas
 pub mod HalfLemmas

@@ -2,6 +2,7 @@ pub mod Calls
 pub mod Capsules
 pub mod Close
 pub mod Cuts
+pub mod Enabling
 pub mod Endings
 pub mod Events
 pub mod Fault
@@ -13,5 +14,6 @@ pub mod Receiving
 pub mod Said
 pub mod Sessions
 pub mod Streams
+pub mod Unacknowledged
 pub mod Tables
 pub mod Words

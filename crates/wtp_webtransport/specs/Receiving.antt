@@ -67,6 +67,7 @@ use Rattle.wtp_webtransport.specs.Fault.{scope_of}
 use Rattle.wtp_webtransport.specs.Prefix.{names_table}
 use Rattle.wtp_webtransport.specs.Events.{Told, Opened, Joins, Settings, GoAway, Frame, Headers, SessionRequested, SessionReady, Rejected, SessionClosed, SessionLost, Datagram, Draining, Skipped, Data, StreamData, TooLarge, Malformed as MalformedBy, StreamError, ConnectionError, End, NoMemory, Waits, More}
 use Rattle.wtp_webtransport.specs.Sessions.{asks_of}
+use Rattle.wtp_webtransport.specs.Unacknowledged.{just_read}
 use Rattle.wtp_webtransport.specs.Streams.{with_streams, with_frames, with_part, with_head, with_session_id, with_message, with_session, connects, ended, after_error, wait_for, due_by, GivesCapsule, EndsBetween}
 
 abbrev pub Outcome : Type 0
@@ -346,7 +347,7 @@ ResultGives c s m at (Err (section_error.Decoding e)) o = o ≡ fails c s (fault
 -- says that it waits.
 abbrev pub read_after : Told → ℕ → Connection → Connection
 read_after (Waits why) required c = c
-read_after told required c = record c { read = Some required }
+read_after told required c = record c { read = Some (just_read required) }
 
 abbrev pub noted : ℕ → Outcome → Outcome
 noted required o = (o.0, o.1, read_after o.1 required o.2, o.3)

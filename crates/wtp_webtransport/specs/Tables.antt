@@ -11,6 +11,8 @@ use Rattle.wtp_connection.specs.declared.stream.Stream.TheVariants as frames
 use Rattle.wtp_webtransport.specs.declared.connection.Connection.{Connection}
 use Rattle.wtp_webtransport.specs.declared.fault.Fault.TheVariants as fault
 use Rattle.wtp_webtransport.specs.declared.stream.Stream.{Stream}
+use Rattle.wtp_webtransport.specs.declared.unacknowledged.Unacknowledged.{Unacknowledged}
+use Rattle.wtp_webtransport.specs.Unacknowledged.{due_on, still_due}
 use Rattle.wtp_webtransport.specs.Events.{Told, Inserted, More}
 use Rattle.wtp_webtransport.specs.Receiving.{Outcome, Receives, closed_by, fails}
 
@@ -83,15 +85,26 @@ Says due made old new before after result =
 abbrev pub bounded : ℕ → Decoder → ℕ
 bounded required d = min required (insert_count d.table)
 
--- the acknowledgment of the section that the last call read with the table (section 4.4.1), once
-abbrev pub due_read : Option Decoder → Option ℕ → ℕ → Option Acknowledgment
-due_read (Some d) (Some required) id = due_section id (bounded required d)
-due_read d read id = None
+-- the acknowledgment of a section that needed so many insertions
+abbrev pub due_section_of : Decoder → Option ℕ → ℕ → Option Acknowledgment
+due_section_of d None id = None
+due_section_of d (Some required) id = due_section id (bounded required d)
 
-abbrev pub after_read : Option Decoder → Option ℕ → Connection → Connection
-after_read (Some d) (Some required) c =
-    record c { decoder = Some (acknowledged (bounded required d) d); read = None }
-after_read d read c = c
+-- that of the section that the last call read with the table (section 4.4.1), once, unless its stream was
+-- cancelled since
+abbrev pub due_read : Option Decoder → Option Unacknowledged → ℕ → Option Acknowledgment
+due_read None read id = None
+due_read (Some d) read id = due_section_of d (due_on read id) id
+
+-- the table after it
+abbrev pub acknowledged_by : Decoder → Option ℕ → Decoder
+acknowledged_by d None = d
+acknowledged_by d (Some required) = acknowledged (bounded required d) d
+
+abbrev pub after_read : Option Decoder → Option Unacknowledged → ℕ → Connection → Connection
+after_read None read id c = c
+after_read (Some d) read id c =
+    record c { decoder = Some (acknowledged_by d (due_on read id)); read = None }
 
 -- the insertions of which the peer does not know that they were received (section 4.4.3)
 abbrev pub due_inserts : Option Decoder → Option Acknowledgment
@@ -102,15 +115,16 @@ abbrev pub after_inserts : Option Decoder → Connection → Connection
 after_inserts None c = c
 after_inserts (Some d) c = with_decoder c (incremented d)
 
--- the cancellation of a stream that is read no further (section 4.4.2), after which no section of it is to be
--- acknowledged
+-- the cancellation of a stream that is read no further (section 4.4.2), after which no section of it is to
+-- be acknowledged
 abbrev pub due_cancel : Option Decoder → ℕ → Option Acknowledgment
 due_cancel None id = None
 due_cancel (Some d) id = due_cancellation id d
 
 abbrev pub after_cancel : Option Decoder → ℕ → Connection → Connection
 after_cancel None id c = c
-after_cancel (Some d) id c = with_decoder (without_read c) (cancelled id d)
+after_cancel (Some d) id c =
+    record c { decoder = Some (cancelled id d); read = still_due c.read id }
 
 -- how many entries were inserted
 abbrev pub inserts_of : Option Decoder → ℕ

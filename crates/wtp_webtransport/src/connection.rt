@@ -17,6 +17,7 @@ use crate::event::{Event, Received, Waits};
 use crate::fault::Fault;
 use crate::fields::Fields;
 use crate::stream::{Due, Part, Stream, Unread};
+use crate::unacknowledged::Unacknowledged;
 use wtp_connection::connection::{Connection as Streams, Found};
 use wtp_connection::settings::PeerSettings;
 use wtp_connection::stream::{Purpose, Stream as Frames};
@@ -46,9 +47,8 @@ pub struct Connection {
     over: bool,
     /// The dynamic table of QPACK, if the own SETTINGS allow one.
     decoder: Option<QpackDecoder>,
-    /// How many insertions the section needed that the last call read with the table, until it is
-    /// acknowledged.
-    read: Option<u64>,
+    /// The section that the last call read with the table, until it is acknowledged.
+    read: Option<Unacknowledged>,
 }
 
 impl Connection {

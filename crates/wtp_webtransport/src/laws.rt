@@ -1,10 +1,10 @@
 //! Laws of the definitions that the contracts cite. Each function does nothing: its contract is the
 //! law. `Receives` is a call of `receive`, but for bytes of the encoder stream where a dynamic table is
 //! allowed: of these `InstructionsGive` says what a call gives.
-ghost use Rattle.std.specs.Prelude.{◌≡◌, ◌||◌, ◌+◌, ◌<◌, ◌≤◌, ℕ, Bool, true, false, List, ◌∷◌, ◌++◌, length, drop, Option};
+ghost use Rattle.std.specs.Prelude.{◌≡◌, ◌||◌, ◌+◌, ◌^◌, ◌<◌, ◌≤◌, ◌⊎◌, ℕ, Bool, true, false, List, ◌∷◌, ◌++◌, length, drop, Option, Some, None, codes};
 ghost use Rattle.wtp_webtransport.specs.declared.connection.Connection.{Connection};
 ghost use Rattle.wtp_webtransport.specs.declared.stream.Stream.{Stream};
-ghost use Rattle.wtp_webtransport.specs.Events.{More, Waits, SessionLost};
+ghost use Rattle.wtp_webtransport.specs.Events.{More, Waits, SessionLost, StreamError};
 ghost use Rattle.wtp_webtransport.specs.Receiving.{Outcome, Receives, SectionGives, last};
 ghost use Rattle.wtp_webtransport.specs.Calls.{Stops, Finishes, Continues, Reads, SaysTo, left_of, told_before, told_all, course_of, plain, moved, IsSession, IsPiece, HasMemory, HasFrames, Grown};
 ghost use Rattle.wtp_webtransport.specs.Progress.{IsSound, calls_left, GoOn};
@@ -13,15 +13,24 @@ ghost use Rattle.wtp_connection.specs.Opening.{is_critical};
 ghost use Rattle.wtp_webtransport.specs.Endings.{KeepsSession, KeepsAfter, accepts_session, Marks, MarksAfter, IsQuiet, IsLoss, had_session, KeepsPast, AreOver, IsDone};
 ghost use Rattle.wtp_webtransport.specs.Joining.{resets, stops_half, abandons, joins, overflows, rejects};
 ghost use Rattle.wtp_webtransport.specs.Streams.{is_held, answered, stream_of, asking_stream, session_stream};
-ghost use Rattle.wtp_webtransport.specs.Sessions.{known_of};
+ghost use Rattle.wtp_webtransport.specs.Sessions.{known_of, allows_sessions, asks_of};
+ghost use Rattle.wtp_webtransport.specs.Enabling.{EnableSessions, IsRequest};
+ghost use Rattle.wtp_webtransport.specs.Fault.{code_of, scope_of};
+ghost use Rattle.wtp_webtransport.specs.declared.fault.Fault.TheVariants as fault;
+ghost use Rattle.wtp_webtransport.specs.declared.connection.messages.Asks.TheVariants as asks;
+ghost use Rattle.wtp_core.specs.declared.error.scope.ErrorScope.TheVariants as scope;
+ghost use Rattle.wtp_connection.specs.Settings.{values_of, with_defaults};
+ghost use Rattle.wtp_messages.specs.Names.{has_value};
+ghost use Rattle.wtp_qpack.specs.Field.{Field};
+ghost use Rattle.wtp_webtransport.specs.Unacknowledged.{just_read};
 ghost use Rattle.wtp_webtransport.specs.declared.stream.Delay.{Delay};
 ghost use Rattle.wtp_webtransport.specs.declared.stream.Part.TheVariants as part;
 ghost use Rattle.wtp_webtransport.specs.declared.stream.Unread.TheVariants as unread;
 ghost use Rattle.wtp_webtransport.specs.declared.event.Waits.TheVariants as wait;
 ghost use Rattle.wtp_connection.specs.declared.stream.Stream.TheVariants as frames;
-ghost use Rattle.wtp_frames.specs.declared.endpoint.Side.TheVariants.{Server};
+ghost use Rattle.wtp_frames.specs.declared.endpoint.Side.TheVariants.{Client, Server};
 ghost use Rattle.wtp_messages.specs.declared.message.Message.{Message};
-ghost use Rattle.wtp_connection.specs.declared.connection.Known.TheVariants.{Coming, Over};
+ghost use Rattle.wtp_connection.specs.declared.connection.Known.TheVariants.{Coming, Open, Over, Refused, Other, Impossible};
 ghost use Rattle.wtp_connection.specs.declared.stream.Stream.{Stream as Frames};
 ghost use Rattle.wtp_messages.specs.declared.response.Asked.{Asked};
 ghost use Rattle.wtp_connection.specs.declared.connection.Known.{Known};
@@ -34,7 +43,7 @@ ghost use Rattle.wtp_webtransport.specs.Capsules.{Found, Place, between, place_b
 ghost use Rattle.wtp_webtransport.specs.Cuts.{breaks, followed, after_found, run, IsProper};
 ghost use Rattle.wtp_webtransport.specs.Places.{IsPlaced};
 ghost use Rattle.wtp_webtransport.specs.Prefix.{names_table};
-ghost use Rattle.wtp_webtransport.specs.Tables.{InstructionsGive, Call, KeepsLimits};
+ghost use Rattle.wtp_webtransport.specs.Tables.{InstructionsGive, Call, KeepsLimits, due_read, after_cancel};
 ghost use Rattle.wtp_webtransport.specs.Words.{without_table};
 ghost use Rattle.wtp_dynamic_decoder.specs.Decoder.{Decoder};
 
@@ -261,12 +270,107 @@ pub fn content_is_judged_by_frames()
 {}
 
 /// The prefix of a field section refers to a table exactly by its Required Insert Count and its Sign
-/// bit (RFC 9204, sections 4.5.1.1 and 4.5.1.2). Such a section is an error where no table is allowed.
+/// bit (RFC 9204, sections 4.5.1.1 and 4.5.1.2): `names_table` says so. That such a section is an error
+/// where no table is allowed is in the contract of `Connection::receive` (`PrefixGives`).
 pub fn prefixes_that_name_a_table_are_refused()
     ensures count { (count : ℕ) (s more : List ℕ)
         → IsInt 8 count s → 0 < count → names_table (s ++ more) ≡ true }
     ensures sign { (b : ℕ) (more : List ℕ) → 128 ≤ b → names_table (0 ∷ b ∷ more) ≡ true }
     ensures neither { (b : ℕ) (more : List ℕ) → b < 128 → names_table (0 ∷ b ∷ more) ≡ false }
+{}
+
+/// Sessions are allowed exactly if SETTINGS of the peer came, with identifiers and values `ps` that enable
+/// WebTransport, by the setting of any draft, and datagrams; the own SETTINGS enable both; and those of
+/// the server enable extended CONNECT (draft-ietf-webtrans-http3-02, section 3.1;
+/// draft-ietf-webtrans-http3-07, section 3.1; RFC 9220, section 3; RFC 9297, section 2.1.1).
+pub fn sessions_need_settings_of_both_ends()
+    ensures allowed { (c : Connection) (ps : List (ℕ × ℕ))
+        → c.configured ≡ true → c.streams.peer ≡ with_defaults (values_of ps)
+        → EnableSessions c.endpoint c.extended ps → allows_sessions c ≡ true }
+    ensures needed { (c : Connection) (ps : List (ℕ × ℕ))
+        → c.configured ≡ true → c.streams.peer ≡ with_defaults (values_of ps)
+        → allows_sessions c ≡ true → EnableSessions c.endpoint c.extended ps }
+    ensures early { (c : Connection) → c.configured ≡ false → allows_sessions c ≡ false }
+{}
+
+/// A request asks for a session exactly if its `:method` is CONNECT, its `:protocol` is webtransport and
+/// sessions are allowed (draft-ietf-webtrans-http3-02, section 3.3; RFC 9220, section 3). Before the
+/// peer's SETTINGS it is not known (`early`: draft-ietf-webtrans-http3-07, section 3.1). Any other CONNECT
+/// request asks for a tunnel or for another protocol (`other`, `disabled` and `in_vain`), and any other
+/// request for none (`plain`).
+pub fn extended_connect_asks_for_sessions()
+    ensures session { (c : Connection) (fields : List Field)
+        → has_value (codes ":method") (codes "CONNECT") fields ≡ true
+        → has_value (codes ":protocol") (codes "webtransport") fields ≡ true
+        → allows_sessions c ≡ true → asks_of c fields ≡ asks.Session }
+    ensures needed { (c : Connection) (fields : List Field) → asks_of c fields ≡ asks.Session
+        → (has_value (codes ":method") (codes "CONNECT") fields ≡ true)
+        × (has_value (codes ":protocol") (codes "webtransport") fields ≡ true)
+        × (allows_sessions c ≡ true) }
+    ensures early { (c : Connection) (fields : List Field)
+        → has_value (codes ":method") (codes "CONNECT") fields ≡ true
+        → has_value (codes ":protocol") (codes "webtransport") fields ≡ true
+        → c.endpoint.webtransport ≡ true → c.configured ≡ false → asks_of c fields ≡ asks.TooEarly }
+    ensures other { (c : Connection) (fields : List Field)
+        → has_value (codes ":method") (codes "CONNECT") fields ≡ true
+        → has_value (codes ":protocol") (codes "webtransport") fields ≡ false
+        → asks_of c fields ≡ asks.Tunnel }
+    ensures disabled { (c : Connection) (fields : List Field)
+        → has_value (codes ":method") (codes "CONNECT") fields ≡ true
+        → c.endpoint.webtransport ≡ false → asks_of c fields ≡ asks.Tunnel }
+    ensures in_vain { (c : Connection) (fields : List Field)
+        → has_value (codes ":method") (codes "CONNECT") fields ≡ true
+        → c.configured ≡ true → allows_sessions c ≡ false → asks_of c fields ≡ asks.Tunnel }
+    ensures plain { (c : Connection) (fields : List Field)
+        → has_value (codes ":method") (codes "CONNECT") fields ≡ false → asks_of c fields ≡ asks.Plain }
+{}
+
+/// A server rejects each request that goes on and has the ID of its GOAWAY or a greater one, with
+/// H3_REQUEST_REJECTED, and nothing else changes: not a request with a lower ID, not one without a GOAWAY,
+/// and no stream that is none of a request (RFC 9114, sections 4.1.1 and 5.2).
+pub fn requests_from_goaway_on_are_rejected()
+    ensures rejected { (c : Connection) (s : Stream) (id first : ℕ)
+        → c.over ≡ false → c.endpoint.side ≡ Server → IsRequest s.part → first ≤ id
+        → (rejects c s id (Some first)).0 ≡ StreamError fault.Rejected }
+    ensures processed { (c : Connection) (s : Stream) (id first : ℕ)
+        → id < first → rejects c s id (Some first) ≡ (More, c, s) }
+    ensures none { (c : Connection) (s : Stream) (id : ℕ) → rejects c s id None ≡ (More, c, s) }
+    ensures no_request { (c : Connection) (s : Stream) (id : ℕ) (goaway : Option ℕ)
+        → (IsRequest s.part → ⊥) → rejects c s id goaway ≡ (More, c, s) }
+    ensures client { (c : Connection) (s : Stream) (id : ℕ) (goaway : Option ℕ)
+        → c.endpoint.side ≡ Client → rejects c s id goaway ≡ (More, c, s) }
+    ensures code { code_of fault.Rejected ≡ 0x010b }
+    ensures scope { scope_of fault.Rejected ≡ scope.Stream }
+{}
+
+/// A session is open from the 2xx answer to its request on, and its request is refused by an answer of
+/// 300 or more (draft-ietf-webtrans-http3-02, section 3.3). A request that asked for something else is
+/// none of a session (RFC 9297, section 2), and a stream of a session is the own stream of none.
+pub fn sessions_are_known_by_their_answers()
+    ensures accepted { (c : Connection) (s : Stream) (m : Message) (status : ℕ)
+        → s.part ≡ part.Unanswered true m → 200 ≤ status → status < 300
+        → known_of c (answered s status) ≡ Open }
+    ensures refused { (c : Connection) (s : Stream) (m : Message) (p : Place) (status : ℕ)
+        → c.endpoint.side ≡ Server → s.part ≡ part.Unanswered true m → s.capsules ≡ Some p
+        → 300 ≤ status → known_of c (answered s status) ≡ Refused }
+    ensures other { (c : Connection) (s : Stream) (m : Message)
+        → c.endpoint.side ≡ Server → s.capsules ≡ None
+        → (s.part ≡ part.Body m) ⊎ (s.part ≡ part.Unanswered false m) → known_of c s ≡ Other }
+    ensures member { (c : Connection) (s : Stream) → s.part ≡ part.OfSession
+        → known_of c s ≡ Impossible }
+    ensures open_alone { (c : Connection) (s : Stream) → known_of c s ≡ Open → IsSession s.part }
+{}
+
+/// The cancellation of a stream takes the acknowledgment that is due for its own section, and keeps that
+/// which is due for the section of another stream (RFC 9204, sections 2.2.2.2 and 4.4.1).
+pub fn cancellations_keep_other_acknowledgments()
+    ensures other { (d : Decoder) (c : Connection) (required other id : ℕ)
+        → c.decoder ≡ Some d → c.read ≡ Some (just_read required) → (other ≡ id → ⊥)
+        → due_read (after_cancel c.decoder other c).decoder (after_cancel c.decoder other c).read id
+        ≡ due_read c.decoder c.read id }
+    ensures own { (d : Decoder) (c : Connection) (required id : ℕ)
+        → c.decoder ≡ Some d → c.read ≡ Some (just_read required) → id < 2 ^ 62
+        → due_read (after_cancel c.decoder id c).decoder (after_cancel c.decoder id c).read id ≡ None }
 {}
 
 /// No call consumes more bytes than it was passed, and those that an event refers to are the last of

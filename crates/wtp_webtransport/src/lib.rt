@@ -11,3 +11,4 @@ pub mod fault;
 pub mod fields;
 pub mod laws;
 pub mod stream;
+pub mod unacknowledged;

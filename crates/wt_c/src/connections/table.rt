@@ -6,6 +6,7 @@ ghost use Rattle.wtp_dynamic.specs.Stored.{word};
 ghost use Rattle.wtp_webtransport.specs.declared.connection.Connection.{Connection};
 ghost use Rattle.wtp_webtransport.specs.Events.{told_of};
 ghost use Rattle.wtp_webtransport.specs.Tables.{too_many_blocked};
+ghost use Rattle.wtp_webtransport.specs.declared.unacknowledged.Unacknowledged.{Unacknowledged};
 ghost use Rattle.wt_c.specs.Output.{WritesPrefix, TooShort};
 ghost use Rattle.wt_c.specs.Connections.{HasConnection, IsNoConnection, with_connection};
 ghost use Rattle.wt_c.specs.ConnectionEvents.{c_event};
@@ -18,9 +19,11 @@ use crate::output::write_bytes;
 use crate::status::{BUFFER_TOO_SMALL, INVALID, MEMORY, OK};
 use crate::texts::Rejection;
 use std::alloc::{AllocError, Global};
+use wtp_core::varint::VarInt;
 use wtp_dynamic::stored::{put_word, take_word};
 use wtp_dynamic_decoder::decoder::QpackDecoder;
 use wtp_webtransport::connection::Connection;
+use wtp_webtransport::unacknowledged::{Unacknowledged, due_on, still_due};
 
 /// The largest capacity of a table.
 const MAX_CAPACITY: u64 = (1 << 60) - 1;
@@ -41,7 +44,7 @@ impl TableCall {
     fn apply(
         self,
         decoder: &mut QpackDecoder,
-        due: &mut Option<u64>,
+        due: &mut Option<Unacknowledged>,
         out: &mut Vec<u8>,
     ) -> Result<(), AllocError>
         ensures { IfOk result (λ _. (out.new.items ≡ told out.old.items (change_of self decoder.old due.old).0)
@@ -51,16 +54,16 @@ impl TableCall {
         match self {
             TableCall::Acknowledge(id) => {
                 let count = decoder.insert_count();
-                if let Some(required) = *due {
+                if let Some(required) = due_on(*due, id) {
                     decoder.acknowledge(id, required.min(count), out)?;
-                    *due = None;
                 }
+                *due = None;
                 Ok(())
             }
             TableCall::Increment => decoder.increment(out),
             TableCall::Cancel(id) => {
                 decoder.cancel(id, out)?;
-                *due = None;
+                *due = still_due(*due, id);
                 Ok(())
             }
         }
@@ -68,34 +71,63 @@ impl TableCall {
 }
 
 // Returns the words of what is to be acknowledged.
-fn words_of(due: Option<u64>) -> (u64, u64)
+fn words_of(due: Option<Unacknowledged>) -> (u64, u64)
     ensures words { due_bytes due ≡ word result.0 ++ word result.1 }
     ensures count { IsCount due }
 {
     match due {
         None => (0, 0),
-        Some(required) => (1, required),
+        Some(section) => words_of_section(section),
     }
+}
+
+// Returns the words of a section that is to be acknowledged.
+fn words_of_section(section: Unacknowledged) -> (u64, u64)
+    ensures words { due_bytes (Some section) ≡ word result.0 ++ word result.1 }
+    ensures count { IsCount (Some section) }
+{
+    let flag = match section.cancelled {
+        None => 1,
+        Some(id) => 2 + id.into_inner(),
+    };
+    (flag, section.required)
 }
 
 // Returns what is to be acknowledged, by its words.
-#[tactic(auto, using(crate::proofs::TableLemmas::no_due))]
-fn due_at(flag: u64, number: u64) -> Option<Option<u64>>
+#[tactic(auto, using(crate::proofs::TableLemmas::dues))]
+fn due_at(flag: u64, number: u64) -> Option<Option<Unacknowledged>>
     ensures { MatchOption result
-        ((due : Option ℕ) → IsCount due → ¬ (due_bytes due ≡ word flag ++ word number))
+        ((due : Option Unacknowledged) → IsCount due → ¬ (due_bytes due ≡ word flag ++ word number))
         (λ due. (due_bytes due ≡ word flag ++ word number) × IsCount due) }
 {
+    if flag == 0 {
+        return if number == 0 { Some(None) } else { None };
+    }
     if flag == 1 {
-        return Some(Some(number));
+        return Some(Some(section_of(number, None)));
     }
-    if flag == 0 && number == 0 {
-        return Some(None);
+    match VarInt::try_from_u64(flag - 2) {
+        Ok(id) => Some(Some(section_of(number, Some(id)))),
+        Err(_) => None,
     }
-    None
+}
+
+// Returns a section that is to be acknowledged.
+fn section_of(required: u64, cancelled: Option<VarInt>) -> Unacknowledged
+    ensures { result ≡ record { required = required; cancelled = cancelled } }
+{
+    Unacknowledged {
+        required,
+        cancelled,
+    }
 }
 
 // Returns the bytes of a table.
-fn stored(alloc: Global, decoder: &QpackDecoder, due: Option<u64>) -> Result<Vec<u8>, AllocError>
+fn stored(
+    alloc: Global,
+    decoder: &QpackDecoder,
+    due: Option<Unacknowledged>,
+) -> Result<Vec<u8>, AllocError>
     ensures { IfOk result (λ bytes. IsStoredBy (Some decoder.now) due bytes.items) }
 {
     let (flag, number) = words_of(due);
@@ -116,7 +148,10 @@ fn has_room(decoder: &QpackDecoder, len: usize) -> bool
 }
 
 // Returns the table at the start of bytes.
-fn restored(alloc: Global, bytes: &[u8]) -> Result<(QpackDecoder, Option<u64>), Rejection>
+fn restored(
+    alloc: Global,
+    bytes: &[u8],
+) -> Result<(QpackDecoder, Option<Unacknowledged>), Rejection>
     ensures { MatchResult result (λ x. IsTable x.0 x.1 bytes.now)
         (λ e. e ≡ Rejection.Invalid → IsNoTable bytes.now) }
 {
@@ -294,7 +329,7 @@ fn change_table(
 /// Writes the acknowledgment of the field section that the last `wt_receive` with this table read, if it
 /// was read with the table (RFC 9204, section 4.4.1), to the start of `out`. `id` is the ID of the stream
 /// of that call. To be called after each `wt_receive` with the table, whatever the event is, and before
-/// the next one. It writes once.
+/// the next one. It writes once, and nothing if this stream was cancelled since.
 ///
 /// Returns `OK` with the size in `used`: 0 if nothing is due. Returns `BUFFER_TOO_SMALL` if `out` is too
 /// short; `used` is then the size. Returns `INVALID` if no table is in `table`, or `MEMORY`. Only `OK`
@@ -346,7 +381,9 @@ pub extern "C" fn wt_table_increment(
 
 /// Writes the cancellation of the stream with this ID (RFC 9204, section 4.4.2) to the start of `out`,
 /// unless the capacity of the table is 0. It writes at each call: to be called once, after
-/// `wt_table_acknowledge`, for each stream of a message whose reading ends before `End`.
+/// `wt_table_acknowledge`, for each stream of a message whose reading ends before `End`. What is to be
+/// acknowledged on another stream still is; after the cancellations of two streams, before it is
+/// acknowledged, nothing is.
 ///
 /// Returns what `wt_table_acknowledge` returns.
 #[unsafe(no_mangle)]

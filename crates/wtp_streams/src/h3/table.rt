@@ -21,7 +21,7 @@ impl H3Connection {
         ensures { SaysAt (due_read (ends_of self.old).table.connection.decoder
             (ends_of self.old).table.connection.read id)
             (after_read (ends_of self.old).table.connection.decoder
-            (ends_of self.old).table.connection.read (ends_of self.old).table.connection)
+            (ends_of self.old).table.connection.read id (ends_of self.old).table.connection)
             (ends_of self.old) (ends_of self.new) out.old.items out.new.items result }
     {
         self.streams.acknowledge(id, out)

@@ -23,7 +23,7 @@ impl Streams {
     /// [`Connection::acknowledge`]: wtp_webtransport::connection::Connection::acknowledge
     pub fn acknowledge(&mut self, id: u64, out: &mut Vec<u8>) -> Result<(), AllocError>
         ensures { SaysIn (due_read (table_of self.old).connection.decoder (table_of self.old).connection.read id)
-            (after_read (table_of self.old).connection.decoder (table_of self.old).connection.read (table_of self.old).connection)
+            (after_read (table_of self.old).connection.decoder (table_of self.old).connection.read id (table_of self.old).connection)
             (table_of self.old) (table_of self.new) out.old.items out.new.items result }
     {
         self.connection.acknowledge(id, out)

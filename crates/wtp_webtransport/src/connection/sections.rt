@@ -9,6 +9,7 @@ use crate::event::{Event, Received};
 use crate::fault::Fault;
 use crate::fields::{Fields, names_table};
 use crate::stream::{Delay, Part, Stream, Unread};
+use crate::unacknowledged::Unacknowledged;
 use std::alloc::Global;
 use wtp_dynamic_fields::section::{Decoded, TableSectionError, decode_with_table};
 use wtp_fields::fields::{FieldList, FieldSectionError};
@@ -178,7 +179,7 @@ impl Connection {
     {
         match event {
             Event::Waits(_) => {}
-            _ => self.read = Some(required),
+            _ => self.read = Some(Unacknowledged::new(required)),
         }
     }
 }

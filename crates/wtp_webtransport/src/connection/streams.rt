@@ -39,8 +39,9 @@ impl Connection {
     /// is over.
     ///
     /// Returns `SessionLost` if it is the own stream of an open session, and otherwise `Reset`.
-    /// `ConnectionError` is for the control stream (RFC 9114, section 6.2.1) and those of QPACK (RFC
-    /// 9204, section 4.2). After the last event of the stream, and after an error of the connection,
+    /// `ConnectionError` is for the control stream (RFC 9114, section 6.2.1), those of QPACK (RFC 9204,
+    /// section 4.2), and a bidirectional stream of a server where WebTransport is not enabled (RFC 9114,
+    /// section 6.1). After the last event of the stream, and after an error of the connection,
     /// it returns `More`, and nothing changes. [`Stream::application_code`] has the code of the
     /// application, for a stream of a session.
     pub fn reset(&mut self, stream: &mut Stream) -> Event<'static>

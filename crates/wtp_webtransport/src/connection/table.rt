@@ -8,6 +8,7 @@ use crate::connection::Connection;
 use crate::event::{Event, Received};
 use crate::fault::Fault;
 use crate::stream::Stream;
+use crate::unacknowledged::{Unacknowledged, due_on, still_due};
 use std::alloc::AllocError;
 use wtp_connection::stream::Stream as Frames;
 use wtp_dynamic::error::SectionError;
@@ -39,9 +40,8 @@ impl Connection {
         self.decoder.as_ref()
     }
 
-    /// Returns how many insertions the field section needed that is to be
-    /// [acknowledged](Self::acknowledge), if one is.
-    pub fn unacknowledged(&self) -> Option<u64>
+    /// Returns the field section that is to be [acknowledged](Self::acknowledge), if one is.
+    pub fn unacknowledged(&self) -> Option<Unacknowledged>
         ensures { result ≡ self.now.read }
     {
         self.read
@@ -49,7 +49,7 @@ impl Connection {
 
     /// Gives a connection whose [words](crate::connection::words) were kept its dynamic table, and what
     /// [`unacknowledged`](Self::unacknowledged) returned.
-    pub fn restore_table(&mut self, decoder: QpackDecoder, unacknowledged: Option<u64>)
+    pub fn restore_table(&mut self, decoder: QpackDecoder, unacknowledged: Option<Unacknowledged>)
         ensures { self.new ≡ record self.old { decoder = Some decoder; read = unacknowledged } }
     {
         self.decoder = Some(decoder);
@@ -71,7 +71,7 @@ impl Connection {
     /// call of [`receive`](Self::receive) read, if it was read with the dynamic table (RFC 9204, section
     /// 4.4.1). `id` is the ID of the stream of that call. Call it after each call of `receive`, whatever
     /// the event is, and before the next one: a message that is malformed has a section that was read, too.
-    /// It writes once.
+    /// It writes once, and nothing if this stream was [cancelled](Self::cancel) since.
     ///
     /// # Errors
     ///
@@ -79,15 +79,17 @@ impl Connection {
     /// `receive`.
     pub fn acknowledge(&mut self, id: u64, out: &mut Vec<u8>) -> Result<(), AllocError>
         ensures { Says (due_read self.old.decoder self.old.read id)
-            (after_read self.old.decoder self.old.read self.old) self.old self.new
+            (after_read self.old.decoder self.old.read id self.old) self.old self.new
             out.old.items out.new.items result }
     {
-        let Some(required) = self.read else {
-            return Ok(());
-        };
+        let due = due_on(self.read, id);
         match &mut self.decoder {
             None => Ok(()),
             Some(decoder) => {
+                let Some(required) = due else {
+                    self.read = None;
+                    return Ok(());
+                };
                 let count = decoder.insert_count();
                 match decoder.acknowledge(id, required.min(count), out) {
                     Ok(()) => {
@@ -123,6 +125,9 @@ impl Connection {
     /// is after `Reset`, `Malformed`, `StreamError` and `TooLarge`, also of trailers, and where the stream is
     /// [abandoned](Self::abandon) or [rejected](Self::reject).
     ///
+    /// The section of this stream is not to be acknowledged any more. That of another stream still is; but
+    /// after the cancellations of two streams, before it is acknowledged, none is.
+    ///
     /// # Errors
     ///
     /// If allocation failed: nothing changed, and the call can be repeated.
@@ -134,7 +139,7 @@ impl Connection {
             None => Ok(()),
             Some(decoder) => match decoder.cancel(id, out) {
                 Ok(()) => {
-                    self.read = None;
+                    self.read = still_due(self.read, id);
                     Ok(())
                 }
                 Err(error) => Err(error),
