@@ -42,6 +42,12 @@ static void put_random(size_t length, int name, size_t *offset) {
   }
 }
 
+/* Whether a field is a cookie that is short enough to be guessed, of the names above the only one that
+   is never indexed (RFC 9204, section 7.1.3). */
+static int is_short_cookie(const nghttp3_nv *pair) {
+  return pair->namelen == 6 && memcmp(pair->name, "cookie", 6) == 0 && pair->valuelen < 20;
+}
+
 static void make(void) {
   count = below(MOST + 1);
   size = 0;
@@ -65,7 +71,7 @@ static void make(void) {
     pairs[i].namelen = fields[i].name_length;
     pairs[i].value = texts + fields[i].value_offset;
     pairs[i].valuelen = fields[i].value_length;
-    pairs[i].flags = NGHTTP3_NV_FLAG_NONE;
+    pairs[i].flags = is_short_cookie(&pairs[i]) ? NGHTTP3_NV_FLAG_NEVER_INDEX : NGHTTP3_NV_FLAG_NONE;
   }
 }
 
