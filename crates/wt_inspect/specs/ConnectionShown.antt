@@ -1,11 +1,11 @@
 -- What the program shows of a recorded connection, and its exit status then.
 use Rattle.std.specs.Prelude.{◌≡◌, ℕ, ◌+◌, ◌||◌, Bool, true, false, if◌then◌else◌, is_some}
 use Rattle.std.specs.Prelude.{List, [], ◌∷◌, ◌++◌, length, Option, Some, None, slice_get}
-use Rattle.std.specs.declared.cmp.Ordering.{Ordering}
-use Rattle.std.specs.List.Sorted.{IsPermutation, IsSorted}
+use Rattle.std.specs.List.Sorted.{IsPermutation, IsSortedBy}
 use Rattle.wt_inspection.specs.Results.{Item}
 use Rattle.wt_inspection.specs.declared.reading.Recorded.{Recorded}
 use Rattle.wt_inspection_model.specs.declared.item.Content.TheVariants as content-is
+use Rattle.wt_inspect_connection.specs.Parts.{is_before}
 use Rattle.wt_inspect_connection.specs.declared.list.Channel.{Channel}
 use Rattle.wt_inspect_connection.specs.declared.list.Sender.{Sender}
 use Rattle.wt_inspect_connection.specs.declared.list.Sender.TheVariants as sender-is
@@ -119,8 +119,8 @@ ShowsParts c before (part ∷ parts) text status =
 
 -- what is shown of these pieces of a connection by these arguments, in this order of their parts, and
 -- then of its sessions; and the status
-pub record ShowsConnection (cmp : Part → Part → Ordering) (arguments : Arguments)
-    (pieces : List Piece) (text : List ℕ) (status : ℕ) : Type 0 where
+pub record ShowsConnection (arguments : Arguments) (pieces : List Piece) (text : List ℕ)
+    (status : ℕ) : Type 0 where
   pub known : Connection
   pub parts : List Part
   pub arguments_are : known.arguments.now ≡ arguments
@@ -129,7 +129,7 @@ pub record ShowsConnection (cmp : Part → Part → Ordering) (arguments : Argum
   pub server : IsTable pieces sender-is.Server known.server.now
   pub sessions : AreSessions pieces known.sessions.now
   pub parts_are : IsPermutation (parts_from 0 pieces known.sessions.now pieces) parts
-  pub order : IsSorted cmp parts
+  pub order : IsSortedBy is_before parts
   pub shown : List ℕ
   pub rest : List ℕ
   pub text_is : text ≡ shown ++ rest

@@ -1,15 +1,15 @@
 -- The page of a recorded connection, and the exit status then.
 use Rattle.std.specs.Prelude.{◌≡◌, ℕ, ◌==◌, ◌||◌, Bool, true, false, if◌then◌else◌, is_some}
 use Rattle.std.specs.Prelude.{List, [], ◌∷◌, ◌++◌, map, Option, Some, None, slice_get}
-use Rattle.std.specs.declared.cmp.Ordering.{Ordering}
 use Rattle.std.specs.List.{list_any}
-use Rattle.std.specs.List.Sorted.{IsPermutation, IsSorted}
+use Rattle.std.specs.List.Sorted.{IsPermutation, IsSortedBy}
 use Rattle.wt_inspection.specs.Items.{IsInspection}
 use Rattle.wt_inspection.specs.Results.{Inspection}
 use Rattle.wt_inspection.specs.declared.reading.Recorded.{Recorded}
 use Rattle.wt_inspection_model.specs.declared.item.ending.End.TheVariants as end-is
 use Rattle.wt_inspection_views.specs.Html.{Entry, IsPageOf, sent_entry, summary}
 use Rattle.wt_inspection_views.specs.Html.{verdict_entry}
+use Rattle.wt_inspect_connection.specs.Parts.{is_before}
 use Rattle.wt_inspect_connection.specs.declared.list.Channel.{Channel}
 use Rattle.wt_inspect_connection.specs.declared.list.Sender.{Sender}
 use Rattle.wt_inspect_connection.specs.declared.list.Sender.TheVariants as sender-is
@@ -31,13 +31,12 @@ use Rattle.wt_inspect.specs.declared.connection.summary.Summary.{Summary}
 use Rattle.wt_inspect.specs.declared.connection.verdicts.Verdicts.{Verdicts}
 
 -- what these pieces say of their connection: the tables, the sessions, and the parts in their order
-pub record IsKnown (cmp : Part → Part → Ordering) (pieces : List Piece) (known : Known)
-    : Type 0 where
+pub record IsKnown (pieces : List Piece) (known : Known) : Type 0 where
   pub client : IsTable pieces sender-is.Client known.client
   pub server : IsTable pieces sender-is.Server known.server
   pub sessions : AreSessions pieces known.sessions.items
   pub parts : IsPermutation (parts_from 0 pieces known.sessions.items pieces) known.parts.items
-  pub order : IsSorted cmp known.parts.items
+  pub order : IsSortedBy is_before known.parts.items
 
 -- the connection of these pieces, with these arguments and what is known of it
 pub record IsConnectionOf (known : Known) (arguments : Arguments) (pieces : List Piece)
@@ -142,12 +141,12 @@ ShowsViews c verdicts parts text status =
 
 -- the page of these pieces of a connection by these arguments, in this order of their parts, and the
 -- status
-pub record ShowsPage (cmp : Part → Part → Ordering) (arguments : Arguments)
-    (pieces : List Piece) (text : List ℕ) (status : ℕ) : Type 0 where
+pub record ShowsPage (arguments : Arguments) (pieces : List Piece) (text : List ℕ) (status : ℕ)
+    : Type 0 where
   pub known : Known
   pub connection : Connection
   pub verdicts : Verdicts
-  pub known_is : IsKnown cmp pieces known
+  pub known_is : IsKnown pieces known
   pub connection_is : IsConnectionOf known arguments pieces connection
   pub server_ends : EndOnce verdicts.server.items
   pub client_ends : EndOnce verdicts.client.items

@@ -107,7 +107,7 @@ fn show_pieces<W: Write>(
     requires { is_lines arguments.now.output ≡ true }
     ensures shows { IfOk result (λ status. (text : List ℕ)
         × Draws (has_colors arguments.now) (W.contents output.old) (W.contents output.new) text
-        × ShowsConnection ⟦<Part as Ord>⟧.cmp arguments.now pieces.now text status) }
+        × ShowsConnection arguments.now pieces.now text status) }
     ensures statuses { IfOk result (λ status. (status ≡ 0) ⊎ (status ≡ 2)) }
     ensures fails { IfErr result StopsShowing }
 {
@@ -128,7 +128,7 @@ fn show_page<W: Write>(
 ) -> Result<u8, Failure>
     ensures shows { IfOk result (λ status. (text : List ℕ)
         × Appends (W.contents output.old) (W.contents output.new) text
-        × ShowsPage ⟦<Part as Ord>⟧.cmp arguments.now pieces.now text status) }
+        × ShowsPage arguments.now pieces.now text status) }
     ensures statuses { IfOk result (λ status. (status ≡ 0) ⊎ (status ≡ 2)) }
     ensures fails { IfErr result StopsShowing }
 {
@@ -154,7 +154,7 @@ struct Known<'a> {
 impl<'a> Known<'a> {
     /// Reads what these pieces say of their connection.
     fn read(alloc: Global, pieces: &'a [Piece<'_>]) -> Result<Self, AllocError>
-        ensures { IfOk result (λ known. IsKnown ⟦<Part as Ord>⟧.cmp pieces.entry.now known) }
+        ensures { IfOk result (λ known. IsKnown pieces.entry.now known) }
     {
         let client = read_table(alloc, pieces, Sender::Client)?;
         let server = read_table(alloc, pieces, Sender::Server)?;

@@ -1,2 +1,3 @@
 pub mod ListLemmas
 pub mod PieceLemmas
+pub mod OrderLemmas

@@ -1,8 +1,8 @@
 //! The parts of a connection, and their order.
-ghost use Rattle.std.specs.List.Sorted.{IsPermutation, IsSorted};
+ghost use Rattle.std.specs.List.Sorted.{IsPermutation, IsSortedBy};
 ghost use Rattle.std.specs.Prelude.{◌≡◌, IfOk};
 ghost use Rattle.wtp_core.specs.Varint.{number_at};
-ghost use Rattle.wt_inspect_connection.specs.Parts.{group_by_quarter, group_of, is_same_group, role_of};
+ghost use Rattle.wt_inspect_connection.specs.Parts.{group_by_quarter, group_of, is_before, is_same_group, role_of};
 
 use crate::list::Sender;
 use crate::purpose::Purpose;
@@ -108,9 +108,10 @@ pub fn is_same_group(one: Group, other: Group) -> bool
 /// Returns the same parts in their order: by group, role, ID, sender, and place in the list.
 ///
 /// Returns [`AllocError`] if allocation fails.
+#[tactic(auto, using(crate::proofs::OrderLemmas::sorted_before))]
 pub fn in_order(parts: Vec<Part>) -> Result<Vec<Part>, AllocError>
     ensures same { IfOk result (λ sorted. IsPermutation parts.items sorted.items) }
-    ensures order { IfOk result (λ sorted. IsSorted ⟦<Part as Ord>⟧.cmp sorted.items) }
+    ensures order { IfOk result (λ sorted. IsSortedBy is_before sorted.items) }
 {
     let mut parts = parts;
     parts.sort()?;

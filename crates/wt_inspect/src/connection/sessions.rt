@@ -1,9 +1,10 @@
 //! The sessions of a connection, and where its parts are shown.
 
-ghost use Rattle.std.specs.List.Sorted.{IsPermutation, IsSorted};
+ghost use Rattle.std.specs.List.Sorted.{IsPermutation, IsSortedBy};
 ghost use Rattle.std.specs.Prelude.{◌≡◌, true, IfOk, option_map};
 ghost use Rattle.wt_inspect.specs.Connections.{AreSessions, OpensBy, is_session, opening_of};
 ghost use Rattle.wt_inspect.specs.Connections.{opens_on, parts_from};
+ghost use Rattle.wt_inspect_connection.specs.Parts.{is_before};
 ghost use Rattle.wt_inspection.specs.Items.{input_with};
 ghost use Rattle.wt_inspection.specs.declared.reading.Recorded.TheVariants.{Bi};
 
@@ -112,7 +113,7 @@ pub(super) fn parts_in(
 ) -> Result<Vec<Part>, AllocError>
     ensures same { IfOk result (λ parts. IsPermutation
         (parts_from 0 pieces.now sessions.now pieces.now) parts.items) }
-    ensures order { IfOk result (λ parts. IsSorted ⟦<Part as Ord>⟧.cmp parts.items) }
+    ensures order { IfOk result (λ parts. IsSortedBy is_before parts.items) }
 {
     let mut parts = Vec::new(alloc);
     let mut index = 0;
