@@ -42,6 +42,12 @@ static void put_random(size_t length, int name, size_t *offset) {
   }
 }
 
+/* nghttp3 writes the bit N where it is told so; here it is that of a short cookie. */
+static uint8_t flags_of(const nghttp3_nv *pair) {
+  int is_cookie = pair->namelen == 6 && memcmp(pair->name, "cookie", 6) == 0;
+  return is_cookie && pair->valuelen < 20 ? NGHTTP3_NV_FLAG_NEVER_INDEX : NGHTTP3_NV_FLAG_NONE;
+}
+
 static void make(void) {
   count = below(MOST + 1);
   size = 0;
@@ -65,7 +71,7 @@ static void make(void) {
     pairs[i].namelen = fields[i].name_length;
     pairs[i].value = texts + fields[i].value_offset;
     pairs[i].valuelen = fields[i].value_length;
-    pairs[i].flags = NGHTTP3_NV_FLAG_NONE;
+    pairs[i].flags = flags_of(&pairs[i]);
   }
 }
 
