@@ -97,6 +97,12 @@ static int is_chat(const wt_event *e) {
   return size == 5 && memcmp(path, "/chat", size) == 0;
 }
 
+static int is_connect(const wt_event *e) {
+  size_t length;
+  const uint8_t *method = field_value(fields, e->fields, out, ":method", &length);
+  return method != NULL && length == 7 && memcmp(method, "CONNECT", 7) == 0;
+}
+
 /* ---- The server ---- */
 
 static void begin(void) {
@@ -136,7 +142,9 @@ static void act(stream *s, wt_event e, const uint8_t *bytes) {
   case WT_EVENT_SESSION_REQUESTED:
     answer(s, WT_ASKED_SESSION, is_chat(&e) ? "200" : "404"); break;
   case WT_EVENT_HEADERS:
-    if (e.detail == WT_HEADERS_REQUEST) answer(s, WT_ASKED_OTHER, "404");
+    if (e.detail != WT_HEADERS_REQUEST) break;
+    if (is_connect(&e)) answer(s, WT_ASKED_CONNECT, "501"); /* a tunnel by another protocol */
+    else answer(s, WT_ASKED_OTHER, "404");
     break;
   case WT_EVENT_TOO_LARGE: refuse_fields(s); break;
   case WT_EVENT_JOINS: if (join(s, e.number, &e)) act(s, e, bytes); break;

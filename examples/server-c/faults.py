@@ -202,6 +202,26 @@ async def refuses_large_fields(port):
         return has_431, await client.echoes(session, b"still here")
 
 
+TUNNEL = [
+    (b":method", b"CONNECT"),
+    (b":scheme", b"https"),
+    (b":authority", b"127.0.0.1"),
+    (b":path", b"/echo"),
+    (b":protocol", b"websocket"),
+]
+
+
+async def refuses_tunnels(port):
+    """A CONNECT for a protocol that the server does not know: whether it has the status 501 (RFC
+    9220, section 3; in Huffman text), and the connection goes on."""
+    async with client_of(port) as client:
+        session = await client.open_session(b"/echo")
+        stream = client.open(request(*TUNNEL))
+        await client.until(lambda: client.stream(stream).is_ended)
+        has_501 = b"\x5f\x09\x82\x6c\x01" in client.stream(stream).data
+        return has_501, await client.echoes(session, b"still here")
+
+
 async def reads_long_frames(port):
     """A POST of 100,000 bytes in one DATA frame: what the answer's content is."""
     async with client_of(port) as client:
@@ -275,6 +295,7 @@ async def main(port):
             report.check(f"table: {name}", await action(port), wanted)
             goes_on = goes_on and await bystander.echoes(session, b"still here")
         report.check("431", await refuses_large_fields(port), (True, True))
+        report.check("501", await refuses_tunnels(port), (True, True))
         report.check("a POST in one frame", await reads_long_frames(port), b"100000 bytes\n")
         saw = await faults.endless_frame(port)
         report.check("an unknown frame of 2^40 bytes", saw, "goes on")

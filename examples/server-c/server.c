@@ -54,7 +54,9 @@ static void request(h3_stream *s, const h3_event *e) {
   size_t length;
   const uint8_t *path = field_value(e->fields, e->wt.fields, e->out, ":path", &length);
   bool head = h3_field_is(e, ":method", "HEAD");
-  if (h3_field_is(e, ":method", "POST")) { /* answered at its end */
+  if (h3_field_is(e, ":method", "CONNECT")) /* a tunnel by a protocol that it does not know */
+    h3_respond(s, 501, NULL, NULL, NULL, 0, true);
+  else if (h3_field_is(e, ":method", "POST")) { /* answered at its end */
     keep(s, NULL, 0);
     if (length > 8 && !memcmp(path, "/result?", 8)) printf("%.*s\n", (int)length - 8, path + 8);
     if (h3_field_is(e, ":path", "/done")) done = true;

@@ -1,4 +1,4 @@
-//! A client: two requests and three sessions at once.
+//! A client: two requests, three sessions and a tunnel at once.
 use std::alloc::Global;
 use std::collections::BTreeMap;
 use wt_ends::end::{Application, Link};
@@ -40,7 +40,7 @@ impl Client {
         }
     }
 
-    /// Sends requests and asks for sessions, once the server allows them.
+    /// Sends requests and asks for sessions and a tunnel, once the server allows them.
     fn begin(&mut self, link: &mut Link) -> Result<(), Error> {
         for path in ["/first", "/second"] {
             self.upload(link, path)?;
@@ -55,6 +55,15 @@ impl Client {
             link.connection
                 .request(id, &list, link.outgoing.stream(id)?)?;
         }
+        self.ask_for_tunnel(link)
+    }
+
+    /// Asks for a tunnel by a protocol that the server does not know (RFC 9220, section 3).
+    fn ask_for_tunnel(&mut self, link: &mut Link) -> Result<(), Error> {
+        let id = link.outgoing.open_bidirectional();
+        let list = tunnel_request(link.alloc)?;
+        link.connection
+            .request(id, &list, link.outgoing.stream(id)?)?;
         Ok(())
     }
 
@@ -183,6 +192,21 @@ fn session_request(alloc: Global, url: &str) -> Result<FieldList, Error> {
         Err(UrlParseError::Memory) => Err(Error::Memory),
         Err(_) => Err(Error::Stream(Code::H3_INTERNAL_ERROR)),
     }
+}
+
+/// Returns the fields of a request for a tunnel of WebSockets.
+fn tunnel_request(alloc: Global) -> Result<FieldList, Error> {
+    let list = FieldList::from_fields(
+        alloc,
+        &[
+            (b":method", b"CONNECT"),
+            (b":scheme", b"https"),
+            (b":authority", b"example.com"),
+            (b":path", b"/chat"),
+            (b":protocol", b"websocket"),
+        ],
+    )?;
+    Ok(list)
 }
 
 /// Returns the fields of a request with content.

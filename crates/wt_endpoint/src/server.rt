@@ -14,7 +14,7 @@ impl Application for Server {
     fn handle(&mut self, link: &mut Link, id: u64, event: Event<'_>) -> Result<(), Error> {
         match event {
             Event::SessionRequested(list) => answer_session(link, id, &list),
-            Event::Headers(HeadersKind::Request, _) => respond(link, id, StatusCode::OK),
+            Event::Headers(HeadersKind::Request, list) => answer(link, id, &list),
             Event::Data(bytes) => link.send_content(id, bytes),
             Event::StreamData(bytes) if id % 4 < 2 => link.send_bytes(id, bytes),
             Event::SessionClosed(_) => link.end(id),
@@ -43,6 +43,16 @@ fn answer_session(link: &mut Link, id: u64, list: &FieldList) -> Result<(), Erro
     link.open_stream(id, true, b"a question of the server")?;
     link.open_stream(id, false, b"news of the server")?;
     Ok(())
+}
+
+/// Answers another request. A CONNECT asks for a tunnel by a protocol that this server does not know (RFC
+/// 9220, section 3; RFC 9110, section 15.6.2).
+fn answer(link: &mut Link, id: u64, list: &FieldList) -> Result<(), Error> {
+    if list.first(b":method") == Some(b"CONNECT") {
+        respond(link, id, StatusCode::NOT_IMPLEMENTED)?;
+        return link.end(id);
+    }
+    respond(link, id, StatusCode::OK)
 }
 
 /// Responds to a request.

@@ -1,5 +1,5 @@
-// Command server is a server over quic-go: a page, POST, 404, and sessions that send back what comes. What a stream
-// of a session says after an exclamation mark is a command, for the page and the client of the test.
+// Command server is a server over quic-go: a page, POST, 404, 501, and sessions that send back what comes. What a
+// stream of a session says after an exclamation mark is a command, for the page and the client of the test.
 //
 //	server PORT SECONDS CERTIFICATE KEY PAGE
 //
@@ -110,6 +110,8 @@ func serveRequest(request *quic.Request) {
 		case "/done":
 			done <- struct{}{}
 		}
+	case method == "CONNECT": // a tunnel by another protocol
+		respond(request, 501, "text/plain", []byte("not implemented\n"))
 	case method == "GET":
 		respond(request, 404, "text/plain", []byte("not found\n"))
 	default:

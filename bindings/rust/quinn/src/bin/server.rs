@@ -103,6 +103,7 @@ async fn answer(server: Arc<Server>, request: Request) {
         "GET" if page => request.respond(200, &html, &server.page).await,
         "HEAD" if page => request.respond(200, &html, b"").await,
         "GET" | "HEAD" => request.respond(404, &[], b"").await,
+        "CONNECT" => request.respond(501, &[], b"").await, // a tunnel by another protocol
         _ => request.respond(405, &[("allow", "GET, HEAD, POST")], b"").await,
     };
 }
