@@ -1,5 +1,5 @@
 -- What a queue says of its stream.
-use Rattle.std.specs.Prelude.{◌≡◌, ◌≢◌, ℕ, ◌+◌, ◌-◌, ◌*◌, ◌^◌, ◌<◌, ◌≤◌, ◌&&◌, ◌==◌, if◌then◌else◌, nat_lt, nat_le, Bool, true, false, List, [], length}
+use Rattle.std.specs.Prelude.{◌≡◌, ◌≢◌, ℕ, ◌+◌, ◌-◌, ◌*◌, ◌^◌, ◌<◌, ◌≤◌, ◌&&◌, ◌||◌, ◌==◌, not, if◌then◌else◌, nat_lt, nat_le, Bool, true, false, List, [], length}
 use Rattle.std.specs.List.{concat}
 use Rattle.vesgrauf_queue.specs.Pieces.{shown_first, shown_second, shown}
 use Rattle.vesgrauf_queue.specs.declared.config.QueueConfig.{QueueConfig}
@@ -7,7 +7,7 @@ use Rattle.vesgrauf_queue.specs.declared.error.NotQueued.{NotQueued}
 use Rattle.vesgrauf_queue.specs.declared.error.NotQueued.TheVariants.{Over, TooLong, Memory}
 use Rattle.vesgrauf_queue.specs.declared.ending.Reset.{Reset}
 use Rattle.vesgrauf_queue.specs.declared.ending.Ending.{Ending}
-use Rattle.vesgrauf_queue.specs.declared.ending.Ending.TheVariants.{Open, Finishing, Resetting, WasReset}
+use Rattle.vesgrauf_queue.specs.declared.ending.Ending.TheVariants.{Open, Finishing, Finished, Resetting, WasReset}
 
 -- The pieces that wait, each in one slice; the bytes that QUIC took and that are kept; how many bytes it took, and how
 -- many of them are acknowledged; how the stream ends; whether a `Writable` is owed.
@@ -46,6 +46,18 @@ abbrev pub is_reset : Ending → Bool
 is_reset (Resetting r) = true
 is_reset (WasReset r) = true
 is_reset other = false
+
+-- QUIC was told of its end or of its reset
+abbrev pub is_told : Ending → Bool
+is_told Finished = true
+is_told (WasReset r) = true
+is_told other = false
+
+-- and all bytes that it took have come, if they are kept or counted until then
+abbrev pub is_done : State → Bool
+is_done s =
+    is_told s.ending
+    && (not (s.config.keep_until_acked || s.config.bound_by_acked) || s.put == s.acked)
 
 -- nothing is to be put
 pub record IsIdle (s : State) : Type 0 where

@@ -46,7 +46,7 @@ impl Model for Queue {
 impl Queue {
     ghost use Rattle.std.specs.Prelude.{◌≡◌, ◌≢◌, [], drop, ◌<◌, ◌≤◌, ◌+◌, ◌-◌, ◌^◌, ◌↔◌, ◌++◌, ◌&&◌, ◌==◌, length, take, not, true, false, IfOk, OnOk, OnErr, IfErr, IsErr, IsTrue, MatchBool, MatchOption};
     ghost use Rattle.vesgrauf_queue.specs.Pieces.{Adds, AddsBoth, IsStartOf, shown, after_shown};
-    ghost use Rattle.vesgrauf_queue.specs.State.{State, waiting, counted as counted_is, is_full as is_full_is, is_half_free, is_reset, IsIdle, Shows, IsNotDue, HasNoReset, CanQueue, IsWhyNot, IsWhyNever};
+    ghost use Rattle.vesgrauf_queue.specs.State.{State, waiting, counted as counted_is, is_full as is_full_is, is_done as is_done_is, is_half_free, is_reset, IsIdle, Shows, IsNotDue, HasNoReset, CanQueue, IsWhyNot, IsWhyNever};
     ghost use Rattle.vesgrauf_queue.specs.Steps.{IsNew, Does, Queues, Refuses, Finishes, Resets, Puts, PutsReset, Acknowledges, Tells, ends_with};
 
     /// Creates the queue of a stream, of which nothing is to be sent. Nothing is allocated.
@@ -82,6 +82,30 @@ impl Queue {
     {
         let counted = self.counted();
         counted > 0 && counted >= self.config.mark as u64
+    }
+
+    /// Returns how the stream ends.
+    pub fn ending(&self) -> Ending
+        ensures { result ≡ self.now.ending }
+    {
+        self.ending
+    }
+
+    /// Returns whether bytes wait.
+    pub fn has_waiting(&self) -> bool
+        ensures { result ≡ not (length (waiting self.now) == 0) }
+    {
+        self.waits > 0
+    }
+
+    /// Returns whether QUIC took the end or the reset, and with `keep_until_acked` or `bound_by_acked` all bytes
+    /// that it took are acknowledged.
+    pub fn is_done(&self) -> bool
+        ensures { result ≡ is_done_is self.now }
+    {
+        let kept = self.config.keep_until_acked || self.config.bound_by_acked;
+        matches!(self.ending, Ending::Finished | Ending::WasReset(_))
+            && (!kept || self.put == self.acked)
     }
 
     // Returns whether so many bytes may be queued.
