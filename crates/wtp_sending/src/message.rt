@@ -48,7 +48,7 @@ enum Place {
 
 /// The sending side of the stream of a request: at a client the request, and at a server the
 /// response. It has no bytes.
-#[derive(Drop)]
+#[derive(Clone, Copy)]
 pub struct Sending {
     id: SessionId,
     role: Role,
