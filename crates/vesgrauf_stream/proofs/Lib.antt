@@ -1,2 +1,4 @@
 pub mod ReadingLemmas
 pub mod TurnLemmas
+pub mod WritingLemmas
+pub mod HeadersLemmas

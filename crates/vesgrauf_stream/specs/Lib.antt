@@ -1,2 +1,5 @@
 pub mod Reading
 pub mod Turns
+pub mod Errors
+pub mod Writing
+pub mod Headers

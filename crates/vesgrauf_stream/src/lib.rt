@@ -1,8 +1,11 @@
 //! One stream of a connection of HTTP/3 and WebTransport: what is heard in the bytes that came, however they are
-//! cut.
+//! cut, and what is sent.
 #![tactic(auto)]
 
 pub mod bytes;
+pub mod error;
 pub mod heard;
 pub mod laws;
 pub mod reading;
+pub mod tools;
+pub mod writing;
