@@ -2,3 +2,5 @@ pub mod ReadingLemmas
 pub mod TurnLemmas
 pub mod WritingLemmas
 pub mod HeadersLemmas
+pub mod SaidLemmas
+pub mod CallLemmas

@@ -3,3 +3,4 @@ pub mod Turns
 pub mod Errors
 pub mod Writing
 pub mod Headers
+pub mod Said
