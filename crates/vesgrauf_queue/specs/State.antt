@@ -47,16 +47,16 @@ is_reset (Resetting r) = true
 is_reset (WasReset r) = true
 is_reset other = false
 
--- QUIC was told of its end or of its reset
-abbrev pub is_told : Ending → Bool
-is_told Finished = true
-is_told (WasReset r) = true
-is_told other = false
+-- QUIC took the end or the reset
+abbrev pub is_taken : Ending → Bool
+is_taken Finished = true
+is_taken (WasReset r) = true
+is_taken other = false
 
--- and all bytes that it took have come, if they are kept or counted until then
+-- QUIC took the end or the reset, and all bytes that it took have come, if they are kept or counted until then
 abbrev pub is_done : State → Bool
 is_done s =
-    is_told s.ending
+    is_taken s.ending
     && (not (s.config.keep_until_acked || s.config.bound_by_acked) || s.put == s.acked)
 
 -- nothing is to be put
