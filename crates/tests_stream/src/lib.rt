@@ -1,8 +1,10 @@
-//! What is heard of a stream in chunks of each size, and which of its bytes are copied. Tests over
-//! `vesgrauf_stream`; there is no product code here.
+//! What is heard of a stream in chunks of each size, which of its bytes are copied, and what is queued on an own half.
+//! Tests over `vesgrauf_stream`; there is no product code here.
 #![tactic(auto)]
 
 #[cfg(test)]
 mod chunks;
 #[cfg(test)]
 mod hearing;
+#[cfg(test)]
+mod writing;

@@ -21,11 +21,12 @@ use Rattle.vesgrauf_stream.specs.Writing.{is_none, open_if, message_of, open_hal
 
 -- ---- the message
 
--- a request, if no message began
+-- the message of a request, if none began
 abbrev pub request_of : ℕ → Peer → Half → Result Sending NotSent
 request_of id peer half.Idle = Ok (sending_of id (role.Request peer.extended_connect) peer)
 request_of id peer other = Err (error.Send Unexpected)
 
+-- it may be sent, or why not
 abbrev pub request_at : Writing → ℕ → Peer → Result Sending NotSent
 request_at w id peer = and_then (request_of id peer) (open_if (is_none w.half) w)
 
@@ -34,6 +35,7 @@ abbrev pub response_of : ℕ → Peer → Half → Result Sending NotSent
 response_of id peer (half.Asked asked) = Ok (sending_of id (role.Response asked) peer)
 response_of id peer other = message_of other
 
+-- it may be sent, or why not
 abbrev pub response_at : Writing → ℕ → Peer → Result Sending NotSent
 response_at w id peer = and_then (response_of id peer) (open_half w)
 
@@ -83,7 +85,7 @@ RefusesEnd F first fields fin t u w e =
     × TakesBack first.id fields section t u
     × RefusesBy (sending (ends_if fin next)) w (length (section_wire section)) e
 
--- Why no frame of this message is queued: wtp_sending refuses it, or the end that follows it; or else it is not queued.
+-- Why no frame of this message is queued: `wtp_sending` refuses it, or the end that follows it; or else it is not queued.
 abbrev pub RefusesFrame : Leading → (Sending → SendError → Type 0) → Sending → List Field → (fin : Bool) → Tools → Tools
     → Writing → NotSent → Type 0
 RefusesFrame F G first fields fin t u w e =
@@ -103,27 +105,30 @@ abbrev pub RefusesFor : Result Sending NotSent → Leading → (Sending → Send
 RefusesFor (Err r) F G fields fin t u w e = (e ≡ r) × LeavesTools t u
 RefusesFor (Ok first) F G fields fin t u w e = RefusesFrame F G first fields fin t u w e
 
--- why wtp_sending refuses HEADERS of a head, and trailers
+-- why `wtp_sending` refuses HEADERS of a head
 abbrev pub RefusesAsHead : List Field → Tools → Tools → Sending → SendError → Type 0
 RefusesAsHead fields t u s e =
     RefusesHeadersWith s fields t.encoder u.encoder t.instructions.items u.instructions.items None e
 
+-- why it refuses trailers
 abbrev pub RefusesAsTrailers : List Field → Tools → Tools → Sending → SendError → Type 0
 RefusesAsTrailers fields t u s e =
     RefusesTrailersWith s fields t.encoder u.encoder t.instructions.items u.instructions.items None e
 
--- HEADERS of this message are queued, and then maybe the end; or why not
+-- HEADERS of this message are queued, and then maybe the end
 abbrev pub SendsHeaders : Result Sending NotSent → List Field → (fin : Bool) → Tools → Tools → Writing → Writing → Type 0
 SendsHeaders message fields fin t u old new = SendsBy message SendsHeadAs fields fin t u old new
 
+-- why they are not
 abbrev pub RefusesHeaders : Result Sending NotSent → List Field → (fin : Bool) → Tools → Tools → Writing → NotSent → Type 0
 RefusesHeaders message fields fin t u w e =
     RefusesFor message SendsHeadAs (RefusesAsHead fields t u) fields fin t u w e
 
--- trailers are queued, and the end; or why not
+-- trailers are queued, and the end
 abbrev pub SendsTrailers : List Field → Tools → Tools → Writing → Writing → Type 0
 SendsTrailers fields t u old new = SendsBy (message_at old) SendsTrailersAs fields true t u old new
 
+-- why they are not
 abbrev pub RefusesTrailers : List Field → Tools → Tools → Writing → NotSent → Type 0
 RefusesTrailers fields t u w e =
     RefusesFor (message_at w) SendsTrailersAs (RefusesAsTrailers fields t u) fields true t u w e

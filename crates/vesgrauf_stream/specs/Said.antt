@@ -87,7 +87,7 @@ steps_of (Cuts code size) = Resets code size ∷ []
 steps_of Turns = []
 steps_of (Takes step) = step ∷ []
 
--- the half is asked for a response, is that of a session's stream, or has an open tunnel
+-- a request is taken, the stream becomes one of a session, or a 2xx response is taken
 abbrev pub Turned : Half → Half → Type 0
 Turned old new =
     ((asked : Asked) × (new ≡ asked_half asked old)) ⊎ ((new ≡ raw_half old) ⊎ (new ≡ connected old))
@@ -99,6 +99,7 @@ is_taking Finishes = false
 is_taking (Resets code size) = false
 is_taking other = true
 
+-- what a call does to the half
 abbrev pub HalfGoes : Call → Half → Half → Type 0
 HalfGoes (Says said room fin) old new = Goes said fin old new
 HalfGoes Ends old new = after_content 0 true old ≡ Ok new
@@ -116,11 +117,11 @@ abbrev pub CallsAll : List Call → Writing → Writing → Type 0
 CallsAll [] old new = new ≡ old
 CallsAll (call ∷ calls) old new = (mid : Writing) × Calls call old mid × CallsAll calls mid new
 
--- their steps
+-- the steps of the queue that these calls take
 abbrev pub all_steps : List Call → List Step
 all_steps calls = flat_map steps_of calls
 
--- all that was said, in order
+-- all that these calls say, in order
 abbrev pub said_in : List Call → List Said
 said_in [] = []
 said_in (Says said room fin ∷ calls) = said ∷ said_in calls
@@ -130,13 +131,14 @@ said_in (call ∷ calls) = said_in calls
 abbrev pub all_wire : List Call → List ℕ
 all_wire calls = flat_map wire_of (said_in calls)
 
--- one of them ended the stream
+-- a call that ends the stream
 abbrev pub is_end : Call → Bool
 is_end (Says said room fin) = fin
 is_end Ends = true
 is_end (Cuts code size) = true
 is_end other = false
 
+-- one of these calls ended it
 abbrev pub has_end : List Call → Bool
 has_end [] = false
 has_end (call ∷ calls) = is_end call || has_end calls

@@ -5,7 +5,7 @@ use Rattle.wtp_messages.specs.declared.response.Asked.{Asked}
 use Rattle.wtp_sending.specs.declared.error.SendError.{SendError}
 use Rattle.wtp_sending.specs.declared.error.SendError.TheVariants.{Unexpected, Memory}
 use Rattle.wtp_sending.specs.declared.message.Sending.{Sending}
-use Rattle.wtp_sending.specs.Message.{data_head, after_data, after_bytes, after_end, opens}
+use Rattle.wtp_sending.specs.Message.{data_head, after_data, after_bytes, after_end, opens, placed}
 use Rattle.wtp_sending.specs.Session.{in_session, uni_head, bi_head, drain_wire, close_data, after_close}
 use Rattle.vesgrauf_queue.specs.declared.ending.Ending.{Ending}
 use Rattle.vesgrauf_queue.specs.declared.ending.Ending.TheVariants.{Open}
@@ -21,27 +21,27 @@ use Rattle.vesgrauf_stream.specs.declared.writing.Writing.{Writing}
 
 -- ---- the half
 
--- what a request asks for is known, if no message began
+-- after a request that asks for this, if no message began
 abbrev pub asked_half : Asked → Half → Half
 asked_half asked half.Idle = half.Asked asked
 asked_half asked other = other
 
--- it is that of a stream of a session, if no message began
+-- that of a stream of a session, if no message began
 abbrev pub raw_half : Half → Half
 raw_half half.Idle = half.Raw
 raw_half other = other
 
--- after a 2xx response: the tunnel or the session of a CONNECT opens
+-- the tunnel or the session of a CONNECT opens; any other message goes on
 abbrev pub opened : Sending → Result Sending SendError → Half
 opened s (Ok next) = half.Message next
 opened s (Err e) = half.Message s
 
+-- the half after a 2xx response
 abbrev pub connected : Half → Half
-connected (half.Message s) =
-    opened s (and_then (λ place. Ok (record s { place = place })) (opens s.place))
+connected (half.Message s) = opened s (placed s (opens s.place))
 connected other = other
 
--- with this half
+-- the same with this half
 abbrev pub with_half : Half → Writing → Writing
 with_half h w = record w { half = h }
 
@@ -70,7 +70,7 @@ is_open other = false
 abbrev pub is_done : Writing → Bool
 is_done w = if is_none w.half then true else is_queue_done w.queue
 
--- a half of which this says that nothing may be sent, one that is over, or one that is open
+-- the half, unless nothing may be sent on it, by this; or it was finished or reset
 abbrev pub open_if : Bool → Writing → Result Half NotSent
 open_if absent w =
     if absent then Err None else if is_open w.queue.ending then Ok w.half else Err Over
@@ -80,7 +80,7 @@ open_if absent w =
 abbrev pub open_half : Writing → Result Half NotSent
 open_half w = open_if (is_idle w.half) w
 
--- its message
+-- the message of a half, or why there is none
 abbrev pub message_of : Half → Result Sending NotSent
 message_of half.None = Err None
 message_of half.Idle = Err None
@@ -88,6 +88,7 @@ message_of (half.Asked asked) = Err (Send Unexpected)
 message_of (half.Message s) = Ok s
 message_of half.Raw = Err (Send Unexpected)
 
+-- the message, if something may be sent
 abbrev pub message_at : Writing → Result Sending NotSent
 message_at w = and_then message_of (open_half w)
 
@@ -139,6 +140,7 @@ abbrev pub after_content : ℕ → Bool → Half → Result Half NotSent
 after_content n fin h =
     if is_raw h then Ok h else and_then (after_part n fin) (message_of h)
 
+-- the half after so many bytes, and maybe the end, or why they may not be sent
 abbrev pub content_at : Writing → ℕ → Bool → Result Half NotSent
 content_at w n fin = and_then (after_content n fin) (open_half w)
 
@@ -146,6 +148,7 @@ content_at w n fin = and_then (after_content n fin) (open_half w)
 abbrev pub part_head : ℕ → List ℕ
 part_head n = if n == 0 then [] else data_head n
 
+-- what is queued before so many bytes on a half: nothing on a stream without messages
 abbrev pub frame_head : Half → ℕ → List ℕ
 frame_head h n = if is_raw h then [] else part_head n
 
@@ -158,6 +161,7 @@ pub record Sends (bytes : List ℕ) (fin room : Bool) (old new : Writing) : Type
   pub may : content_at old (length bytes) fin ≡ Ok new.half
   pub queued : IsQueued (frame_head old.half (length bytes) ++ bytes) room fin old new
 
+-- why so many bytes, and maybe the end, are not queued
 abbrev pub RefusesContent : Writing → ℕ → Bool → NotSent → Type 0
 RefusesContent w n fin e = RefusesBy (content_at w n fin) w (content_len w.half n) e
 
@@ -170,6 +174,7 @@ pub record Ends (old new : Writing) : Type 0 where
 abbrev pub raw_of : Half → Result (Unit {0}) NotSent
 raw_of h = if is_raw h then Ok tt else Err (Send Unexpected)
 
+-- they may, or why not
 abbrev pub raw_at : Writing → Result (Unit {0}) NotSent
 raw_at w = and_then raw_of (open_half w)
 
@@ -182,10 +187,11 @@ pub record Pushes (bytes : List ℕ) (old new : Writing) : Type 0 where
 
 -- ---- the session of which this is the own stream
 
--- it is open
+-- the session of a message is open, or why not
 abbrev pub session_of : Sending → Result (Unit {0}) NotSent
 session_of s = sending (in_session s.place)
 
+-- this is the own stream of an open session, or why not
 abbrev pub session_at : Writing → Result (Unit {0}) NotSent
 session_at w = and_then session_of (message_at w)
 
@@ -208,11 +214,12 @@ pub record Closes (code : ℕ) (reason : List ℕ) (old new : Writing) : Type 0 
   pub room : Bool
   pub queued : IsQueued (close_data code reason) room true old new
 
--- the first bytes of something that belongs to it
+-- the first bytes of something that belongs to the session of this message
 abbrev pub head_by : (ℕ → List ℕ) → Result Sending NotSent → List ℕ
 head_by f (Err e) = []
 head_by f (Ok s) = f s.id
 
+-- those of a stream of a session
 abbrev pub stream_head : Bool → ℕ → List ℕ
 stream_head bidirectional session = if bidirectional then bi_head session else uni_head session
 
