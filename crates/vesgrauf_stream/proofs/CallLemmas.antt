@@ -31,7 +31,7 @@ ok_is e = cc e
 ok_not : {A E P : Type 0} {e : E} {y : A} → Err e ≡ Ok y → P
 ok_not e = cc e
 
-by_ok : {A B E P : Type 0} (f : A → Result B E) (r : Result A E) (y : B) → and_then f r ≡ Ok y → ((x : A) → r ≡ Ok x → f x ≡ Ok y → P) → P
+pub by_ok : {A B E P : Type 0} (f : A → Result B E) (r : Result A E) (y : B) → and_then f r ≡ Ok y → ((x : A) → r ≡ Ok x → f x ≡ Ok y → P) → P
 by_ok f (Ok x) y e g = g x refl e
 by_ok f (Err e) y is g = ok_not is
 
@@ -156,7 +156,7 @@ trailers_said fields t u w v does =
       },
     ))
 
-sent_ok : {A : Type 0} (r : Result A SendError) (x : A) → sending r ≡ Ok x → r ≡ Ok x
+pub sent_ok : {A : Type 0} (r : Result A SendError) (x : A) → sending r ≡ Ok x → r ≡ Ok x
 sent_ok (Ok y) x e = ap Ok (ok_is e)
 sent_ok (Err y) x e = ok_not e
 

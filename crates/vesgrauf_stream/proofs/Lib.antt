@@ -4,3 +4,4 @@ pub mod WritingLemmas
 pub mod HeadersLemmas
 pub mod SaidLemmas
 pub mod CallLemmas
+pub mod ReadBackLemmas

@@ -4,3 +4,4 @@ pub mod Errors
 pub mod Writing
 pub mod Headers
 pub mod Said
+pub mod ReadBack

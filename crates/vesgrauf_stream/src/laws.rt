@@ -2,6 +2,8 @@
 ghost use Rattle.std.specs.Prelude.{◌≡◌, ◌++◌, ℕ, Bool, List, [], ◌∷◌, false, true, drop};
 ghost use Rattle.wtp_qpack.specs.Field.{Field};
 ghost use Rattle.wtp_sending.specs.declared.peer.Peer.{Peer};
+ghost use Rattle.wtp_frames.specs.declared.endpoint.Endpoint.{Endpoint};
+ghost use Rattle.wtp_frames.specs.declared.reader.Reader.{Reader};
 ghost use Rattle.wtp_webtransport.specs.declared.connection.Connection.{Connection};
 ghost use Rattle.vesgrauf_queue.specs.declared.config.QueueConfig.{QueueConfig};
 ghost use Rattle.vesgrauf_queue.specs.Runs.{put, was_reset};
@@ -14,6 +16,7 @@ ghost use Rattle.vesgrauf_stream.specs.Reading.{Hears, Keeps, unread, is_ended};
 ghost use Rattle.vesgrauf_stream.specs.declared.tools.Tools.{Tools};
 ghost use Rattle.vesgrauf_stream.specs.declared.writing.Writing.{Writing};
 ghost use Rattle.vesgrauf_stream.specs.Headers.{request_at, response_at, SendsHeaders, SendsTrailers};
+ghost use Rattle.vesgrauf_stream.specs.ReadBack.{IsReadTo, IsReadBack, PlainCalls, AreReadBack};
 ghost use Rattle.vesgrauf_stream.specs.Said.{Call, Says, Ends as End, Headers, Trailers, Drain, Close, Bytes, Calls, CallsAll, content_of, all_steps, all_wire, said_in, has_end};
 ghost use Rattle.vesgrauf_stream.specs.Turns.{Turn, Reads, Unread, Leads, bytes_in, read_in, end_in};
 ghost use Rattle.vesgrauf_stream.specs.Writing.{Sends, Ends, Pushes, Drains, Closes};
@@ -53,6 +56,16 @@ pub fn what_is_said_is_queued()
 pub fn nothing_is_said_after_the_end()
     ensures { (calls more : List Call) (w m v : Writing) → CallsAll calls w m → has_end calls ≡ true
         → CallsAll more m v → said_in more ≡ [] }
+{}
+
+/// What is said on a half with a message is read by the other end as it was meant, whatever follows: field sections,
+/// content byte by byte, and capsules; and after the end the stream may end. Without interim responses the bytes of all
+/// calls together give all of this, and nothing else.
+pub fn what_is_said_is_read()
+    ensures call { (e : Endpoint) (call : Call) (w v : Writing) (r : Reader) → IsReadTo e w.half r
+        → Calls call w v → IsReadBack e call v.half r }
+    ensures all { (e : Endpoint) (calls : List Call) (w v : Writing) (r : Reader) → IsReadTo e w.half r
+        → PlainCalls calls w v → AreReadBack e calls v.half r }
 {}
 
 /// The calls of a [`Writing`](crate::writing::Writing) say this.
