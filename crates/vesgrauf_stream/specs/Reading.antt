@@ -94,6 +94,11 @@ pub record IsUntouched (c : Connection) (r : Reading) (input : Chunk) (d : Conne
   pub bytes : rest.bytes.now ≡ input.bytes.now
   pub fin : rest.fin ≡ input.fin
 
+-- the bytes that are kept, and whether the stream ends after them, are the same
+pub record IsStill (r s : Reading) : Type 0 where
+  pub kept : kept_of s ≡ kept_of r
+  pub ended : s.ended ≡ r.ended
+
 -- all bytes are kept, and none are left of the input
 pub record Keeps (r : Reading) (input : Chunk) (s : Reading) (rest : Chunk) : Type 0 where
   pub stream : s.stream ≡ r.stream

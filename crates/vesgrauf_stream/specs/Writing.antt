@@ -8,7 +8,7 @@ use Rattle.wtp_sending.specs.declared.message.Sending.{Sending}
 use Rattle.wtp_sending.specs.Message.{data_head, after_data, after_bytes, after_end, opens, placed}
 use Rattle.wtp_sending.specs.Session.{in_session, uni_head, bi_head, drain_wire, close_data, after_close}
 use Rattle.vesgrauf_queue.specs.declared.ending.Ending.{Ending}
-use Rattle.vesgrauf_queue.specs.declared.ending.Ending.TheVariants.{Open}
+use Rattle.vesgrauf_queue.specs.declared.ending.Ending.TheVariants.{Open, Finishing, Finished}
 use Rattle.vesgrauf_queue.specs.declared.error.NotQueued.{NotQueued}
 use Rattle.vesgrauf_queue.specs.State.{IsWhyNot, is_done as is_queue_done}
 use Rattle.vesgrauf_queue.specs.Steps.{Step, Queues, Finishes, Leads}
@@ -65,6 +65,12 @@ is_raw other = false
 abbrev pub is_open : Ending → Bool
 is_open Open = true
 is_open other = false
+
+-- it was finished, and not reset
+abbrev pub is_finished : Ending → Bool
+is_finished Finishing = true
+is_finished Finished = true
+is_finished other = false
 
 -- nothing is to be done for it any more
 abbrev pub is_done : Writing → Bool

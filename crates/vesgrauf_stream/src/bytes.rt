@@ -49,6 +49,27 @@ impl<'a> Chunk<'a> {
         self.bytes.len()
     }
 
+    /// Returns the bytes that are not read yet.
+    pub fn as_slice(&self) -> &[u8]
+        ensures { result.now ≡ self.now.bytes.now }
+    {
+        self.bytes
+    }
+
+    /// Returns them as the caller lent them.
+    pub fn all(&self) -> &'a [u8]
+        ensures { result.now ≡ self.now.bytes.now }
+    {
+        self.bytes
+    }
+
+    /// Returns whether the stream ends after them.
+    pub fn is_last(&self) -> bool
+        ensures { result ≡ self.now.fin }
+    {
+        self.fin
+    }
+
     // Returns the first `len` bytes: all, if they are fewer.
     pub(crate) fn front(&self, len: usize) -> &[u8]
         ensures { result.now ≡ take len self.now.bytes.now }

@@ -1,6 +1,8 @@
 //! The peer's half of one stream: the bytes that came, and what is heard in them.
 ghost use Rattle.std.specs.Prelude.{◌≡◌, ◌≤◌, vec_len, take, drop};
 
+mod calls;
+
 use crate::bytes::Chunk;
 use crate::heard::{Heard, heard_in, kept_from};
 use std::alloc::{AllocError, Global};

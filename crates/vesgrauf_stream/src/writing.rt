@@ -6,6 +6,7 @@
 //!    [`finish`](Writing::finish) or [`reset`](Writing::reset) ends it. What may not be sent is refused.
 //! 3. [`next`](Writing::next) shows what QUIC is to take, and [`sent`](Writing::sent) says how much it took.
 mod content;
+mod ends;
 pub(crate) mod half;
 mod headers;
 mod quic;

@@ -25,7 +25,7 @@ const MAX_SETTINGS: usize = 4096;
 
 /// The control stream that this endpoint opens. There is no call that ends it, since it is never
 /// ended (RFC 9114, section 6.2.1), and none that allows a push (section 7.2.7). It has no bytes.
-#[derive(Drop)]
+#[derive(Clone, Copy)]
 pub struct ControlSending {
     /// The side of the peer.
     to: Side,

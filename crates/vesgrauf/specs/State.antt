@@ -1,0 +1,390 @@
+-- A connection as its contracts speak of it.
+use Rattle.std.specs.Prelude.{◌^◌, ◌≤◌, ◌+◌, ◌++◌, nat_lt, ◌≡◌, ◌⊎◌, ◌||◌, ℕ, if◌then◌else◌, Bool, true, false, is_some, List, [], ◌∷◌, length, Option, None, Some, Result, Ok, Err}
+use Rattle.std.specs.List.{list_any}
+use Rattle.std.specs.declared.vec.Vec.{Vec}
+use Rattle.std.specs.declared.alloc.Global.{Global}
+use Rattle.std.specs.Ordering.{nat_cmp}
+use Rattle.std.specs.Map.{lookup, set_value}
+use Rattle.std.specs.BTreeMap.{is_at}
+use Rattle.vesgrauf_stream.specs.declared.reading.Reading.{Reading}
+use Rattle.vesgrauf_stream.specs.declared.writing.Writing.{Writing}
+use Rattle.vesgrauf.specs.declared.connection.Connection.{Connection}
+use Rattle.vesgrauf.specs.declared.connection.DatagramQueue.{DatagramQueue}
+use Rattle.vesgrauf.specs.declared.connection.Ended.{Ended}
+use Rattle.vesgrauf.specs.declared.connection.ids.Ids.{Ids}
+use Rattle.vesgrauf.specs.declared.config.Config.{Config}
+use Rattle.vesgrauf.specs.declared.critical.Critical.{Critical}
+use Rattle.vesgrauf.specs.declared.entry.Entry.{Entry}
+use Rattle.vesgrauf.specs.declared.event.Event.{Event}
+use Rattle.vesgrauf.specs.declared.output.Output.{Output}
+use Rattle.vesgrauf.specs.declared.refused.Refused.{Refused}
+use Rattle.vesgrauf.specs.declared.refused.Refused.TheVariants as refused
+use Rattle.vesgrauf_queue.specs.Steps.{Does, Refuses}
+use Rattle.vesgrauf_stream.specs.declared.error.NotSent.{NotSent}
+use Rattle.vesgrauf_stream.specs.Writing.{RefusesContent, RefusesBy, Ends as EndsHalf, content_at, session_at, message_at, head_by, is_finished, is_none}
+use Rattle.wtp_sending.specs.Session.{drain_wire, datagram_head}
+use Rattle.wtp_frames.specs.declared.endpoint.Side.{Side}
+use Rattle.wtp_frames.specs.declared.endpoint.Side.TheVariants.{Client, Server}
+use Rattle.wtp_connection.specs.declared.connection.Known.{Known}
+use Rattle.wtp_connection.specs.declared.connection.Known.TheVariants as known
+use Rattle.wtp_connection.specs.Streams.{known_alone}
+use Rattle.wtp_webtransport.specs.Sessions.{known_of}
+use Rattle.vesgrauf_queue.specs.State.{is_full, Shows}
+use Rattle.vesgrauf.specs.Streams.{IsDue, is_it, Says}
+use Rattle.vesgrauf.specs.declared.output.Scope.{Scope}
+use Rattle.vesgrauf.specs.declared.output.Shutdown.{Shutdown}
+use Rattle.vesgrauf.specs.declared.output.Shutdown.TheVariants as shutdown
+use Rattle.wtp_sending.specs.Control.{after_goaway, goaway_bytes}
+use Rattle.vesgrauf.specs.declared.output.Scope.TheVariants as scope
+use Rattle.vesgrauf_queue.specs.declared.ending.Ending.TheVariants.{Open}
+use Rattle.vesgrauf_stream.specs.declared.error.NotSent.TheVariants as error
+use Rattle.wtp_sending.specs.declared.error.SendError.{SendError}
+use Rattle.wtp_sending.specs.declared.error.SendError.TheVariants as sending
+use Rattle.vesgrauf.specs.declared.output.Output.TheVariants as output
+use Rattle.vesgrauf.specs.Ids.{kind_of, to_open, was, blocked}
+use Rattle.wtp_connection.specs.declared.budget.RequestBudget.{RequestBudget}
+use Rattle.wtp_sending.specs.declared.control.ControlSending.{ControlSending}
+use Rattle.wtp_webtransport.specs.declared.connection.Connection.{Connection as Shared}
+
+-- what the program and QUIC see of a connection
+pub record View : Type 0 where
+  pub streams : List (ℕ × Entry)
+  pub config : Config
+  pub shared : Shared
+  pub control : Critical
+  pub decoder : Critical
+  pub encoder : Critical
+  pub goaways : ControlSending
+  pub told : List ℕ
+  pub ids : Ids
+  pub events : List Event
+  pub outputs : List Output
+  pub budget : RequestBudget
+  pub sessions : ℕ
+  pub peer_decoder : Option ℕ
+  pub is_configured : Bool
+  pub is_leaving : Bool
+  pub ended : Option Ended
+  pub closes : Option ℕ
+
+abbrev pub view_of : Connection → View
+view_of c = record {
+  streams = c.streams.entries;
+  config = c.config;
+  shared = c.shared;
+  control = c.control;
+  decoder = c.decoder;
+  encoder = c.encoder;
+  goaways = c.goaways;
+  told = c.told.items;
+  ids = c.ids;
+  events = c.events.items;
+  outputs = c.outputs.items;
+  budget = c.budget;
+  sessions = c.sessions;
+  peer_decoder = c.peer_decoder;
+  is_configured = c.is_configured;
+  is_leaving = c.is_leaving;
+  ended = c.ended;
+  closes = c.closes;
+}
+
+-- the stream with this ID
+abbrev pub stream_at : Connection → ℕ → Option Entry
+stream_at c id = lookup (is_at (nat_cmp id)) c.streams.entries
+
+abbrev pub with_stream : View → ℕ → Entry → View
+with_stream v id e = record v { streams = set_value (is_at (nat_cmp id)) v.streams e }
+
+-- nothing changed that the program or QUIC sees
+abbrev pub IsStill : Connection → Connection → Type 0
+IsStill c d = view_of d ≡ view_of c
+
+-- there is a stream, and this is so of it
+abbrev pub Of : Option Entry → (Entry → Type 0) → Type 0
+Of None P = ⊥
+Of (Some e) P = P e
+
+-- there is such a stream, it becomes this, and no other stream and nothing else changes
+abbrev pub Becomes : ℕ → (Entry → Entry) → Connection → Connection → Type 0
+Becomes id f c d = Of (stream_at c id) (λ e. view_of d ≡ with_stream (view_of c) id (f e))
+
+-- there is such a stream, its own half changes in this way, and nothing else does
+abbrev pub Changes : ℕ → (Writing → Writing → Type 0) → Connection → Connection → Type 0
+Changes id How c d = Of (stream_at c id)
+    (λ e. (w : Writing) × How e.writing w × (view_of d ≡ with_stream (view_of c) id (record e { writing = w })))
+
+-- the connection ended
+abbrev pub is_over : Connection → Bool
+is_over c = is_some c.ended
+
+-- ---- sessions
+
+-- What is known of a session of which no stream is left: a client knows which of its requests asked for one.
+abbrev pub known_else : Side → Connection → ℕ → Known
+known_else Server c id = known_alone c.shared.streams id
+known_else Client c id = if list_any (is_at (nat_cmp id)) c.asked.keys then known.Over else known.Impossible
+
+abbrev pub known_by : Option Entry → Connection → ℕ → Known
+known_by (Some e) c id = known_of c.shared e.reading.stream
+known_by None c id = known_else c.config.side c id
+
+abbrev pub known_in : Connection → ℕ → Known
+known_in c id = known_by (stream_at c id) c id
+
+-- it is open, or why a call on it is refused
+abbrev pub open_of : Known → Result (Unit {0}) Refused
+open_of known.Open = Ok tt
+open_of _ = Err refused.NotOpen
+
+abbrev pub open_session : Connection → ℕ → Result (Unit {0}) Refused
+open_session c id = if is_over c then Err refused.Closed else open_of (known_in c id)
+
+-- ---- what QUIC is to do
+
+abbrev pub head : {A : Type 0} → List A → Option A
+head [] = None
+head (x ∷ xs) = Some x
+
+-- a stream that is to be opened comes before all else
+abbrev pub output_or : Option ℕ → List Output → Option Output
+output_or (Some id) others = Some (output.Open id (kind_of id))
+output_or None others = head others
+
+abbrev pub output_unless : Bool → Connection → Option Output
+output_unless true c = None
+output_unless false c = output_or (to_open c.ids) c.outputs.items
+
+-- the end of the connection is all that is to be done after it
+abbrev pub output_by : Option ℕ → Connection → Option Output
+output_by (Some code) c = Some (output.Close code)
+output_by None c = output_unless (is_over c) c
+
+abbrev pub next_output : Connection → Option Output
+next_output c = output_by c.closes c
+
+-- this critical stream is due, and these are its next bytes
+abbrev pub ShowsOwn : Critical → (id : ℕ) → (bytes more : List ℕ) → (fin : Bool) → Type 0
+ShowsOwn c id bytes more fin = IsDue c × (c.id ≡ Some id) × Shows c.queue bytes more fin
+
+-- What QUIC is to send next: the next bytes of an own critical stream that is due, or of another stream.
+abbrev pub ShowsNext : Connection → (id : ℕ) → (bytes more : List ℕ) → (fin : Bool) → Type 0
+ShowsNext c id bytes more fin =
+    ShowsOwn c.control id bytes more fin
+    ⊎ (ShowsOwn c.decoder id bytes more fin
+    ⊎ (ShowsOwn c.encoder id bytes more fin
+    ⊎ Of (stream_at c id) (λ e. Shows e.writing.queue bytes more fin)))
+
+-- QUIC takes nothing of a stream for now, or does again
+abbrev pub with_block : Bool → Critical → Critical
+with_block b c = record c { is_blocked = b }
+
+abbrev pub blocked_by : Option Entry → View → ℕ → Bool → View
+blocked_by None v id b = v
+blocked_by (Some e) v id b = with_stream v id (record e { is_blocked = b })
+
+abbrev pub blocked_in : Connection → ℕ → Bool → View
+blocked_in c id b =
+    if is_it id c.control.id then record (view_of c) { control = with_block b c.control }
+    else if is_it id c.decoder.id then record (view_of c) { decoder = with_block b c.decoder }
+    else if is_it id c.encoder.id then record (view_of c) { encoder = with_block b c.encoder }
+    else blocked_by (stream_at c id) (view_of c) id b
+
+-- the same of streams of a kind that are to be opened
+abbrev pub blocked_at : Scope → Connection → Bool → View
+blocked_at (scope.Stream id) c b = blocked_in c id b
+blocked_at (scope.Kind k) c b = record (view_of c) { ids = blocked c.ids k b }
+
+-- ---- calls on the own half of a stream
+
+-- the own half alone changes, in this way
+abbrev pub OwnHalf : (Writing → Writing → Type 0) → Entry → Entry → Type 0
+OwnHalf How e f = (w : Writing) × How e.writing w × (f ≡ record e { writing = w })
+
+-- nothing is queued, and a `Writable` is owed
+abbrev pub Owes : Writing → Writing → Type 0
+Owes w v = (v.half ≡ w.half) × Does Refuses w.queue v.queue
+
+-- a call that is refused changes nothing, but that a `Writable` is owed if the stream is full
+abbrev pub StaysFor : Refused → ℕ → Connection → Connection → Type 0
+StaysFor refused.Full id c d = Changes id Owes c d
+StaysFor other id c d = IsStill c d
+
+-- why a call is refused, as the program is told
+abbrev pub refused_by : SendError → Refused
+refused_by sending.Memory = refused.Memory
+refused_by e = refused.Send e
+
+abbrev pub refused_for : NotSent → Refused
+refused_for error.None = refused.NoStream
+refused_for error.Over = refused.Over
+refused_for error.TooLong = refused.TooLarge
+refused_for (error.Send e) = refused_by e
+
+-- The connection is over; or memory is refused; or there is no such stream; or the own half of the stream refuses the
+-- call, for this reason.
+abbrev pub IsWhyOf : Option Entry → (Writing → Refused → Type 0) → Refused → Type 0
+IsWhyOf None How e = e ≡ refused.NoStream
+IsWhyOf (Some x) How e = How x.writing e
+
+abbrev pub IsWhyBy : Bool → Option Entry → (Writing → Refused → Type 0) → Refused → Type 0
+IsWhyBy true x How e = e ≡ refused.Closed
+IsWhyBy false x How e = (e ≡ refused.Memory) ⊎ IsWhyOf x How e
+
+abbrev pub IsWhy : (Writing → Refused → Type 0) → Connection → ℕ → Refused → Type 0
+IsWhy How c id e = IsWhyBy (is_over c) (stream_at c id) How e
+
+-- the own half refuses it for this reason, as the program is told
+abbrev pub IsFor : (Writing → NotSent → Type 0) → Writing → Refused → Type 0
+IsFor How w e = (why : NotSent) × (e ≡ refused_for why) × How w why
+
+-- a stream that is full refuses content before all else
+abbrev pub RefusesBytes : ℕ → Bool → Writing → Refused → Type 0
+RefusesBytes n fin w refused.Full = (w.queue.ending ≡ Open) × (is_full w.queue ≡ true)
+RefusesBytes n fin w e = IsFor (λ v x. RefusesContent v n fin x) w e
+
+-- so it changes nothing of a stream, but that a `Writable` is owed if it is full
+abbrev pub StaysOf : Refused → Entry → Entry → Type 0
+StaysOf refused.Full e f = OwnHalf Owes e f
+StaysOf other e f = f ≡ e
+
+-- why the end is refused
+abbrev pub RefusesEnd : Writing → Refused → Type 0
+RefusesEnd w e = IsFor (λ v x. content_at v 0 true ≡ Err x) w e
+
+-- The own half was finished, or there is none; or the stream is forgotten.
+abbrev pub was_finished_by : Option Entry → Ids → ℕ → Bool
+was_finished_by (Some e) ids id = is_finished e.writing.queue.ending || is_none e.writing.half
+was_finished_by None ids id = was ids id
+
+abbrev pub was_finished : Connection → ℕ → Bool
+was_finished c id = was_finished_by (stream_at c id) c.ids id
+
+-- the end is queued, or nothing changes
+abbrev pub FinishesUnless : Bool → ℕ → Connection → Connection → Type 0
+FinishesUnless true id c d = IsStill c d
+FinishesUnless false id c d = Changes id EndsHalf c d
+
+-- why the capsule that announces the end of a session is refused
+abbrev pub RefusesDrain : Writing → Refused → Type 0
+RefusesDrain w e = IsFor (λ v x. RefusesBy (session_at v) v (length drain_wire) x) w e
+
+-- ---- the end of the connection
+
+-- It ends with this code, which QUIC is to close it with: what was to be told or done is dropped.
+abbrev pub with_end : ℕ → Shared → View → View
+with_end code shared v = record v {
+  shared = shared;
+  events = [];
+  outputs = [];
+  ended = Some (record { code = code; by_peer = false; is_told = false });
+  closes = Some code;
+}
+
+pub record Ends (code : ℕ) (c d : Connection) : Type 0 where
+  pub view : view_of d ≡ with_end code d.shared (view_of c)
+  pub datagrams : d.datagrams.queue.items ≡ []
+  pub settings : d.shared.streams.peer ≡ c.shared.streams.peer
+
+-- it ends, or had ended: then nothing changes
+abbrev pub EndsUnless : Bool → ℕ → Connection → Connection → Type 0
+EndsUnless true code c d = d ≡ c
+EndsUnless false code c d = Ends code c d
+
+-- ---- the own streams of QPACK
+
+-- those of another connection
+abbrev pub with_own : Connection → View → View
+with_own d v = record v { decoder = d.decoder; encoder = d.encoder; told = d.told.items }
+
+-- nothing else changes
+abbrev pub IsStillBut : Connection → Connection → Type 0
+IsStillBut c d = view_of d ≡ with_own d (view_of c)
+
+-- a stream that has an ID queues the bytes that wait, of which this is the rest
+abbrev pub SaysBy : Option ℕ → (bytes rest : List ℕ) → Critical → Critical → Type 0
+SaysBy None bytes rest c d = (rest ≡ bytes) × (d ≡ c)
+SaysBy (Some id) bytes rest c d = (rest ≡ []) × Says bytes c d
+
+abbrev pub SaysAll : (bytes rest : List ℕ) → Critical → Critical → Type 0
+SaysAll bytes rest c d = SaysBy c.id bytes rest c d
+
+-- it does, or without memory they wait on
+abbrev pub SaysOrWaits : (bytes rest : List ℕ) → Critical → Critical → Type 0
+SaysOrWaits bytes rest c d = SaysAll bytes rest c d ⊎ ((rest ≡ bytes) × (d ≡ c))
+
+-- what waits is queued on each of them
+pub record Instructs (How : (bytes rest : List ℕ) → Critical → Critical → Type 0) (c d : Connection) : Type 0 where
+  pub others : IsStillBut c d
+  pub decoder : How c.told.items d.told.items c.decoder d.decoder
+  pub encoder : How c.tools.instructions.items d.tools.instructions.items c.encoder d.encoder
+  pub table : d.tools.encoder ≡ c.tools.encoder
+
+-- ---- GOAWAY
+
+abbrev pub is_final : Shutdown → Bool
+is_final shutdown.Notice = false
+is_final shutdown.Final = true
+
+-- The ID of a GOAWAY (RFC 9114, section 5.2): a push's at a client, which allows none; a request's at a server, of which
+-- the greatest rejects none.
+abbrev pub goaway_id : Side → Shutdown → Ids → ℕ
+goaway_id Client phase ids = 0
+goaway_id Server shutdown.Notice ids = 4611686018427387900
+goaway_id Server shutdown.Final ids = ids.peer_bidirectional
+
+abbrev pub goaway_for : Shutdown → Connection → ℕ
+goaway_for phase c = goaway_id c.config.side phase c.ids
+
+-- GOAWAY is queued on the control stream, and nothing else changes; the last one is followed by the end.
+pub record ShutsDown (phase : Shutdown) (c d : Connection) : Type 0 where
+  pub may : after_goaway c.goaways (goaway_for phase c) ≡ Ok d.goaways
+  pub queued : Says (goaway_bytes (goaway_for phase c)) c.control d.control
+  pub view : view_of d ≡ record (view_of c) {
+    control = d.control;
+    goaways = d.goaways;
+    is_leaving = c.is_leaving || is_final phase;
+  }
+
+-- Why it is not: an ID below 2^62 is refused by `after_goaway`.
+abbrev pub RefusesGoaway : Bool → ControlSending → ℕ → Refused → Type 0
+RefusesGoaway true g id e = e ≡ refused.Closed
+RefusesGoaway false g id e =
+    (e ≡ refused.Memory)
+    ⊎ (((2 ^ 62 ≤ id) × (e ≡ refused.Send sending.InvalidId))
+    ⊎ ((why : SendError) × (after_goaway g id ≡ Err why) × (e ≡ refused_by why)))
+
+-- ---- datagrams
+
+-- the first bytes of a datagram of the session whose own stream this is
+abbrev pub IsHead : Entry → List ℕ → Type 0
+IsHead e bytes = (session_at e.writing ≡ Ok tt) × (bytes ≡ head_by datagram_head (message_at e.writing))
+
+-- There is room for as many datagrams as wait.
+abbrev pub has_place : Connection → Bool
+has_place c = nat_lt (length c.datagrams.queue.items) c.config.datagram_queue
+
+-- the first bytes of a datagram of this session are these
+abbrev pub HeadOf : Connection → ℕ → List ℕ → Type 0
+HeadOf c session bytes = Of (stream_at c session) (λ e. IsHead e bytes)
+
+-- the datagrams that wait stay, and what is owed
+abbrev pub KeepsDatagrams : Connection → Connection → Type 0
+KeepsDatagrams c d =
+    (d.datagrams.queue.items ≡ c.datagrams.queue.items) × (d.datagrams.is_owed ≡ c.datagrams.is_owed)
+
+-- a datagram of these bytes is queued after those that wait
+abbrev pub Adds : List ℕ → DatagramQueue → DatagramQueue → Type 0
+Adds bytes q r =
+    (datagram : Vec ℕ Global) × (r.queue.items ≡ q.queue.items ++ (datagram ∷ [])) × (datagram.items ≡ bytes)
+
+-- one of the session is: its first bytes, and the payload
+abbrev pub QueuesDatagram : ℕ → List ℕ → Connection → Connection → Type 0
+QueuesDatagram session payload c d =
+    (first : List ℕ) × HeadOf c session first × Adds (first ++ payload) c.datagrams d.datagrams
+
+-- it is queued if there is a place; otherwise none is, and a `DatagramsWritable` is owed
+abbrev pub SendsDatagram : Bool → ℕ → List ℕ → Connection → Connection → Type 0
+SendsDatagram true session payload c d = (has_place c ≡ true) × QueuesDatagram session payload c d
+SendsDatagram false session payload c d =
+    (has_place c ≡ false) × (d.datagrams.queue.items ≡ c.datagrams.queue.items) × (d.datagrams.is_owed ≡ true)

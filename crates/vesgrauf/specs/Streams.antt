@@ -1,0 +1,75 @@
+-- The streams of a connection.
+use Rattle.std.specs.Prelude.{◌≡◌, ℕ, ◌==◌, ◌&&◌, ◌⊎◌, not, if◌then◌else◌, Bool, true, false, List, [], Option, None, Some}
+use Rattle.vesgrauf_queue.specs.State.{State, IsIdle}
+use Rattle.vesgrauf_queue.specs.Steps.{Does, Queues}
+use Rattle.vesgrauf.specs.declared.critical.Critical.{Critical}
+use Rattle.vesgrauf_ready.specs.declared.rank.Kind.{Kind}
+use Rattle.vesgrauf_ready.specs.declared.rank.Kind.TheVariants as order
+use Rattle.vesgrauf_stream.specs.declared.reading.Reading.{Reading}
+use Rattle.vesgrauf_stream.specs.declared.writing.Writing.{Writing}
+use Rattle.vesgrauf_stream.specs.Writing.{is_done as is_written}
+use Rattle.vesgrauf.specs.declared.entry.Entry.{Entry}
+use Rattle.vesgrauf.specs.declared.entry.Peer.{Peer}
+use Rattle.vesgrauf.specs.declared.entry.Peer.TheVariants as peer
+
+-- a stream of which nothing came: of urgency 3, not incremental (RFC 9218, section 4)
+abbrev pub new_entry : Reading → Peer → Writing → Entry
+new_entry r p w = record {
+  reading = r;
+  peer = p;
+  writing = w;
+  session = None;
+  user = None;
+  priority = record { urgency = 3; incremental = false };
+  is_told = false;
+  is_opened = true;
+  is_blocked = false;
+  is_paused = false;
+  is_awaited = false;
+  may_cancel = false;
+  is_session = false;
+  has_session = false;
+  is_ended = false;
+  has_tunnel = false;
+  is_quiet = false;
+  withheld = 0;
+  stops = None;
+}
+
+-- its place in the order of sending
+abbrev pub kind_of_entry : Entry → Kind
+kind_of_entry e = order.Message e.priority
+
+-- QUIC has opened it, and takes bytes of it
+abbrev pub may_send : Entry → Bool
+may_send e = e.is_opened && not e.is_blocked
+
+abbrev pub is_over : Peer → Bool
+is_over peer.Over = true
+is_over other = false
+
+-- both halves are over, and QUIC took what was queued
+abbrev pub is_done : Entry → Bool
+is_done e = is_over e.peer && (e.is_opened && is_written e.writing)
+
+-- the session that events of it show: its own, or that of which it is a stream
+abbrev pub shown_session : ℕ → Entry → Option ℕ
+shown_session id e = if e.is_session then Some id else e.session
+
+-- ---- own critical streams
+
+-- it has this ID
+abbrev pub is_it : ℕ → Option ℕ → Bool
+is_it id None = false
+is_it id (Some own) = own == id
+
+-- QUIC has opened it and takes bytes of it, and there are some
+abbrev pub IsDue : Critical → Type 0
+IsDue c = (c.is_opened ≡ true) × (c.is_blocked ≡ false) × ¬ (IsIdle c.queue)
+
+-- these bytes are queued: no bytes are none
+pub record Says (bytes : List ℕ) (c d : Critical) : Type 0 where
+  pub id : d.id ≡ c.id
+  pub opened : d.is_opened ≡ c.is_opened
+  pub blocked : d.is_blocked ≡ c.is_blocked
+  pub queued : ((bytes ≡ []) × (d.queue ≡ c.queue)) ⊎ ((room : Bool) × Does (Queues bytes room) c.queue d.queue)

@@ -1,0 +1,382 @@
+//! A whole connection.
+mod calls;
+mod closing;
+mod control;
+mod datagrams;
+mod endings;
+mod heard;
+mod ids;
+mod messages;
+mod opening;
+mod reading;
+mod sending;
+mod sessions;
+mod table;
+
+use crate::config::Config;
+use crate::connection::ids::Ids;
+use crate::critical::Critical;
+use crate::entry::{Entry, Member};
+use crate::event::Event;
+use crate::input::{Input, Report};
+use crate::output::Output;
+use std::alloc::{AllocError, AllocFailed, Global};
+use std::collections::{BTreeMap, BTreeSet, VecDeque};
+use vesgrauf_ready::ready::Ready;
+use vesgrauf_stream::tools::Tools;
+use wtp_connection::budget::RequestBudget;
+use wtp_connection::settings::PeerSettings;
+use wtp_core::error::Code;
+use wtp_dynamic_decoder::decoder::QpackDecoder;
+use wtp_frames::endpoint::{Endpoint, Side};
+use wtp_hold::early::EarlyDatagrams;
+use wtp_sending::control::ControlSending;
+use wtp_webtransport::connection::Connection as Shared;
+use wtp_webtransport::fault::Fault;
+use wtp_webtransport::fields::Fields;
+
+/// A whole connection of HTTP/3 and WebTransport: its streams, what came on them, what is queued, and what QUIC is to
+/// do.
+#[derive(Drop)]
+pub struct Connection {
+    alloc: Global,
+    config: Config,
+    /// What the peer's halves have in common.
+    shared: Shared,
+    fields: Fields,
+    /// What the own halves have in common.
+    tools: Tools,
+    /// The streams, but for the own critical ones.
+    streams: BTreeMap<u64, Entry>,
+    /// The streams of sessions.
+    members: BTreeSet<Member>,
+    /// At a client, the streams of its requests for sessions.
+    asked: BTreeSet<u64>,
+    /// The streams that wait, or are paused.
+    waiting: BTreeSet<u64>,
+    /// The streams of which a `Writable` is owed.
+    full: BTreeSet<u64>,
+    /// The streams that may be sent from.
+    ready: Ready,
+    /// The own control stream, and the own streams of QPACK.
+    control: Critical,
+    decoder: Critical,
+    encoder: Critical,
+    goaways: ControlSending,
+    /// Instructions for the own decoder stream that are not queued yet.
+    told: Vec<u8>,
+    ids: Ids,
+    /// Events that are not of an input.
+    events: VecDeque<Event<'static>>,
+    outputs: VecDeque<Output>,
+    datagrams: DatagramQueue,
+    budget: RequestBudget,
+    /// How many sessions there are, or may come to be.
+    sessions: u32,
+    /// The decoder stream of the peer.
+    peer_decoder: Option<u64>,
+    /// How many streams are the peer's critical or ignored ones.
+    quiet: usize,
+    pending: Pending,
+    /// How many bytes are kept of all streams.
+    held: usize,
+    /// Whether SETTINGS of the peer came.
+    is_configured: bool,
+    /// Whether the last GOAWAY was sent.
+    is_leaving: bool,
+    /// How the connection ended.
+    ended: Option<Ended>,
+    /// The code with which QUIC is to close the connection.
+    closes: Option<u64>,
+}
+
+/// What is to be looked at in the next steps.
+#[derive(Clone, Copy)]
+struct Pending {
+    /// A stream that waited, and is read again.
+    resumed: Option<u64>,
+    /// Whether a wait may be over.
+    is_woken: bool,
+    /// The stream from which on streams are looked at.
+    cursor: u64,
+    /// Whether there may be room on a stream that was full.
+    has_room: bool,
+    /// Whether the own encoder is to begin.
+    begins_table: bool,
+    /// The first request that a server does not process, if streams are to be told so.
+    unprocessed: Option<u64>,
+}
+
+impl Pending {
+    // Nothing is to be looked at.
+    fn nothing() -> Self {
+        Pending {
+            resumed: None,
+            is_woken: false,
+            cursor: 0,
+            has_room: false,
+            begins_table: false,
+            unprocessed: None,
+        }
+    }
+}
+
+/// Datagrams that are queued, and those that came too early.
+#[derive(Drop)]
+struct DatagramQueue {
+    queue: VecDeque<Vec<u8>>,
+    /// How many bytes a datagram of QUIC may have.
+    limit: usize,
+    /// Whether a `DatagramsWritable` is owed.
+    is_owed: bool,
+    early: EarlyDatagrams,
+    /// Sessions that were opened, whose early datagrams are to be given.
+    opened: VecDeque<u64>,
+}
+
+impl DatagramQueue {
+    // None is queued, and they may be as large as QUIC's.
+    fn new(alloc: Global) -> Self {
+        DatagramQueue {
+            queue: VecDeque::new(alloc),
+            limit: 65_535,
+            is_owed: false,
+            early: EarlyDatagrams::new(alloc),
+            opened: VecDeque::new(alloc),
+        }
+    }
+}
+
+/// How a connection ended.
+#[derive(Clone, Copy)]
+struct Ended {
+    code: u64,
+    by_peer: bool,
+    /// Whether the last event was told.
+    is_told: bool,
+}
+
+/// Why a step is not done.
+#[derive(Clone, Copy)]
+enum Stop {
+    /// Memory was refused: nothing changed.
+    Memory,
+    /// An error ends the connection.
+    Broken(u64),
+}
+
+impl From<AllocError> for Stop {
+    fn from(_error: AllocError) -> Stop {
+        Stop::Memory
+    }
+}
+
+impl<T: Drop> From<AllocFailed<T>> for Stop {
+    fn from(_error: AllocFailed<T>) -> Stop {
+        Stop::Memory
+    }
+}
+
+impl From<Fault> for Stop {
+    fn from(fault: Fault) -> Stop {
+        Stop::Broken(fault.code().number().into_inner())
+    }
+}
+
+// The end of the connection by an error of this endpoint or of its QUIC library.
+fn internal() -> Stop {
+    Stop::Broken(Code::H3_INTERNAL_ERROR.number().into_inner())
+}
+
+/// What a step did.
+#[derive(Drop)]
+enum Step<'a> {
+    /// This is to be told.
+    Told(Event<'a>),
+    /// Something, and there may be more to do.
+    More,
+    /// Nothing is left to do.
+    Nothing,
+}
+
+impl Connection {
+    ghost use Rattle.std.specs.Prelude.{◌≡◌, if◌then◌else◌, Some, None};
+
+    /// Creates a connection. Its first outputs open its control stream and, with a dynamic table, its decoder stream.
+    ///
+    /// # Errors
+    ///
+    /// If memory is refused.
+    pub fn new(alloc: Global, config: Config) -> Result<Self, AllocError> {
+        let queue = config.queue();
+        let mut connection = Connection {
+            alloc,
+            config,
+            shared: shared_for(alloc, &config),
+            fields: Fields::new(alloc, u64::from(config.max_field_section_size)),
+            tools: Tools::new(alloc),
+            streams: BTreeMap::new(alloc),
+            members: BTreeSet::new(alloc),
+            asked: BTreeSet::new(alloc),
+            waiting: BTreeSet::new(alloc),
+            full: BTreeSet::new(alloc),
+            ready: Ready::new(alloc, config.fair.max(1)),
+            control: Critical::new(alloc, queue),
+            decoder: Critical::new(alloc, queue),
+            encoder: Critical::new(alloc, queue),
+            goaways: ControlSending::new(other_side(config.side)),
+            told: Vec::new(alloc),
+            ids: Ids::new(config.side),
+            events: VecDeque::new(alloc),
+            outputs: VecDeque::new(alloc),
+            datagrams: DatagramQueue::new(alloc),
+            budget: RequestBudget::with_excess(config.max_resets),
+            sessions: 0,
+            peer_decoder: None,
+            quiet: 0,
+            pending: Pending::nothing(),
+            held: 0,
+            is_configured: false,
+            is_leaving: false,
+            ended: None,
+            closes: None,
+        };
+        connection.begin()?;
+        Ok(connection)
+    }
+
+    /// Returns the next event, or `None` once the input is taken in and nothing else is to be told.
+    ///
+    /// Call it until `None` after each report of QUIC, and with [`Input::none`] after calls that were not made while
+    /// an event was handled.
+    ///
+    /// # Errors
+    ///
+    /// If memory is refused: nothing is lost, the input stays as it is, and the call is to be made again.
+    pub fn next_event<'a>(
+        &mut self,
+        input: &mut Input<'a>,
+    ) -> Result<Option<Event<'a>>, AllocError> {
+        for _step in 0..u64::MAX {
+            if let Some(event) = self.events.pop_front() {
+                return Ok(Some(event));
+            }
+            let step = match self.ended {
+                Some(ended) => Ok(self.step_after_end(ended, input)),
+                None => self.step(input),
+            };
+            match step {
+                Ok(Step::Told(event)) => return Ok(Some(event)),
+                Ok(Step::Nothing) => return Ok(None),
+                Ok(Step::More) => {}
+                Err(Stop::Memory) => return Err(AllocError),
+                Err(Stop::Broken(code)) => self.break_off(code),
+            }
+        }
+        Ok(None)
+    }
+
+    // Takes one step.
+    fn step<'a>(&mut self, input: &mut Input<'a>) -> Result<Step<'a>, Stop> {
+        self.prepare()?;
+        if let Some(id) = self.pending.resumed {
+            return self.read_kept(id);
+        }
+        match input.report {
+            Report::Nothing => self.step_alone(),
+            Report::Stream(id) => self.stream_came(id, input),
+            Report::Datagram => self.datagram_came(input),
+            _ => {
+                self.report_came(input.report)?;
+                input.report = Report::Nothing;
+                Ok(Step::More)
+            }
+        }
+    }
+
+    // Takes in a report without bytes.
+    fn report_came(&mut self, report: Report) -> Result<(), Stop> {
+        match report {
+            Report::Nothing | Report::Stream(_) | Report::Datagram => Ok(()),
+            Report::Reset(id, code) => self.reset_came(id, code),
+            Report::Stopped(id, code) => self.stop_came(id, code),
+            Report::Closed(id) => self.stream_closed(id),
+            Report::DatagramLimit(len) => {
+                self.datagrams.limit = len;
+                Ok(())
+            }
+            Report::ConnectionClosed(code) => {
+                self.ended = Some(Ended {
+                    code,
+                    by_peer: true,
+                    is_told: false,
+                });
+                self.pending.cursor = 0;
+                Ok(())
+            }
+        }
+    }
+
+    // Does what is due before anything else, and reserves the memory that a step takes.
+    fn prepare(&mut self) -> Result<(), Stop> {
+        self.reserve_all()?;
+        self.begin_table()?;
+        self.queue_instructions()
+    }
+
+    // Takes a step without an input.
+    fn step_alone<'a>(&mut self) -> Result<Step<'a>, Stop> {
+        if let Some(step) = self.give_early() {
+            return Ok(step);
+        }
+        if let Some(first) = self.pending.unprocessed {
+            return self.leave_unprocessed(first);
+        }
+        if self.pending.is_woken {
+            return Ok(self.wake_next());
+        }
+        if self.pending.has_room {
+            return Ok(self.next_writable());
+        }
+        if self.is_leaving && self.is_idle() {
+            return Ok(self.shut_down());
+        }
+        Ok(Step::Nothing)
+    }
+
+    /// Returns the settings of the peer, or `None` until they came.
+    pub fn peer_settings(&self) -> Option<PeerSettings>
+        ensures { result ≡ (if self.now.is_configured then Some self.now.shared.streams.peer else None) }
+    {
+        if self.is_configured {
+            Some(self.shared.peer_settings())
+        } else {
+            None
+        }
+    }
+}
+
+// Returns the side of the peer.
+fn other_side(side: Side) -> Side {
+    match side {
+        Side::Client => Side::Server,
+        Side::Server => Side::Client,
+    }
+}
+
+// Returns what the peer's halves of a connection have in common.
+fn shared_for(alloc: Global, config: &Config) -> Shared {
+    let mut endpoint = Endpoint::new(config.side);
+    endpoint.webtransport = config.webtransport;
+    endpoint.datagrams = config.datagrams;
+    endpoint.max_section = config.max_field_section_size;
+    let mut shared = Shared::new(endpoint, config.extended_connect);
+    if config.qpack_max_table_capacity > 0 {
+        shared.allow_table(QpackDecoder::new(
+            alloc,
+            u64::from(config.qpack_max_table_capacity),
+            u64::from(config.qpack_blocked_streams),
+        ));
+    }
+    shared
+}

@@ -1,0 +1,198 @@
+//! Streams that are closed, and sessions that end.
+use crate::connection::{Connection, Step, Stop};
+use crate::entry::{Member, Peer};
+use crate::event::{EventKind, Why};
+use crate::output::Output;
+use wtp_core::error::Code;
+
+impl Connection {
+    // Closes both halves of a stream at once.
+    pub(super) fn shut(&mut self, id: u64, code: Code, why: Why) -> Result<(), Stop> {
+        let code = code.number().into_inner();
+        self.cancel(id)?;
+        self.reset_own(id, code)?;
+        self.stop_peer(id, code)?;
+        self.end_session(id)?;
+        self.closed(id, why)?;
+        self.remove_if_done(id)
+    }
+
+    // Resets the own half.
+    pub(super) fn reset_own(&mut self, id: u64, code: u64) -> Result<(), Stop> {
+        let Some(entry) = self.streams.get_mut(&id) else {
+            return Ok(());
+        };
+        if entry.writing.is_done() {
+            return Ok(());
+        }
+        if entry.writing.reset(&mut self.tools.spares, code, 0) && entry.is_opened {
+            self.outputs.push_back(Output::Reset(id, code))?;
+        }
+        self.ready.remove(id, entry.kind());
+        self.full.remove(&id);
+        Ok(())
+    }
+
+    // Asks the peer to stop its half, which is read no further.
+    pub(super) fn stop_peer(&mut self, id: u64, code: u64) -> Result<(), Stop> {
+        let Some(entry) = self.streams.get_mut(&id) else {
+            return Ok(());
+        };
+        if entry.peer == Peer::Over {
+            return Ok(());
+        }
+        if entry.peer == Peer::Reads && !entry.is_ended {
+            if entry.is_opened {
+                self.outputs.push_back(Output::StopSending(id, code))?;
+            } else {
+                entry.stops = Some(code);
+            }
+        }
+        entry.reading.abandon(&mut self.shared);
+        entry.peer = Peer::Over;
+        self.drop_kept(id)
+    }
+
+    // Reads the peer's half no further, whose end is still to come.
+    pub(super) fn drop_peer(&mut self, id: u64) -> Result<(), Stop> {
+        let Some(entry) = self.streams.get_mut(&id) else {
+            return Ok(());
+        };
+        if entry.peer == Peer::Over {
+            return Ok(());
+        }
+        entry.reading.abandon(&mut self.shared);
+        entry.peer = if entry.is_ended {
+            Peer::Over
+        } else {
+            Peer::Drops
+        };
+        self.drop_kept(id)
+    }
+
+    // Drops what is kept of a stream.
+    pub(super) fn drop_kept(&mut self, id: u64) -> Result<(), Stop> {
+        self.waiting.remove(&id);
+        let Some(entry) = self.streams.get_mut(&id) else {
+            return Ok(());
+        };
+        let len = entry.reading.drop_kept();
+        let owed = entry.withheld;
+        entry.withheld = 0;
+        if !entry.is_paused {
+            self.count_held(len, 0);
+        }
+        self.credit(id, owed)
+    }
+
+    // The peer's half is over.
+    pub(super) fn peer_is_over(&mut self, id: u64) -> Result<(), Stop> {
+        if let Some(entry) = self.streams.get_mut(&id) {
+            entry.peer = Peer::Over;
+        }
+        self.drop_kept(id)?;
+        self.remove_if_done(id)
+    }
+
+    // Ends the own half after what is queued, if a message may end there.
+    pub(super) fn end_own(&mut self, id: u64) -> Result<(), Stop> {
+        let Some(entry) = self.streams.get_mut(&id) else {
+            return Ok(());
+        };
+        if entry.may_send() && !entry.writing.is_ended() {
+            self.ready.insert(id, entry.kind())?;
+        }
+        if entry.writing.finish().is_err() && !entry.has_more() {
+            self.ready.remove(id, entry.kind());
+        }
+        Ok(())
+    }
+
+    // Ends the session whose own stream this is, if it is one: its streams are closed (draft-ietf-webtrans-http3-02,
+    // section 5).
+    pub(super) fn end_session(&mut self, session: u64) -> Result<(), Stop> {
+        let Some(entry) = self.streams.get_mut(&session) else {
+            return Ok(());
+        };
+        if entry.has_session {
+            entry.has_session = false;
+            self.sessions = self.sessions.saturating_sub(1);
+        }
+        for _stream in 0..self.members.len() {
+            let Some(member) = self.first_member(session) else {
+                break;
+            };
+            self.members.remove(&member);
+            self.cut(member.id)?;
+        }
+        self.wake();
+        Ok(())
+    }
+
+    // Returns the first stream of a session.
+    fn first_member(&self, session: u64) -> Option<Member> {
+        let first = Member { session, id: 0 };
+        match self.members.range(first..).next() {
+            Some(member) if member.session == session => Some(*member),
+            _ => None,
+        }
+    }
+
+    // Closes a stream whose session is over. One whose end came is read to its end.
+    fn cut(&mut self, id: u64) -> Result<(), Stop> {
+        let code = Code::WEBTRANSPORT_SESSION_GONE.number().into_inner();
+        self.reset_own(id, code)?;
+        let Some(entry) = self.streams.get(&id) else {
+            return Ok(());
+        };
+        if entry.peer == Peer::Reads && entry.is_ended {
+            return Ok(());
+        }
+        self.stop_peer(id, code)?;
+        self.closed(id, Why::SessionGone)?;
+        self.remove_if_done(id)
+    }
+
+    // Tells the program that a stream is over, if it knows of the stream.
+    pub(super) fn closed(&mut self, id: u64, why: Why) -> Result<(), Stop> {
+        if let Step::Told(event) = self.tell(id, EventKind::Closed(why)) {
+            self.events.push_back(event)?;
+        }
+        if let Some(entry) = self.streams.get_mut(&id) {
+            entry.is_told = false;
+        }
+        Ok(())
+    }
+
+    // Forgets a stream of which both halves are over.
+    pub(super) fn remove_if_done(&mut self, id: u64) -> Result<(), Stop> {
+        let Some(entry) = self.streams.get(&id) else {
+            return Ok(());
+        };
+        if !entry.is_done() {
+            return Ok(());
+        }
+        self.closed(id, Why::Done)?;
+        self.remove(id);
+        Ok(())
+    }
+
+    // Forgets a stream.
+    pub(super) fn remove(&mut self, id: u64) {
+        let Some(entry) = self.streams.remove(&id) else {
+            return;
+        };
+        if entry.is_quiet {
+            self.quiet = self.quiet.saturating_sub(1);
+        }
+        if entry.has_session {
+            self.sessions = self.sessions.saturating_sub(1);
+        }
+        if let Some(session) = entry.session {
+            self.members.remove(&Member { session, id });
+        }
+        self.ready.remove(id, entry.kind());
+        self.waiting.remove(&id);
+        self.full.remove(&id);
+    }
+}

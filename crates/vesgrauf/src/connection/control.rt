@@ -1,0 +1,162 @@
+//! The own control stream, and the end of the connection.
+ghost use Rattle.std.specs.Prelude.{◌≡◌, false, Some, length, OnOk, OnErr, IfErr};
+ghost use Rattle.vesgrauf.specs.State.{is_over, next_output, EndsUnless, IsStill, ShutsDown, RefusesGoaway, goaway_for as goaway_is};
+ghost use Rattle.vesgrauf.specs.declared.output.Output.TheVariants as output;
+
+use crate::connection::{Connection, Ended, Step, Stop};
+use crate::event::{Event, EventKind};
+use crate::output::{Shutdown, Stats, StreamKind};
+use crate::refused::Refused;
+use std::alloc::AllocError;
+use vesgrauf_queue::queue::Queue;
+use wtp_core::error::Code;
+use wtp_core::varint::VarInt;
+use wtp_sending::error::SendError;
+use wtp_wire::settings::Settings;
+
+/// The ID of a GOAWAY that rejects no request yet (RFC 9114, section 5.2).
+const NO_REQUEST: u64 = (1 << 62) - 4;
+
+impl Connection {
+    // Queues the first bytes of the own control stream, and of the own decoder stream.
+    pub(super) fn begin(&mut self) -> Result<(), AllocError> {
+        let settings = self.settings()?;
+        let mut bytes = Vec::new(self.alloc);
+        if self
+            .goaways
+            .settings(self.alloc, &settings, &mut bytes)
+            .is_err()
+        {
+            return Err(AllocError);
+        }
+        self.control.id = self.ids.next(StreamKind::Unidirectional);
+        self.ids.take(StreamKind::Unidirectional);
+        if self
+            .control
+            .push(&mut self.tools.spares, bytes.as_slice())
+            .is_err()
+        {
+            return Err(AllocError);
+        }
+        self.begin_decoder()?;
+        match self.queue_instructions() {
+            Ok(()) => Ok(()),
+            Err(_) => Err(AllocError),
+        }
+    }
+
+    // Returns the own SETTINGS.
+    fn settings(&self) -> Result<Settings, AllocError> {
+        let config = self.config;
+        let mut builder = Settings::builder(self.alloc)
+            .max_field_section_size(VarInt::from_u32(config.max_field_section_size))?
+            .qpack_max_table_capacity(VarInt::from_u32(config.qpack_max_table_capacity))?
+            .qpack_blocked_streams(VarInt::from_u32(u32::from(config.qpack_blocked_streams)))?;
+        if config.extended_connect {
+            builder = builder.enable_connect_protocol()?;
+        }
+        if config.datagrams {
+            builder = builder.enable_h3_datagrams()?;
+        }
+        if config.webtransport {
+            builder = builder
+                .enable_webtransport()?
+                .webtransport_max_sessions(VarInt::from_u32(config.max_sessions))?;
+        }
+        Ok(builder.build())
+    }
+
+    /// Shuts the connection down (RFC 9114, section 5.2): sends GOAWAY. After
+    /// [`Final`](crate::output::Shutdown::Final), once no stream is left and what was queued is sent, the connection
+    /// closes with H3_NO_ERROR, after an event [`Idle`](crate::event::EventKind::Idle).
+    ///
+    /// # Errors
+    ///
+    /// Nothing changes. `Closed`; `Send` after the last one; and `Memory`.
+    pub fn shutdown(&mut self, phase: Shutdown) -> Result<(), Refused>
+        ensures ok { OnOk result (ShutsDown phase self.old self.new) }
+        ensures why { IfErr result (λ e.
+            RefusesGoaway (is_over self.old) self.old.goaways (goaway_is phase self.old) e) }
+        ensures kept { OnErr result (IsStill self.old self.new) }
+    {
+        if self.ended.is_some() {
+            return Err(Refused::Closed);
+        }
+        let id = self.goaway_for(phase);
+        let Ok(first) = VarInt::try_from_u64(id) else {
+            return Err(Refused::Send(SendError::InvalidId));
+        };
+        let mut bytes = Vec::new(self.alloc);
+        let mut next = self.goaways;
+        match next.goaway(first, &mut bytes) {
+            Ok(()) => {}
+            Err(SendError::Memory) => return Err(Refused::Memory),
+            Err(error) => return Err(Refused::Send(error)),
+        }
+        match self.control.push(&mut self.tools.spares, bytes.as_slice()) {
+            Ok(()) => {}
+            Err(_) => return Err(Refused::Memory),
+        }
+        self.goaways = next;
+        self.is_leaving = self.is_leaving || phase == Shutdown::Final;
+        Ok(())
+    }
+
+    // Returns the ID of a GOAWAY: a request's at a server, and a push's at a client, which allows none.
+    fn goaway_for(&self, phase: Shutdown) -> u64
+        ensures { result ≡ goaway_is phase self.now }
+    {
+        if !self.is_server() {
+            return 0;
+        }
+        match phase {
+            Shutdown::Notice => NO_REQUEST,
+            Shutdown::Final => self.ids.first_unseen(),
+        }
+    }
+
+    /// Closes the connection at once, with a code of HTTP/3. What is queued is dropped. Nothing changes if it ended before.
+    pub fn close(&mut self, code: Code)
+        ensures end { EndsUnless (is_over self.old) code self.old self.new }
+        ensures output { is_over self.old ≡ false → next_output self.new ≡ Some (output.Close code) }
+    {
+        self.break_off(code.number().into_inner());
+    }
+
+    /// Returns how much there is of what is bounded.
+    pub fn stats(&self) -> Stats
+        ensures streams { result.streams ≡ length self.now.streams.entries }
+        ensures sessions { result.sessions ≡ self.now.sessions }
+        ensures held { result.held ≡ self.now.held }
+        ensures datagrams { result.datagrams ≡ length self.now.datagrams.queue.items }
+    {
+        Stats {
+            streams: self.streams.len(),
+            sessions: self.sessions,
+            held: self.held,
+            datagrams: self.datagrams.queue.len(),
+        }
+    }
+
+    // Returns whether no message and no session is left, and nothing waits to be sent.
+    pub(super) fn is_idle(&self) -> bool {
+        self.streams.len() <= self.quiet
+            && self.control.is_idle()
+            && self.decoder.is_idle()
+            && self.encoder.is_idle()
+            && self.outputs.is_empty()
+    }
+
+    // Closes the connection, of which nothing is left.
+    pub(super) fn shut_down<'a>(&mut self) -> Step<'a> {
+        let code = Code::H3_NO_ERROR.number().into_inner();
+        self.ended = Some(Ended {
+            code,
+            by_peer: false,
+            is_told: false,
+        });
+        self.closes = Some(code);
+        self.pending.cursor = 0;
+        Step::Told(Event::of_connection(EventKind::Idle))
+    }
+}

@@ -1,0 +1,163 @@
+//! Datagrams (RFC 9297).
+ghost use Rattle.std.specs.Prelude.{◌≡◌, ◌-◌, ◌++◌, [], Ok, Some, MatchOption, OnOk, IfOk, IfSome, OnErr, List, ℕ, length, option_map};
+ghost use Rattle.vesgrauf.specs.State.{Adds, head, open_session, HeadOf, IsStill, KeepsDatagrams, SendsDatagram};
+
+use crate::connection::{Connection, DatagramQueue, Step, Stop};
+use crate::event::{Event, EventKind, Why};
+use crate::input::{Input, Report};
+use crate::refused::Refused;
+use vesgrauf_stream::bytes::Bytes;
+use wtp_connection::connection::datagrams::DatagramFor;
+use wtp_connection::fault::Fault as StreamsFault;
+use wtp_core::error::Code;
+use wtp_webtransport::fault::Fault;
+
+impl DatagramQueue {
+    // Queues a datagram: its first bytes, and the payload.
+    fn add(&mut self, head: Vec<u8>, payload: &[u8]) -> Result<(), Refused>
+        ensures ok { OnOk result (Adds (head.items ++ payload.now) self.old self.new) }
+        ensures kept { OnErr result (self.new.queue.items ≡ self.old.queue.items) }
+        ensures owed { self.new.is_owed ≡ self.old.is_owed }
+    {
+        let datagram = joined(head, payload)?;
+        self.queue.push_back(datagram)?;
+        Ok(())
+    }
+}
+
+impl Connection {
+    // Takes in a datagram.
+    pub(super) fn datagram_came<'a>(&mut self, input: &mut Input<'a>) -> Result<Step<'a>, Stop> {
+        let found = match self.shared.datagram(input.chunk.all()) {
+            Ok(found) => found,
+            Err(fault) => return Err(Stop::from(fault)),
+        };
+        let Some((session, payload)) = found else {
+            input.report = Report::Nothing;
+            return Ok(Step::More);
+        };
+        let step = match self.known(session).datagram_for() {
+            DatagramFor::Deliver => self.tell(session, EventKind::Datagram(Bytes::Input(payload))),
+            DatagramFor::Early => {
+                self.datagrams.early.keep(session, payload)?;
+                Step::More
+            }
+            DatagramFor::Discard => Step::More,
+            DatagramFor::EndStream => {
+                let fault = Fault::Streams(StreamsFault::Datagram);
+                self.shut(session, Code::H3_DATAGRAM_ERROR, Why::Fault(fault))?;
+                Step::More
+            }
+        };
+        input.report = Report::Nothing;
+        Ok(step)
+    }
+
+    // Gives a datagram that came before its session was open.
+    pub(super) fn give_early<'a>(&mut self) -> Option<Step<'a>> {
+        let Some(session) = self.datagrams.opened.front().copied() else {
+            return None;
+        };
+        match self.datagrams.early.take(session) {
+            Some(payload) => Some(self.tell(session, EventKind::Datagram(Bytes::Kept(payload)))),
+            None => {
+                self.datagrams.opened.pop_front();
+                Some(Step::More)
+            }
+        }
+    }
+
+    /// Sends a datagram of a session. Returns false if as many wait as
+    /// [`datagram_queue`](crate::config::Config) says: then it is not queued, and an event
+    /// [`DatagramsWritable`](crate::event::EventKind) follows when half of them are sent.
+    ///
+    /// # Errors
+    ///
+    /// Nothing changes. `Closed`; `NotOpen`; `TooLarge` if it has more bytes than [`max_datagram`](Self::max_datagram)
+    /// says; and `Memory`.
+    pub fn send_datagram(&mut self, session: u64, payload: &[u8]) -> Result<bool, Refused>
+        ensures open { IfOk result (λ queued. open_session self.old session ≡ Ok tt) }
+        ensures ok { IfOk result (λ queued. SendsDatagram queued session payload.now self.old self.new) }
+        ensures still { IsStill self.old self.new }
+        ensures kept { OnErr result (KeepsDatagrams self.old self.new) }
+    {
+        self.check_session(session)?;
+        let head = self.datagram_head(session)?;
+        if head.len().saturating_add(payload.len()) > self.datagrams.limit {
+            return Err(Refused::TooLarge);
+        }
+        if self.datagrams.queue.len() >= self.config.datagram_queue {
+            self.datagrams.is_owed = true;
+            return Ok(false);
+        }
+        self.datagrams.add(head, payload)?;
+        Ok(true)
+    }
+
+    /// Returns how many bytes the payload of a datagram of a session may have now, or `None` if it is not open.
+    pub fn max_datagram(&self, session: u64) -> Option<usize>
+        ensures open { IfSome result (λ n. open_session self.now session ≡ Ok tt) }
+        ensures len { IfSome result (λ n. (first : List ℕ) × HeadOf self.now session first
+            × (n ≡ self.now.datagrams.limit - length first)) }
+    {
+        if self.check_session(session).is_err() {
+            return None;
+        }
+        match self.datagram_head(session) {
+            Ok(head) => Some(self.datagrams.limit.saturating_sub(head.len())),
+            Err(_) => None,
+        }
+    }
+
+    // Returns the first bytes of a datagram of a session.
+    fn datagram_head(&self, session: u64) -> Result<Vec<u8>, Refused>
+        ensures { IfOk result (λ first. HeadOf self.now session first.items) }
+    {
+        let Some(entry) = self.streams.get(&session) else {
+            return Err(Refused::NotOpen);
+        };
+        let mut head = Vec::new(self.alloc);
+        entry.writing.datagram_head(&mut head)?;
+        Ok(head)
+    }
+
+    /// Returns the datagram that QUIC is to send next, or `None`. It is the same until it is sent.
+    pub fn next_datagram(&self) -> Option<&[u8]>
+        ensures { MatchOption result (self.now.datagrams.queue.items ≡ [])
+            (λ bytes. option_map (λ v. v.items) (head self.now.datagrams.queue.items) ≡ Some bytes.now) }
+    {
+        match self.datagrams.queue.front() {
+            Some(datagram) => Some(datagram.as_slice()),
+            None => None,
+        }
+    }
+
+    /// QUIC took the datagram that [`next_datagram`](Self::next_datagram) returned, or drops it.
+    ///
+    /// # Errors
+    ///
+    /// `Memory`: nothing changes, and the call is to be made again.
+    pub fn datagram_sent(&mut self) -> Result<(), Refused> {
+        self.reserve()?;
+        self.datagrams.queue.pop_front();
+        if self.datagrams.is_owed && self.datagrams.queue.len() <= self.config.datagram_queue / 2 {
+            self.datagrams.is_owed = false;
+            let event = Event::of_connection(EventKind::DatagramsWritable);
+            if self.events.push_back(event).is_err() {
+                return Err(Refused::Memory);
+            }
+        }
+        Ok(())
+    }
+}
+
+// Returns the first bytes of a datagram with its payload.
+fn joined(head: Vec<u8>, payload: &[u8]) -> Result<Vec<u8>, Refused>
+    ensures { IfOk result (λ datagram. datagram.items ≡ head.items ++ payload.now) }
+{
+    let mut datagram = head;
+    match datagram.extend_from_slice(payload) {
+        Ok(()) => Ok(datagram),
+        Err(_) => Err(Refused::Memory),
+    }
+}

@@ -1,0 +1,239 @@
+//! Streams that the peer resets, or asks to stop.
+ghost use Rattle.std.specs.Prelude.{◌≡◌};
+ghost use Rattle.vesgrauf.specs.State.{head, is_over, EndsUnless};
+
+use crate::connection::{Connection, Ended, Step, Stop};
+use crate::entry::Peer;
+use crate::event::{Event, EventKind, Why};
+use crate::input::{Input, Report};
+use crate::output::Output;
+use vesgrauf_stream::writing::Writing;
+use wtp_connection::stream::Purpose;
+use wtp_core::error::Code;
+use wtp_webtransport::event::Event as Said;
+
+impl Connection {
+    // The peer reset a stream.
+    pub(super) fn reset_came(&mut self, id: u64, code: u64) -> Result<(), Stop> {
+        self.accept(id)?;
+        match self.peer_of(id) {
+            Peer::Over => return Ok(()),
+            Peer::Drops => return self.peer_is_over(id),
+            Peer::Reads => {}
+        }
+        self.give_up(id)?;
+        let shown = self.shown_code(id, code);
+        let Some(entry) = self.streams.get_mut(&id) else {
+            return Ok(());
+        };
+        let event = entry.reading.reset(&mut self.shared);
+        if let Said::ConnectionError(fault) = event {
+            return Err(Stop::from(fault));
+        }
+        entry.is_ended = true;
+        self.cancel(id)?;
+        self.queue_event(id, EventKind::Reset(shown))?;
+        self.half_ended(id, event)?;
+        self.leave_untold(id)?;
+        self.peer_is_over(id)
+    }
+
+    // Resets the own half of a stream that the peer reset before the program was told of it: nothing will be sent on it.
+    fn leave_untold(&mut self, id: u64) -> Result<(), Stop> {
+        let Some(entry) = self.streams.get(&id) else {
+            return Ok(());
+        };
+        if entry.is_told || entry.writing.is_ended() {
+            return Ok(());
+        }
+        let code = Code::H3_REQUEST_INCOMPLETE.number().into_inner();
+        self.reset_own(id, code)
+    }
+
+    // The peer asked to stop the own half of a stream.
+    pub(super) fn stop_came(&mut self, id: u64, code: u64) -> Result<(), Stop> {
+        if let Some(own) = self.own_purpose(id) {
+            return match self.shared.stopped(own) {
+                Some(fault) => Err(Stop::from(fault)),
+                None => Ok(()),
+            };
+        }
+        self.accept(id)?;
+        let shown = self.shown_code(id, code);
+        let Some(entry) = self.streams.get_mut(&id) else {
+            return Ok(());
+        };
+        if entry.writing.is_done() {
+            return Ok(());
+        }
+        self.give_up(id)?;
+        self.reset_own(id, code)?;
+        let Some(entry) = self.streams.get_mut(&id) else {
+            return Ok(());
+        };
+        let event = entry.reading.stop(&mut self.shared);
+        self.queue_event(id, EventKind::Stopped(shown))?;
+        self.half_ended(id, event)?;
+        self.remove_if_done(id)
+    }
+
+    // Handles what the end of one half says of the stream.
+    fn half_ended(&mut self, id: u64, event: Said<'static>) -> Result<(), Stop> {
+        match event {
+            Said::Reset(Some(fault)) | Said::StreamError(fault) => {
+                self.shut(id, fault.code(), Why::Fault(fault))
+            }
+            Said::SessionLost => self.shut(id, Code::H3_REQUEST_CANCELLED, Why::SessionGone),
+            Said::ConnectionError(fault) => Err(Stop::from(fault)),
+            _ => Ok(()),
+        }
+    }
+
+    // Counts a request that its client gives up before its answer (RFC 9114, section 10.5).
+    fn give_up(&mut self, id: u64) -> Result<(), Stop> {
+        let Some(entry) = self.streams.get_mut(&id) else {
+            return Ok(());
+        };
+        let is_head = entry.peer == Peer::Reads && entry.reading.is_request_head();
+        let waits = is_head && self.waiting.contains(&id);
+        if !entry.is_awaited && !waits {
+            return Ok(());
+        }
+        entry.is_awaited = false;
+        match self.budget.reset_unanswered() {
+            Some(code) => Err(Stop::Broken(code.number().into_inner())),
+            None => Ok(()),
+        }
+    }
+
+    // Queues an event of a stream, if the program knows of the stream.
+    pub(super) fn queue_event(&mut self, id: u64, kind: EventKind<'static>) -> Result<(), Stop> {
+        if let Step::Told(event) = self.tell(id, kind) {
+            self.events.push_back(event)?;
+        }
+        Ok(())
+    }
+
+    // Returns the code as the program sees it: the application's, on a stream of a session.
+    fn shown_code(&self, id: u64, code: u64) -> u64 {
+        let Some(entry) = self.streams.get(&id) else {
+            return code;
+        };
+        match entry.reading.application_code(code) {
+            Some(shown) => u64::from(shown),
+            None => code,
+        }
+    }
+
+    // Returns what an own critical stream is for.
+    fn own_purpose(&self, id: u64) -> Option<Purpose> {
+        if self.control.is(id) {
+            return Some(Purpose::Control);
+        }
+        if self.decoder.is(id) {
+            return Some(Purpose::Decoder);
+        }
+        if self.encoder.is(id) {
+            return Some(Purpose::Encoder);
+        }
+        None
+    }
+
+    // QUIC has closed a stream: what is kept of the own half is freed. What the peer sent is still read.
+    pub(super) fn stream_closed(&mut self, id: u64) -> Result<(), Stop> {
+        let Some(entry) = self.streams.get_mut(&id) else {
+            return Ok(());
+        };
+        entry.writing = Writing::none(self.alloc, self.config.queue());
+        self.ready.remove(id, entry.kind());
+        self.full.remove(&id);
+        self.remove_if_done(id)
+    }
+
+    // Leaves a request that the server does not process.
+    pub(super) fn leave_unprocessed<'a>(&mut self, first: u64) -> Result<Step<'a>, Stop> {
+        let Some(id) = self.first_request(first) else {
+            self.pending.unprocessed = None;
+            return Ok(Step::More);
+        };
+        self.shut(id, Code::H3_REQUEST_CANCELLED, Why::Unprocessed)?;
+        self.pending.unprocessed = Some(id.saturating_add(4));
+        Ok(Step::More)
+    }
+
+    // Returns the first stream of an own request from this ID on.
+    fn first_request(&self, first: u64) -> Option<u64> {
+        let mut streams = self.streams.range(first..);
+        while let Some((id, _)) = streams.next() {
+            if *id % 4 == 0 {
+                return Some(*id);
+            }
+        }
+        None
+    }
+
+    // Ends the connection by an error.
+    pub(super) fn break_off(&mut self, code: u64)
+        ensures { EndsUnless (is_over self.old) code self.old self.new }
+    {
+        if self.ended.is_some() {
+            return;
+        }
+        self.shared.stopped(Purpose::Control);
+        self.events.clear();
+        self.outputs.clear();
+        self.datagrams.queue.clear();
+        self.ended = Some(Ended {
+            code,
+            by_peer: false,
+            is_told: false,
+        });
+        self.closes = Some(code);
+        self.pending.cursor = 0;
+    }
+
+    // Takes a step after the end of the connection: what comes is dropped, and each stream that the program knows of is
+    // told to be over.
+    pub(super) fn step_after_end<'a>(&mut self, ended: Ended, input: &mut Input<'a>) -> Step<'a> {
+        if matches!(input.report, Report::ConnectionClosed(_)) {
+            self.closes = None;
+        }
+        input.drop_rest();
+        input.report = Report::Nothing;
+        if let Some(id) = self.next_told() {
+            self.pending.cursor = id.saturating_add(1);
+            let step = self.tell(id, EventKind::Closed(Why::ConnectionClosed));
+            if let Some(entry) = self.streams.get_mut(&id) {
+                entry.is_told = false;
+            }
+            return step;
+        }
+        if ended.is_told {
+            return Step::Nothing;
+        }
+        self.ended = Some(Ended {
+            is_told: true,
+            ..ended
+        });
+        Step::Told(Event::of_connection(EventKind::ConnectionClosed(ended.code, ended.by_peer)))
+    }
+
+    // Returns the next stream that the program knows of.
+    fn next_told(&self) -> Option<u64> {
+        let cursor = self.pending.cursor;
+        let mut streams = self.streams.range(cursor..);
+        while let Some((id, entry)) = streams.next() {
+            if entry.is_told {
+                return Some(*id);
+            }
+        }
+        None
+    }
+
+    // Returns the first output that is queued.
+    pub(super) fn first_output(&self) -> Option<Output>
+        ensures { result ≡ head self.now.outputs.items }
+    {
+        self.outputs.front().copied()
+    }
+}

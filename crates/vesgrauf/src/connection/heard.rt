@@ -1,0 +1,285 @@
+//! What is heard on a stream, and what follows from it.
+use crate::connection::{Connection, Step, Stop};
+use crate::event::{Event, EventKind, Tunnel, Why};
+use crate::output::StreamKind;
+use vesgrauf_stream::bytes::Bytes;
+use vesgrauf_stream::heard::Heard;
+use wtp_connection::settings::PeerSettings;
+use wtp_connection::stream::Purpose;
+use wtp_core::error::Code;
+use wtp_fields::fields::FieldList;
+use wtp_messages::response::Asked;
+use wtp_webtransport::close::Close;
+use wtp_webtransport::event::{Event as Said, HeadersKind};
+use wtp_webtransport::fault::Fault;
+
+/// What became of a stream that is to join its session.
+#[derive(Clone, Copy)]
+enum Joining {
+    /// It joined this session.
+    Joined(u64),
+    /// It is to be closed.
+    Refused(Fault),
+    /// The connection is over.
+    Broken(Fault),
+    /// Nothing yet.
+    Nothing,
+}
+
+// Returns what an event says of a stream that is to join its session.
+fn joining_of(event: &Said<'_>) -> Joining {
+    match event {
+        Said::Joined(session) => Joining::Joined(*session),
+        Said::StreamError(fault) => Joining::Refused(*fault),
+        Said::ConnectionError(fault) => Joining::Broken(*fault),
+        _ => Joining::Nothing,
+    }
+}
+
+impl Connection {
+    // Handles what was heard on a stream.
+    pub(super) fn heard<'a>(&mut self, id: u64, heard: Heard<'a>) -> Result<Step<'a>, Stop> {
+        match heard {
+            Heard::Data(bytes) | Heard::StreamData(bytes) => {
+                Ok(self.tell(id, EventKind::Data(bytes)))
+            }
+            Heard::Frame(_, _) => Ok(Step::More),
+            Heard::Event(event) => self.said(id, event),
+        }
+    }
+
+    // Tells the program something of a stream, if it knows of the stream.
+    pub(super) fn tell<'a>(&self, id: u64, kind: EventKind<'a>) -> Step<'a> {
+        let Some(entry) = self.streams.get(&id) else {
+            return Step::More;
+        };
+        if !entry.is_told {
+            return Step::More;
+        }
+        Step::Told(Event {
+            stream: id,
+            session: entry.session_shown(id),
+            user: entry.user,
+            kind,
+        })
+    }
+
+    // Handles what a stream says.
+    pub(super) fn said(&mut self, id: u64, event: Said<'static>) -> Result<Step<'static>, Stop> {
+        match event {
+            Said::Settings(settings, _) => Ok(self.settings_came(settings)),
+            Said::GoAway(first) => Ok(self.goaway_came(first)),
+            Said::Inserted(_) => {
+                self.shared.increment(&mut self.told)?;
+                self.wake();
+                Ok(Step::More)
+            }
+            Said::Opened(purpose) => self.purpose_came(id, purpose),
+            Said::Joins(session) => {
+                let event = self.join(id, session)?;
+                self.join_came(id, joining_of(&event))
+            }
+            Said::Headers(kind, list) => self.headers_came(id, kind, list),
+            Said::SessionRequested(list) => self.session_came(id, list),
+            Said::SessionReady(status, list) => self.session_ready(id, status, list),
+            Said::Rejected(status, list) => self.session_rejected(id, status, list),
+            Said::SessionClosed(close) => self.session_closed(id, close),
+            Said::SessionLost => self.session_lost(id),
+            Said::Datagram(payload) => Ok(self.capsule_came(id, payload)),
+            Said::Draining => Ok(self.draining_came(id)),
+            Said::End => self.end_came(id),
+            Said::TooLarge(_) => {
+                self.shut(id, Code::H3_EXCESSIVE_LOAD, Why::TooLarge)?;
+                Ok(Step::More)
+            }
+            Said::Malformed(rule) => {
+                self.shut(id, Code::H3_MESSAGE_ERROR, Why::Malformed(rule))?;
+                Ok(Step::More)
+            }
+            Said::StreamError(fault) | Said::Reset(Some(fault)) => {
+                self.shut(id, fault.code(), Why::Fault(fault))?;
+                Ok(Step::More)
+            }
+            Said::ConnectionError(fault) => Err(Stop::from(fault)),
+            Said::NoMemory => Err(Stop::Memory),
+            event => self.join_came(id, joining_of(&event)),
+        }
+    }
+
+    // Handles what became of a stream that is to join its session.
+    fn join_came(&mut self, id: u64, joining: Joining) -> Result<Step<'static>, Stop> {
+        match joining {
+            Joining::Joined(session) => {
+                self.joined(id, session);
+                Ok(self.tell(id, EventKind::NewStream(StreamKind::of(id))))
+            }
+            Joining::Refused(fault) => {
+                self.shut(id, fault.code(), Why::Fault(fault))?;
+                Ok(Step::More)
+            }
+            Joining::Broken(fault) => Err(Stop::from(fault)),
+            Joining::Nothing => Ok(Step::More),
+        }
+    }
+
+    // A datagram of a session came in a capsule.
+    fn capsule_came(&self, id: u64, payload: Vec<u8>) -> Step<'static> {
+        self.tell(id, EventKind::Datagram(Bytes::Kept(payload)))
+    }
+
+    // The peer asks to end a session soon.
+    fn draining_came(&self, id: u64) -> Step<'static> {
+        self.tell(id, EventKind::Draining)
+    }
+
+    // SETTINGS of the peer came.
+    fn settings_came(&mut self, settings: PeerSettings) -> Step<'static> {
+        self.is_configured = true;
+        self.pending.begins_table = true;
+        self.wake();
+        Step::Told(Event::of_connection(EventKind::Ready(settings)))
+    }
+
+    // GOAWAY of the peer came.
+    fn goaway_came(&mut self, first: u64) -> Step<'static> {
+        if !self.is_server() {
+            self.pending.unprocessed = Some(first);
+        }
+        Step::Told(Event::of_connection(EventKind::GoAway(first)))
+    }
+
+    // The stream is for this.
+    fn purpose_came(&mut self, id: u64, purpose: Purpose) -> Result<Step<'static>, Stop> {
+        match purpose {
+            Purpose::Message => {
+                let goaway = self.first_rejected();
+                return self.reject(id, goaway);
+            }
+            Purpose::Decoder => {
+                self.peer_decoder = Some(id);
+                self.note_quiet(id);
+            }
+            _ => self.note_quiet(id),
+        }
+        Ok(Step::More)
+    }
+
+    // The stream is one that is open as long as the connection, or ignored.
+    fn note_quiet(&mut self, id: u64) {
+        if let Some(entry) = self.streams.get_mut(&id) {
+            if !entry.is_quiet {
+                entry.is_quiet = true;
+                self.quiet = self.quiet.saturating_add(1);
+            }
+        }
+    }
+
+    // Returns the ID of the own GOAWAY, from which on requests are rejected.
+    fn first_rejected(&self) -> Option<u64> {
+        match self.goaways.last_goaway() {
+            Some(first) => Some(first.into_inner()),
+            None => None,
+        }
+    }
+
+    // Rejects the request on a stream if its ID is this one or above it: that of the own GOAWAY, or its own where there are
+    // too many sessions.
+    pub(super) fn reject(&mut self, id: u64, first: Option<u64>) -> Result<Step<'static>, Stop> {
+        let Some(entry) = self.streams.get_mut(&id) else {
+            return Ok(Step::More);
+        };
+        match entry.reading.reject(&mut self.shared, id, first) {
+            Said::StreamError(fault) => {
+                self.shut(id, fault.code(), Why::Fault(fault))?;
+                Ok(Step::More)
+            }
+            _ => Ok(Step::More),
+        }
+    }
+
+    // A field section of a message came.
+    fn headers_came(
+        &mut self,
+        id: u64,
+        kind: HeadersKind,
+        list: FieldList,
+    ) -> Result<Step<'static>, Stop> {
+        match kind {
+            HeadersKind::Request => Ok(self.request_came(id, list)),
+            HeadersKind::Interim(status) => Ok(self.tell(id, EventKind::Interim(status, list))),
+            HeadersKind::Response(status) => {
+                self.response_came(id, status)?;
+                Ok(self.tell(id, EventKind::Response(status, list)))
+            }
+            HeadersKind::Trailers => Ok(self.tell(id, EventKind::Trailers(list))),
+        }
+    }
+
+    // A request came that asks for no session.
+    fn request_came(&mut self, id: u64, list: FieldList) -> Step<'static> {
+        let connects = list.first(b":method") == Some(b"CONNECT");
+        let asked = if connects {
+            Asked::Connect
+        } else if list.first(b":method") == Some(b"HEAD") {
+            Asked::Head
+        } else {
+            Asked::Other
+        };
+        self.note_request(id, asked);
+        if connects {
+            self.tell(id, EventKind::Connect(Tunnel::Other, list))
+        } else {
+            self.tell(id, EventKind::Request(list))
+        }
+    }
+
+    // A request came that asks for this.
+    pub(super) fn note_request(&mut self, id: u64, asked: Asked) {
+        if let Some(entry) = self.streams.get_mut(&id) {
+            entry.writing.ask(asked);
+            entry.is_told = true;
+            entry.is_awaited = true;
+        }
+    }
+
+    // The final response to a request that asked for no session came.
+    fn response_came(&mut self, id: u64, status: u32) -> Result<(), Stop> {
+        let Some(entry) = self.streams.get_mut(&id) else {
+            return Ok(());
+        };
+        if status > 199 && status < 300 {
+            entry.writing.connect();
+            return Ok(());
+        }
+        if entry.has_tunnel {
+            return self.end_own(id);
+        }
+        Ok(())
+    }
+
+    // The peer's half ended.
+    fn end_came(&mut self, id: u64) -> Result<Step<'static>, Stop> {
+        let step = self.tell(id, EventKind::End);
+        if let Some(entry) = self.streams.get_mut(&id) {
+            entry.may_cancel = false;
+        }
+        self.peer_is_over(id)?;
+        Ok(step)
+    }
+
+    // The peer closed a session, on its own stream. The stream is read to its end: more content is an error
+    // (draft-ietf-webtrans-http3-02, section 5).
+    fn session_closed(&mut self, id: u64, close: Close) -> Result<Step<'static>, Stop> {
+        self.cancel(id)?;
+        self.end_own(id)?;
+        self.end_session(id)?;
+        self.closed(id, Why::Session(close))?;
+        Ok(Step::More)
+    }
+
+    // A session ended otherwise.
+    fn session_lost(&mut self, id: u64) -> Result<Step<'static>, Stop> {
+        self.shut(id, Code::H3_REQUEST_CANCELLED, Why::SessionGone)?;
+        Ok(Step::More)
+    }
+}

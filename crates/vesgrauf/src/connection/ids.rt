@@ -1,0 +1,203 @@
+//! The IDs of streams (RFC 9000, section 2.1).
+use crate::output::StreamKind;
+use wtp_frames::endpoint::Side;
+
+/// The first number that is no stream ID.
+const END: u64 = 1 << 62;
+
+/// The next streams of each kind.
+#[derive(Clone, Copy)]
+pub(crate) struct Ids {
+    pub(crate) side: Side,
+    /// Own ones.
+    pub(crate) bidirectional: u64,
+    pub(crate) unidirectional: u64,
+    /// Own ones that QUIC is to open.
+    pub(crate) unopened_bidirectional: u64,
+    pub(crate) unopened_unidirectional: u64,
+    /// Whether QUIC opens none for now.
+    pub(crate) blocks_bidirectional: bool,
+    pub(crate) blocks_unidirectional: bool,
+    /// The peer's.
+    pub(crate) peer_bidirectional: u64,
+    pub(crate) peer_unidirectional: u64,
+}
+
+impl Ids {
+    ghost use Rattle.std.specs.Prelude.{◌≡◌, ◌<◌, ◌≤◌, ◌^◌, ◌%◌, ◌==◌, ◌&&◌, nat_lt, min, true, false, MatchOption, if◌then◌else◌};
+    ghost use Rattle.vesgrauf.specs.Ids.{IsFirst, own_bit, kind_of, next_own, unopened, next_peer, to_open, taken, opened, seen, was as was_is, blocked as blocked_is};
+
+    // Creates those of a connection without streams.
+    pub(crate) fn new(side: Side) -> Self
+        ensures { IsFirst side result }
+    {
+        let (own, peer) = match side {
+            Side::Client => (0, 1),
+            Side::Server => (1, 0),
+        };
+        Ids {
+            side,
+            bidirectional: own,
+            unidirectional: own + 2,
+            unopened_bidirectional: own,
+            unopened_unidirectional: own + 2,
+            blocks_bidirectional: false,
+            blocks_unidirectional: false,
+            peer_bidirectional: peer,
+            peer_unidirectional: peer + 2,
+        }
+    }
+
+    // Returns the next own stream of a kind.
+    pub(crate) fn next(&self, kind: StreamKind) -> Option<u64>
+        ensures { MatchOption result (2 ^ 62 ≤ next_own self.now kind)
+            (λ id. (id ≡ next_own self.now kind) × (id < 2 ^ 62)) }
+    {
+        let id = match kind {
+            StreamKind::Bidirectional => self.bidirectional,
+            StreamKind::Unidirectional => self.unidirectional,
+        };
+        if id < END { Some(id) } else { None }
+    }
+
+    // The next own stream of a kind is taken, if there is one.
+    pub(crate) fn take(&mut self, kind: StreamKind)
+        ensures { self.new ≡ (if nat_lt (next_own self.old kind) (2 ^ 62) then taken self.old kind else self.old) }
+    {
+        match kind {
+            StreamKind::Bidirectional => {
+                if self.bidirectional < END {
+                    self.bidirectional += 4;
+                }
+            }
+            StreamKind::Unidirectional => {
+                if self.unidirectional < END {
+                    self.unidirectional += 4;
+                }
+            }
+        }
+    }
+
+    // Returns whether a stream is one of this endpoint.
+    pub(crate) fn is_own(&self, id: u64) -> bool
+        ensures { result ≡ (id % 2 == own_bit self.now.side) }
+    {
+        let bit = match self.side {
+            Side::Client => 0,
+            Side::Server => 1,
+        };
+        id % 2 == bit
+    }
+
+    // Returns whether an own stream was taken.
+    pub(crate) fn was_taken(&self, id: u64) -> bool
+        ensures { result ≡ nat_lt id (next_own self.now (kind_of id)) }
+    {
+        match StreamKind::of(id) {
+            StreamKind::Bidirectional => id < self.bidirectional,
+            StreamKind::Unidirectional => id < self.unidirectional,
+        }
+    }
+
+    // Returns whether there was a stream with this ID.
+    pub(crate) fn was(&self, id: u64) -> bool
+        ensures { result ≡ was_is self.now id }
+    {
+        if self.is_own(id) {
+            self.was_taken(id)
+        } else {
+            id < self.next_of_peer(id)
+        }
+    }
+
+    // Returns the stream that QUIC is to open next, if it may.
+    pub(crate) fn next_to_open(&self) -> Option<u64>
+        ensures { result ≡ to_open self.now }
+    {
+        if !self.blocks_unidirectional && self.unopened_unidirectional < self.unidirectional {
+            return Some(self.unopened_unidirectional);
+        }
+        if !self.blocks_bidirectional && self.unopened_bidirectional < self.bidirectional {
+            return Some(self.unopened_bidirectional);
+        }
+        None
+    }
+
+    // Returns whether this is the next stream of its kind that QUIC is to open.
+    pub(crate) fn opens(&self, id: u64) -> bool
+        ensures { result ≡ (id == unopened self.now (kind_of id) && nat_lt id (next_own self.now (kind_of id))) }
+    {
+        match StreamKind::of(id) {
+            StreamKind::Bidirectional => {
+                id == self.unopened_bidirectional && id < self.bidirectional
+            }
+            StreamKind::Unidirectional => {
+                id == self.unopened_unidirectional && id < self.unidirectional
+            }
+        }
+    }
+
+    // QUIC has opened the next stream of a kind, which was taken.
+    pub(crate) fn was_opened(&mut self, kind: StreamKind)
+        ensures { self.new ≡ (if nat_lt (unopened self.old kind) (min (next_own self.old kind) (2 ^ 62))
+            then opened self.old kind else self.old) }
+    {
+        match kind {
+            StreamKind::Bidirectional => {
+                if self.unopened_bidirectional < self.bidirectional.min(END) {
+                    self.unopened_bidirectional += 4;
+                }
+            }
+            StreamKind::Unidirectional => {
+                if self.unopened_unidirectional < self.unidirectional.min(END) {
+                    self.unopened_unidirectional += 4;
+                }
+            }
+        }
+    }
+
+    // QUIC opens no streams of this kind, or does again.
+    pub(crate) fn block(&mut self, kind: StreamKind, blocked: bool)
+        ensures { self.new ≡ blocked_is self.old kind blocked }
+    {
+        match kind {
+            StreamKind::Bidirectional => self.blocks_bidirectional = blocked,
+            StreamKind::Unidirectional => self.blocks_unidirectional = blocked,
+        }
+    }
+
+    // Returns the first stream of the peer, of the kind of this one, that was not seen.
+    pub(crate) fn next_of_peer(&self, id: u64) -> u64
+        ensures { result ≡ next_peer self.now (kind_of id) }
+    {
+        match StreamKind::of(id) {
+            StreamKind::Bidirectional => self.peer_bidirectional,
+            StreamKind::Unidirectional => self.peer_unidirectional,
+        }
+    }
+
+    // The next stream of the peer, of this kind, was seen.
+    pub(crate) fn see_next(&mut self, kind: StreamKind)
+        ensures { self.new ≡ (if nat_lt (next_peer self.old kind) (2 ^ 62) then seen self.old kind else self.old) }
+    {
+        match kind {
+            StreamKind::Bidirectional => {
+                if self.peer_bidirectional < END {
+                    self.peer_bidirectional += 4;
+                }
+            }
+            StreamKind::Unidirectional => {
+                if self.peer_unidirectional < END {
+                    self.peer_unidirectional += 4;
+                }
+            }
+        }
+    }
+
+    // Returns the first bidirectional stream of the peer that was not seen.
+    pub(crate) fn first_unseen(&self) -> u64
+        ensures { result ≡ self.now.peer_bidirectional }
+    {
+        self.peer_bidirectional
+    }
+}

@@ -1,0 +1,416 @@
+//! Messages that are sent.
+ghost use Rattle.std.specs.Prelude.{◌≡◌, ◌⊎◌, false, true, is_some, None, Some, OnOk, OnErr, IfOk, IfErr, length};
+ghost use Rattle.vesgrauf_stream.specs.Writing.{Sends};
+ghost use Rattle.vesgrauf_stream.specs.Headers.{SendsTrailers, RefusesTrailers};
+ghost use Rattle.vesgrauf.specs.State.{stream_at, Changes, IsFor, IsStill, IsStillBut, SaysOrWaits, StaysFor, IsWhy, IsWhyOf, RefusesBytes, RefusesEnd, FinishesUnless, was_finished, is_over};
+ghost use Rattle.vesgrauf.specs.declared.refused.Refused.TheVariants as refused;
+
+use crate::connection::{Connection, Stop};
+use crate::entry::{Entry, Peer, SHARED};
+use crate::output::StreamKind;
+use crate::refused::{NotSent, Refused};
+use vesgrauf_stream::reading::Reading;
+use vesgrauf_stream::writing::Writing;
+use wtp_connection::connection::Known;
+use wtp_core::ids::SessionId;
+use wtp_core::varint::VarInt;
+use wtp_fields::fields::{FieldList, three_digits};
+use wtp_messages::response::Asked;
+use wtp_sending::error::SendError;
+use wtp_sending::peer::Peer as Allows;
+
+impl Connection {
+    /// Sends a request, at a client: its HEADERS, and with `fin` its end. Returns the ID of its stream.
+    ///
+    /// # Errors
+    ///
+    /// Nothing changes. `Closed`; `WrongSide` at a server; `GoAway`; for an extended CONNECT, such as a request for a
+    /// session, `NotReady` until SETTINGS of the peer came; `TooManySessions` if as many sessions are open as the peer
+    /// allows; `NoMoreIds`; `Send` if it would be malformed or the peer does not support it; and `Memory`.
+    pub fn request(&mut self, list: &FieldList, fin: bool) -> Result<u64, Refused> {
+        if self.ended.is_some() {
+            return Err(Refused::Closed);
+        }
+        if self.is_server() {
+            return Err(Refused::WrongSide);
+        }
+        if self.shared.is_unprocessed(u64::MAX) {
+            return Err(Refused::GoAway);
+        }
+        let asked = asked_of(list);
+        self.check_asked(asked, list)?;
+        let Some(id) = self.ids.next(StreamKind::Bidirectional) else {
+            return Err(Refused::NoMoreIds);
+        };
+        self.reserve()?;
+        self.choose_policy();
+        self.open_request(id, asked, list, fin)?;
+        self.queue_due();
+        self.ids.take(StreamKind::Bidirectional);
+        if asked == Asked::Session {
+            self.sessions = self.sessions.saturating_add(1);
+        }
+        Ok(id)
+    }
+
+    // Checks that what a request asks for is supported.
+    fn check_asked(&self, asked: Asked, list: &FieldList) -> Result<(), Refused> {
+        if !is_extended(list) {
+            return Ok(());
+        }
+        if !self.is_configured {
+            return Err(Refused::NotReady);
+        }
+        let peer = self.shared.peer_settings();
+        if !peer.enable_connect_protocol {
+            return Err(Refused::Send(SendError::Unsupported));
+        }
+        if asked != Asked::Session {
+            return Ok(());
+        }
+        if !self.shared.allows_sessions() {
+            return Err(Refused::Send(SendError::Unsupported));
+        }
+        let most = peer.webtransport_max_sessions.max(peer.wt_max_sessions);
+        if most > 0 && u64::from(self.sessions) >= most {
+            return Err(Refused::TooManySessions);
+        }
+        Ok(())
+    }
+
+    // Opens the stream of a request.
+    fn open_request(
+        &mut self,
+        id: u64,
+        asked: Asked,
+        list: &FieldList,
+        fin: bool,
+    ) -> Result<(), Refused> {
+        let session = session_id(id)?;
+        let allows = self.allows();
+        let place = match self.streams.entry(id) {
+            Ok(place) => place,
+            Err(_) => return Err(Refused::Memory),
+        };
+        let mut writing = Writing::idle(self.alloc, self.config.queue());
+        writing.request(&mut self.tools, session, allows, list, fin)?;
+        if asked == Asked::Session && self.asked.insert(id).is_err() {
+            return Err(Refused::Memory);
+        }
+        let stream = self.shared.open(asked);
+        let mut entry = Entry::new(Reading::new(self.alloc, stream), Peer::Reads, writing);
+        entry.is_told = true;
+        entry.is_opened = false;
+        entry.may_cancel = true;
+        entry.is_session = asked == Asked::Session;
+        entry.has_session = asked == Asked::Session;
+        entry.has_tunnel = asked == Asked::Connect;
+        if asked == Asked::Session || asked == Asked::Connect {
+            entry.priority = SHARED;
+        }
+        place.or_insert(entry);
+        Ok(())
+    }
+
+    // Returns what the peer allows to be sent.
+    fn allows(&self) -> Allows {
+        let settings = self.shared.peer_settings();
+        Allows {
+            extended_connect: settings.enable_connect_protocol,
+            sessions: self.shared.allows_sessions(),
+            max_section: settings.max_field_section_size.unwrap_or(u64::MAX),
+        }
+    }
+
+    /// Sends a response, at a server: its HEADERS, and with `fin` its end. Interim responses come before the final one.
+    /// A 2xx response to a CONNECT request opens the session.
+    ///
+    /// # Errors
+    ///
+    /// Nothing changes. `Closed`; `NoStream` if no request came on the stream; `Over`; `Send` if it would be malformed;
+    /// and `Memory`.
+    pub fn respond(&mut self, id: u64, list: &FieldList, fin: bool) -> Result<(), Refused> {
+        self.begin_send(id)?;
+        let session = session_id(id)?;
+        let allows = self.allows();
+        self.choose_policy();
+        let Some(entry) = self.streams.get_mut(&id) else {
+            return Err(Refused::NoStream);
+        };
+        let result = entry
+            .writing
+            .respond(&mut self.tools, session, allows, list, fin);
+        self.end_send(id);
+        self.queue_due();
+        result?;
+        if let Some(status) = status_of(list) {
+            self.answered(id, status);
+        }
+        if fin && matches!(self.known(id), Known::Open) {
+            self.end_session(id)?;
+            self.drop_peer(id)?;
+        }
+        Ok(())
+    }
+
+    // A response with this status was sent.
+    fn answered(&mut self, id: u64, status: u32) {
+        if status < 200 {
+            return;
+        }
+        let Some(entry) = self.streams.get_mut(&id) else {
+            return;
+        };
+        entry.reading.answer(status);
+        if entry.is_awaited {
+            entry.is_awaited = false;
+            self.budget.answered();
+        }
+        if entry.has_session {
+            if status < 300 {
+                let _opened = self.datagrams.opened.push_back(id);
+            } else {
+                entry.has_session = false;
+                self.sessions = self.sessions.saturating_sub(1);
+            }
+        }
+        self.wake();
+    }
+
+    /// Sends content of a message, in one DATA frame, or bytes of a stream of a session; and with `fin` the end. Returns
+    /// false if as many bytes are queued as [`send_buffer`](crate::config::Config) says: an event
+    /// [`Writable`](crate::event::EventKind) follows when half of them are sent.
+    ///
+    /// # Errors
+    ///
+    /// Nothing is queued. `Full` if as many bytes were queued before: a `Writable` follows then. `Closed`; `NoStream`;
+    /// `Over`; `Send`; and `Memory`.
+    #[tactic(auto, using(std::proofs::lemmas::Map::Steps::set_value_same))]
+    pub fn send(&mut self, id: u64, bytes: &[u8], fin: bool) -> Result<bool, Refused>
+        ensures ok { IfOk result (λ room. Changes id (Sends bytes.now fin room) self.old self.new) }
+        ensures why { IfErr result (λ e. IsWhy (RefusesBytes (length bytes.now) fin) self.old id e) }
+        ensures kept { IfErr result (λ e. StaysFor e id self.old self.new) }
+    {
+        self.begin_send(id)?;
+        if self.full.insert(id).is_err() {
+            self.end_send(id);
+            return Err(Refused::Memory);
+        }
+        let Some(entry) = self.streams.get_mut(&id) else {
+            return Err(Refused::NoStream);
+        };
+        let result = entry.send(&mut self.tools.spares, bytes, fin);
+        self.end_send(id);
+        self.note_full(id);
+        result
+    }
+
+    /// Sends bytes as [`send`](Self::send) does. 4,096 bytes or more are not copied.
+    ///
+    /// # Errors
+    ///
+    /// Those of [`send`](Self::send), with the bytes.
+    #[tactic(auto, using(std::proofs::lemmas::Map::Steps::set_value_same))]
+    pub fn send_owned(&mut self, id: u64, bytes: Vec<u8>, fin: bool) -> Result<bool, NotSent>
+        ensures ok { IfOk result (λ room. Changes id (Sends bytes.items fin room) self.old self.new) }
+        ensures why { IfErr result (λ e. IsWhy (RefusesBytes (length bytes.items) fin) self.old id e.why) }
+        ensures kept { IfErr result (λ e. StaysFor e.why id self.old self.new) }
+        ensures bytes { IfErr result (λ e. e.bytes ≡ bytes) }
+    {
+        if let Err(why) = self.begin_send(id) {
+            return Err(NotSent { why, bytes });
+        }
+        if self.full.insert(id).is_err() {
+            self.end_send(id);
+            return Err(NotSent {
+                why: Refused::Memory,
+                bytes,
+            });
+        }
+        let Some(entry) = self.streams.get_mut(&id) else {
+            return Err(NotSent {
+                why: Refused::NoStream,
+                bytes,
+            });
+        };
+        let result = entry.send_owned(&mut self.tools.spares, bytes, fin);
+        self.end_send(id);
+        self.note_full(id);
+        result
+    }
+
+    // Keeps a stream among those that are full only if it is.
+    fn note_full(&mut self, id: u64)
+        ensures { IsStill self.old self.new }
+    {
+        let is_full = match self.streams.get(&id) {
+            Some(entry) => entry.writing.is_full(),
+            None => false,
+        };
+        if !is_full {
+            self.full.remove(&id);
+        }
+    }
+
+    /// Sends the trailers of a message, and its end.
+    ///
+    /// # Errors
+    ///
+    /// Nothing changes. `Closed`; `NoStream`; `Over`; `Send` if they would be malformed; and `Memory`.
+    pub fn send_trailers(&mut self, id: u64, list: &FieldList) -> Result<(), Refused>
+        ensures kept { OnErr result (IsStillBut self.old self.new) }
+        ensures decoder { SaysOrWaits self.old.told.items self.new.told.items self.old.decoder self.new.decoder }
+    {
+        self.begin_send(id)?;
+        self.choose_policy();
+        let result = self.put_trailers(id, list);
+        self.queue_due();
+        result
+    }
+
+    // Queues trailers and the end on a stream.
+    #[tactic(auto, using(std::proofs::lemmas::Map::Steps::set_value_same))]
+    fn put_trailers(&mut self, id: u64, list: &FieldList) -> Result<(), Refused>
+        ensures ok { OnOk result (Changes id (SendsTrailers list.now self.old.tools self.new.tools)
+            self.old self.new) }
+        ensures kept { OnErr result (IsStill self.old self.new) }
+        ensures why { IfErr result (λ e. IsWhyOf (stream_at self.old id)
+            (IsFor (RefusesTrailers list.now self.old.tools self.new.tools)) e) }
+    {
+        let Some(entry) = self.streams.get_mut(&id) else {
+            return Err(Refused::NoStream);
+        };
+        let result = entry.writing.trailers(&mut self.tools, list);
+        self.end_send(id);
+        Ok(result?)
+    }
+
+    /// Ends the own half of a stream after what is queued. The end of a session's own stream closes the session, with
+    /// code 0 and no reason (draft-ietf-webtrans-http3-02, section 5). Nothing changes if the own half was finished before, if
+    /// there is none, and if the stream is over.
+    ///
+    /// # Errors
+    ///
+    /// Nothing changes. `Closed`; `NoStream` if there never was such a stream; `Over` if it was reset; `Send` if the message
+    /// may not end here; and `Memory`.
+    pub fn finish(&mut self, id: u64) -> Result<(), Refused> {
+        if self.check_session(id).is_ok() {
+            return self.close_session(id, 0, "");
+        }
+        self.finish_half(id)
+    }
+
+    // Ends the own half of a stream that is not that of a session.
+    #[tactic(auto, using(std::proofs::lemmas::Map::Steps::set_value_same))]
+    fn finish_half(&mut self, id: u64) -> Result<(), Refused>
+        ensures ok { OnOk result (FinishesUnless (was_finished self.old id) id self.old self.new) }
+        ensures why { IfErr result (λ e. IsWhy RefusesEnd self.old id e) }
+        ensures kept { OnErr result (IsStill self.old self.new) }
+    {
+        if self.ended.is_some() {
+            return Err(Refused::Closed);
+        }
+        if self.is_finished(id) {
+            return Ok(());
+        }
+        self.begin_send(id)?;
+        let Some(entry) = self.streams.get_mut(&id) else {
+            return Err(Refused::NoStream);
+        };
+        let result = entry.writing.finish();
+        self.end_send(id);
+        Ok(result?)
+    }
+
+    // Returns whether the own half of a stream was finished, or there is none.
+    fn is_finished(&self, id: u64) -> bool
+        ensures { result ≡ was_finished self.now id }
+    {
+        match self.streams.get(&id) {
+            Some(entry) => entry.writing.is_finished() || entry.writing.is_none(),
+            None => self.ids.was(id),
+        }
+    }
+
+    // Begins a call that sends on a stream: reserves memory, and gives the stream its place in the order of sending.
+    pub(super) fn begin_send(&mut self, id: u64) -> Result<(), Refused>
+        ensures still { IsStill self.old self.new }
+        ensures tools { self.new.tools ≡ self.old.tools }
+        ensures ok { OnOk result ((is_over self.old ≡ false) × (is_some (stream_at self.old id) ≡ true)) }
+        ensures err { IfErr result (λ e. ((e ≡ refused.Closed) × (is_over self.old ≡ true))
+            ⊎ (((e ≡ refused.NoStream) × (is_over self.old ≡ false) × (stream_at self.old id ≡ None))
+            ⊎ ((e ≡ refused.Memory) × (is_over self.old ≡ false)))) }
+    {
+        if self.ended.is_some() {
+            return Err(Refused::Closed);
+        }
+        self.reserve()?;
+        let Some(entry) = self.streams.get(&id) else {
+            return Err(Refused::NoStream);
+        };
+        if entry.may_send() {
+            self.ready.insert(id, entry.kind())?;
+        }
+        Ok(())
+    }
+
+    // Ends such a call: the stream keeps its place only if something waits.
+    pub(super) fn end_send(&mut self, id: u64)
+        ensures still { IsStill self.old self.new }
+        ensures tools { self.new.tools ≡ self.old.tools }
+    {
+        if let Some(entry) = self.streams.get(&id) {
+            if !entry.has_more() {
+                self.ready.remove(id, entry.kind());
+            }
+        }
+    }
+}
+
+// Returns the ID of a request's stream.
+fn session_id(id: u64) -> Result<SessionId, Refused> {
+    let Ok(number) = VarInt::try_from_u64(id) else {
+        return Err(Refused::NoStream);
+    };
+    match SessionId::try_from_varint(number) {
+        Ok(session) => Ok(session),
+        Err(_) => Err(Refused::NoStream),
+    }
+}
+
+// Returns what a request asks for.
+pub(super) fn asked_of(list: &FieldList) -> Asked {
+    if list.first(b":method") == Some(b"CONNECT") {
+        if list.first(b":protocol") == Some(b"webtransport") {
+            Asked::Session
+        } else {
+            Asked::Connect
+        }
+    } else if list.first(b":method") == Some(b"HEAD") {
+        Asked::Head
+    } else {
+        Asked::Other
+    }
+}
+
+// Returns whether a request is an extended CONNECT.
+fn is_extended(list: &FieldList) -> bool {
+    list.first(b":method") == Some(b"CONNECT") && list.first(b":protocol").is_some()
+}
+
+// Returns the status of a response.
+fn status_of(list: &FieldList) -> Option<u32> {
+    match list.first(b":status") {
+        Some(text) => three_digits(text),
+        None => None,
+    }
+}
+
+impl From<Stop> for Refused {
+    fn from(stop: Stop) -> Refused {
+        match stop {
+            Stop::Memory => Refused::Memory,
+            Stop::Broken(_) => Refused::Closed,
+        }
+    }
+}

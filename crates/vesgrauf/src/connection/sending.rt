@@ -1,0 +1,263 @@
+//! What QUIC is to send and to do.
+ghost use Rattle.std.specs.Prelude.{◌≡◌, true, None, IfErr, IfSome, OnOk, OnErr};
+ghost use Rattle.vesgrauf.specs.State.{next_output, IsStill, ShowsNext, view_of, blocked_at, blocked_in, is_over};
+ghost use Rattle.vesgrauf.specs.declared.refused.Refused.TheVariants as refused;
+
+use crate::connection::{Connection, Step, Stop};
+use crate::event::EventKind;
+use crate::output::{Next, Output, Scope, StreamKind};
+use crate::refused::Refused;
+
+impl Connection {
+    /// Returns what QUIC is to do next, or `None`. It is the same until it is taken.
+    pub fn output(&self) -> Option<Output>
+        ensures { result ≡ next_output self.now }
+    {
+        if let Some(code) = self.closes {
+            return Some(Output::Close(code));
+        }
+        if self.ended.is_some() {
+            return None;
+        }
+        if let Some(id) = self.ids.next_to_open() {
+            return Some(Output::Open {
+                id,
+                kind: StreamKind::of(id),
+            });
+        }
+        self.first_output()
+    }
+
+    /// QUIC did what [`output`](Self::output) returned last: anything but [`Output::Open`](Output::Open), which
+    /// [`opened`](Self::opened) takes.
+    ///
+    /// # Errors
+    ///
+    /// `NotAsked` if there is none. `Memory`: nothing changes, and the call is to be made again.
+    pub fn output_taken(&mut self) -> Result<(), Refused> {
+        if self.closes.is_some() {
+            self.closes = None;
+            return Ok(());
+        }
+        if self.ended.is_some() || self.ids.next_to_open().is_some() {
+            return Err(Refused::NotAsked);
+        }
+        self.reserve()?;
+        match self.outputs.pop_front() {
+            None => Err(Refused::NotAsked),
+            Some(Output::Reset(id, _)) => {
+                if let Some(entry) = self.streams.get_mut(&id) {
+                    let _taken = entry.writing.reset_sent();
+                }
+                Ok(self.remove_if_done(id)?)
+            }
+            Some(_) => Ok(()),
+        }
+    }
+
+    /// Returns the bytes that QUIC is to send next, or `None` if no stream may be sent from. They are the same until
+    /// they are sent or the stream is blocked, and no call is made that sends or receives.
+    pub fn next_send(&self) -> Option<Next<'_>>
+        ensures next { IfSome result (λ n. ShowsNext self.now n.id n.bytes.now n.more.now n.fin) }
+        ensures over { is_over self.now ≡ true → result ≡ None }
+    {
+        if self.ended.is_some() {
+            return None;
+        }
+        if self.control.is_due() {
+            return self.control.next();
+        }
+        if self.decoder.is_due() {
+            return self.decoder.next();
+        }
+        if self.encoder.is_due() {
+            return self.encoder.next();
+        }
+        let Some(id) = self.ready.next() else {
+            return None;
+        };
+        let Some(entry) = self.streams.get(&id) else {
+            return None;
+        };
+        match entry.writing.next() {
+            Some(next) => Some(Next {
+                id,
+                bytes: next.bytes,
+                more: next.more,
+                fin: next.fin,
+            }),
+            None => None,
+        }
+    }
+
+    /// QUIC took the first `len` of the bytes that [`next_send`](Self::next_send) returned, and the end with the last
+    /// of them.
+    ///
+    /// # Errors
+    ///
+    /// `NoStream`; `NotAsked` if so many bytes were not returned; `Memory`: nothing changes, and the call is to be made
+    /// again.
+    pub fn sent(&mut self, id: u64, len: usize) -> Result<(), Refused> {
+        self.reserve()?;
+        let spares = &mut self.tools.spares;
+        if self.control.is(id) {
+            return Ok(self.control.sent(spares, len)?);
+        }
+        if self.decoder.is(id) {
+            return Ok(self.decoder.sent(spares, len)?);
+        }
+        if self.encoder.is(id) {
+            return Ok(self.encoder.sent(spares, len)?);
+        }
+        let Some(entry) = self.streams.get_mut(&id) else {
+            return Err(Refused::NoStream);
+        };
+        entry.writing.sent(spares, len)?;
+        let kind = entry.kind();
+        let is_done = entry.writing.is_done();
+        self.ready.turn_taken(id, kind);
+        if !entry.has_more() {
+            self.ready.remove(id, kind);
+        }
+        self.note_room(id);
+        if is_done {
+            self.remove_if_done(id)?;
+        }
+        Ok(())
+    }
+
+    // Notes that there may be room on a stream.
+    fn note_room(&mut self, id: u64) {
+        if !self.pending.has_room && self.full.contains(&id) {
+            self.pending.has_room = true;
+        }
+    }
+
+    // Tells of the next stream that has room again.
+    pub(super) fn next_writable<'a>(&mut self) -> Step<'a> {
+        for _stream in 0..self.full.len() {
+            let Some(id) = self.next_full() else {
+                break;
+            };
+            self.pending.cursor = id.saturating_add(1);
+            let Some(entry) = self.streams.get_mut(&id) else {
+                continue;
+            };
+            if entry.writing.take_writable() {
+                self.full.remove(&id);
+                return self.tell(id, EventKind::Writable);
+            }
+        }
+        self.pending.has_room = false;
+        self.pending.cursor = 0;
+        Step::More
+    }
+
+    fn next_full(&self) -> Option<u64> {
+        let cursor = self.pending.cursor;
+        self.full.range(cursor..).next().copied()
+    }
+
+    /// The peer has the next `len` of the bytes that QUIC took of a stream. Call it if
+    /// [`keep_until_acked`](crate::config::Config) or [`bound_by_acked`](crate::config::Config) is set.
+    ///
+    /// # Errors
+    ///
+    /// `NotAsked` if QUIC did not take so many. `Memory`: nothing changes, and the call is to be made again. There is
+    /// none if the stream is forgotten.
+    pub fn acked(&mut self, id: u64, len: u64) -> Result<(), Refused> {
+        self.reserve()?;
+        let spares = &mut self.tools.spares;
+        if self.control.is(id) {
+            return Ok(self.control.queue.acked(spares, len)?);
+        }
+        if self.decoder.is(id) {
+            return Ok(self.decoder.queue.acked(spares, len)?);
+        }
+        if self.encoder.is(id) {
+            return Ok(self.encoder.queue.acked(spares, len)?);
+        }
+        let Some(entry) = self.streams.get_mut(&id) else {
+            return Ok(());
+        };
+        entry.writing.acked(spares, len)?;
+        self.note_room(id);
+        Ok(self.remove_if_done(id)?)
+    }
+
+    /// QUIC takes nothing of this for now, or does again.
+    ///
+    /// # Errors
+    ///
+    /// `Memory`: nothing changes, and the call is to be made again.
+    pub fn set_blocked(&mut self, scope: Scope, blocked: bool) -> Result<(), Refused>
+        ensures ok { OnOk result (view_of self.new ≡ blocked_at scope self.old blocked) }
+        ensures err { IfErr result (λ e. e ≡ refused.Memory) }
+        ensures kept { OnErr result (IsStill self.old self.new) }
+    {
+        match scope {
+            Scope::Kind(kind) => {
+                self.ids.block(kind, blocked);
+                Ok(())
+            }
+            Scope::Stream(id) => self.block_stream(id, blocked),
+        }
+    }
+
+    // QUIC takes nothing of a stream for now, or does again.
+    #[tactic(auto, using(std::proofs::lemmas::Map::Steps::set_value_same))]
+    fn block_stream(&mut self, id: u64, blocked: bool) -> Result<(), Refused>
+        ensures ok { OnOk result (view_of self.new ≡ blocked_in self.old id blocked) }
+        ensures err { IfErr result (λ e. e ≡ refused.Memory) }
+        ensures kept { OnErr result (IsStill self.old self.new) }
+    {
+        if self.control.is(id) {
+            self.control.is_blocked = blocked;
+            return Ok(());
+        }
+        if self.decoder.is(id) {
+            self.decoder.is_blocked = blocked;
+            return Ok(());
+        }
+        if self.encoder.is(id) {
+            self.encoder.is_blocked = blocked;
+            return Ok(());
+        }
+        let Some(entry) = self.streams.get_mut(&id) else {
+            return Ok(());
+        };
+        let kind = entry.kind();
+        if blocked {
+            self.ready.remove(id, kind);
+        } else if entry.is_opened && entry.has_more() {
+            self.ready.insert(id, kind)?;
+        }
+        entry.is_blocked = blocked;
+        Ok(())
+    }
+
+    // Reserves the memory that a call takes for events and outputs.
+    pub(super) fn reserve(&mut self) -> Result<(), Refused>
+        ensures still { IsStill self.old self.new }
+        ensures tools { self.new.tools ≡ self.old.tools }
+        ensures err { IfErr result (λ e. e ≡ refused.Memory) }
+    {
+        match self.reserve_all() {
+            Ok(()) => Ok(()),
+            Err(_) => Err(Refused::Memory),
+        }
+    }
+
+    // Reserves the memory that a step or a call takes.
+    pub(super) fn reserve_all(&mut self) -> Result<(), Stop>
+        ensures still { IsStill self.old self.new }
+        ensures tools { self.new.tools ≡ self.old.tools }
+    {
+        let streams = self.members.len().saturating_add(4);
+        self.events.reserve(streams)?;
+        self.outputs.reserve(streams.saturating_mul(2))?;
+        self.datagrams.opened.reserve(1)?;
+        self.told.reserve(64)?;
+        Ok(())
+    }
+}

@@ -1,0 +1,122 @@
+//! The own streams of QPACK (RFC 9204, sections 4.2 to 4.4).
+ghost use Rattle.std.specs.Prelude.{◌≡◌, OnOk, IfErr};
+ghost use Rattle.vesgrauf.specs.State.{IsStill, Instructs, SaysAll, SaysOrWaits};
+ghost use Rattle.vesgrauf.specs.declared.connection.Stop.TheVariants as stop;
+
+use crate::connection::{Connection, Stop};
+use crate::output::StreamKind;
+use std::alloc::AllocError;
+use wtp_dynamic_encoder::proposal::Policy;
+
+/// No table is used if the peer allows one as large as this: no entry has such an index.
+const LARGEST_TABLE: u64 = 1 << 60;
+
+/// The type of an encoder stream, and of a decoder stream (RFC 9204, section 4.2).
+const ENCODER_TYPE: u8 = 0x02;
+
+const DECODER_TYPE: u8 = 0x03;
+
+impl Connection {
+    // Opens the own decoder stream, if the peer may use a dynamic table.
+    pub(super) fn begin_decoder(&mut self) -> Result<(), AllocError> {
+        if self.config.qpack_max_table_capacity == 0 {
+            return Ok(());
+        }
+        self.told.push(DECODER_TYPE)?;
+        self.decoder.id = self.ids.next(StreamKind::Unidirectional);
+        self.ids.take(StreamKind::Unidirectional);
+        Ok(())
+    }
+
+    // Begins the own dynamic table, if the peer's SETTINGS came and allow one.
+    pub(super) fn begin_table(&mut self) -> Result<(), Stop> {
+        if !self.pending.begins_table {
+            return Ok(());
+        }
+        let peer = self.shared.peer_settings();
+        let capacity = peer
+            .qpack_max_table_capacity
+            .min(u64::from(self.config.encoder_table_capacity));
+        let limit = peer.qpack_max_table_capacity;
+        let is_possible = capacity > 0 && limit < LARGEST_TABLE;
+        if is_possible && self.ids.next(StreamKind::Unidirectional).is_some() {
+            self.tools.instructions.reserve(16)?;
+            self.tools
+                .encoder
+                .set_limits(limit, peer.qpack_blocked_streams);
+            self.tools.instructions.push(ENCODER_TYPE)?;
+            self.tools
+                .encoder
+                .set_capacity(capacity, &mut self.tools.instructions)?;
+            self.encoder.id = self.ids.next(StreamKind::Unidirectional);
+            self.ids.take(StreamKind::Unidirectional);
+        }
+        self.pending.begins_table = false;
+        Ok(())
+    }
+
+    // Queues the instructions that are due on the own streams of QPACK.
+    pub(super) fn queue_instructions(&mut self) -> Result<(), Stop>
+        ensures ok { OnOk result (Instructs SaysAll self.old self.new) }
+        ensures any { Instructs SaysOrWaits self.old self.new }
+        ensures err { IfErr result (λ e. e ≡ stop.Memory) }
+    {
+        if self.decoder.id.is_some() {
+            if self
+                .decoder
+                .push(&mut self.tools.spares, self.told.as_slice())
+                .is_err()
+            {
+                return Err(Stop::Memory);
+            }
+            self.told.clear();
+        }
+        if self.encoder.id.is_some() {
+            if self
+                .encoder
+                .push(&mut self.tools.spares, self.tools.instructions.as_slice())
+                .is_err()
+            {
+                return Err(Stop::Memory);
+            }
+            self.tools.instructions.clear();
+        }
+        Ok(())
+    }
+
+    // Queues the instructions that a section has made due. Without memory they are queued later.
+    pub(super) fn queue_due(&mut self)
+        ensures { Instructs SaysOrWaits self.old self.new }
+    {
+        let _later = self.queue_instructions();
+    }
+
+    // Says which sections may refer to the own dynamic table: none, while its instructions wait (RFC 9204, section
+    // 2.1.3).
+    pub(super) fn choose_policy(&mut self)
+        ensures still { IsStill self.old self.new }
+        ensures policy { self.new.tools.encoder
+            ≡ record self.old.tools.encoder { policy = self.new.tools.encoder.policy } }
+        ensures instructions { self.new.tools.instructions ≡ self.old.tools.instructions }
+    {
+        let mut policy = Policy::new();
+        if !self.encoder.is_free() || !self.tools.instructions.is_empty() {
+            policy.largest = 0;
+            policy.unacknowledged = 0;
+        }
+        self.tools.encoder.set_policy(policy);
+    }
+
+    // Tells the peer's encoder that a stream is left, once (RFC 9204, section 2.2.2.2).
+    pub(super) fn cancel(&mut self, id: u64) -> Result<(), Stop> {
+        let Some(entry) = self.streams.get_mut(&id) else {
+            return Ok(());
+        };
+        if !entry.may_cancel {
+            return Ok(());
+        }
+        self.shared.cancel(id, &mut self.told)?;
+        entry.may_cancel = false;
+        Ok(())
+    }
+}

@@ -1,0 +1,192 @@
+//! One stream of a connection.
+use crate::refused::{NotSent, Refused};
+use vesgrauf_queue::spares::Spares;
+use vesgrauf_ready::rank::{Kind, Priority};
+use vesgrauf_stream::reading::Reading;
+use vesgrauf_stream::writing::Writing;
+
+/// The priority of a stream of a session, and of its own stream: they share the bandwidth (RFC 9218, section 11).
+pub(crate) const SHARED: Priority = Priority {
+    urgency: 3,
+    incremental: true,
+};
+
+/// What is done with the peer's half of a stream.
+#[derive(Clone, Copy, Debug, PartialEq, Eq)]
+pub(crate) enum Peer {
+    /// It is read.
+    Reads,
+    /// What comes is dropped, until its end.
+    Drops,
+    /// It is over, or there is none.
+    Over,
+}
+
+/// One stream of a connection.
+#[derive(Drop)]
+pub(crate) struct Entry {
+    /// The peer's half.
+    pub(crate) reading: Reading,
+    /// What is done with it.
+    pub(crate) peer: Peer,
+    /// The own half.
+    pub(crate) writing: Writing,
+    /// The session that it is joined with.
+    pub(crate) session: Option<u64>,
+    /// The number that the program gave it.
+    pub(crate) user: Option<u64>,
+    /// Its priority.
+    pub(crate) priority: Priority,
+    /// Whether the program knows of it, and was not told that it is over.
+    pub(crate) is_told: bool,
+    /// Whether QUIC has opened it.
+    pub(crate) is_opened: bool,
+    /// Whether QUIC takes nothing of it.
+    pub(crate) is_blocked: bool,
+    /// Whether the program wants no events of it.
+    pub(crate) is_paused: bool,
+    /// Whether it has a request without an answer that its client did not give up.
+    pub(crate) is_awaited: bool,
+    /// Whether the peer's encoder is to be told if the stream is left (RFC 9204, section 2.2.2.2).
+    pub(crate) may_cancel: bool,
+    /// Whether it is the own stream of a session.
+    pub(crate) is_session: bool,
+    /// Whether its session counts: it is to come, or open.
+    pub(crate) has_session: bool,
+    /// Whether the end of the peer's half came.
+    pub(crate) is_ended: bool,
+    /// Whether the message asks for a tunnel other than a session.
+    pub(crate) has_tunnel: bool,
+    /// Whether the peer keeps it for the connection: the control stream, those of QPACK, and those that are ignored.
+    pub(crate) is_quiet: bool,
+    /// How many of the bytes that are kept QUIC's windows were not extended by.
+    pub(crate) withheld: usize,
+    /// What the peer is asked to stop it with, once QUIC has opened it.
+    pub(crate) stops: Option<u64>,
+}
+
+impl Entry {
+    ghost use Rattle.std.specs.Prelude.{◌≡◌, ◌&&◌, ◌↔◌, not, if◌then◌else◌, Some, IsTrue, IfOk, IfErr, length};
+    ghost use Rattle.vesgrauf_stream.specs.Writing.{Sends};
+    ghost use Rattle.vesgrauf.specs.State.{OwnHalf, RefusesBytes, StaysOf};
+    ghost use Rattle.vesgrauf_queue.specs.State.{IsIdle};
+    ghost use Rattle.vesgrauf.specs.Streams.{new_entry, kind_of_entry, may_send as may_send_is, is_done as is_done_is, shown_session};
+
+    // Creates the entry of a stream of which nothing came.
+    pub(crate) fn new(reading: Reading, peer: Peer, writing: Writing) -> Self
+        ensures { result ≡ new_entry reading peer writing }
+    {
+        Entry {
+            reading,
+            peer,
+            writing,
+            session: None,
+            user: None,
+            priority: Priority::DEFAULT,
+            is_told: false,
+            is_opened: true,
+            is_blocked: false,
+            is_paused: false,
+            is_awaited: false,
+            may_cancel: false,
+            is_session: false,
+            has_session: false,
+            is_ended: false,
+            has_tunnel: false,
+            is_quiet: false,
+            withheld: 0,
+            stops: None,
+        }
+    }
+
+    // Returns its place in the order of sending.
+    pub(crate) fn kind(&self) -> Kind
+        ensures { result ≡ kind_of_entry self.now }
+    {
+        Kind::Message(self.priority)
+    }
+
+    // Returns whether QUIC may take bytes of it.
+    pub(crate) fn may_send(&self) -> bool
+        ensures { result ≡ may_send_is self.now }
+    {
+        self.is_opened && !self.is_blocked
+    }
+
+    // Returns whether QUIC is to take bytes of it, or its end.
+    pub(crate) fn has_more(&self) -> bool
+        ensures { IsTrue result ↔ ¬ (IsIdle self.now.writing.queue) }
+    {
+        self.writing.next().is_some()
+    }
+
+    // Returns whether both halves are over, and QUIC took what was queued.
+    pub(crate) fn is_done(&self) -> bool
+        ensures { result ≡ is_done_is self.now }
+    {
+        self.peer == Peer::Over && self.is_opened && self.writing.is_done()
+    }
+
+    // Queues content, or bytes of a stream of a session, unless the stream is full.
+    pub(crate) fn send(
+        &mut self,
+        spares: &mut Spares,
+        bytes: &[u8],
+        fin: bool,
+    ) -> Result<bool, Refused>
+        ensures ok { IfOk result (λ room. OwnHalf (Sends bytes.now fin room) self.old self.new) }
+        ensures why { IfErr result (λ e. RefusesBytes (length bytes.now) fin self.old.writing e) }
+        ensures kept { IfErr result (λ e. StaysOf e self.old self.new) }
+    {
+        if !self.writing.admits() {
+            return Err(Refused::Full);
+        }
+        Ok(self.writing.send(spares, bytes, fin)?)
+    }
+
+    // Queues bytes as `send` does, without a copy if there are many, or gives them back.
+    pub(crate) fn send_owned(
+        &mut self,
+        spares: &mut Spares,
+        bytes: Vec<u8>,
+        fin: bool,
+    ) -> Result<bool, NotSent>
+        ensures ok { IfOk result (λ room. OwnHalf (Sends bytes.items fin room) self.old self.new) }
+        ensures why { IfErr result (λ e. RefusesBytes (length bytes.items) fin self.old.writing e.why) }
+        ensures kept { IfErr result (λ e. StaysOf e.why self.old self.new) }
+        ensures bytes { IfErr result (λ e. e.bytes ≡ bytes) }
+    {
+        if !self.writing.admits() {
+            return Err(NotSent {
+                why: Refused::Full,
+                bytes,
+            });
+        }
+        match self.writing.send_owned(spares, bytes, fin) {
+            Ok(room) => Ok(room),
+            Err(refused) => Err(NotSent {
+                why: Refused::from(refused.why),
+                bytes: refused.bytes,
+            }),
+        }
+    }
+
+    // Returns the session of the stream with this ID, as events show it.
+    pub(crate) fn session_shown(&self, id: u64) -> Option<u64>
+        ensures { result ≡ shown_session id self.now }
+    {
+        if self.is_session {
+            return Some(id);
+        }
+        self.session
+    }
+}
+
+/// A stream of a session.
+#[derive(Clone, Copy, PartialEq, Eq, PartialOrd, Ord)]
+pub(crate) struct Member {
+    /// The session.
+    pub(crate) session: u64,
+    /// The stream.
+    pub(crate) id: u64,
+}

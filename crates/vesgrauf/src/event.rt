@@ -1,0 +1,108 @@
+//! What happened.
+use crate::output::StreamKind;
+use vesgrauf_stream::bytes::Bytes as Piece;
+pub use vesgrauf_stream::bytes::Bytes;
+use wtp_connection::settings::PeerSettings;
+use wtp_fields::fields::FieldList;
+use wtp_messages::malformed::Malformed;
+use wtp_webtransport::close::Close;
+use wtp_webtransport::fault::Fault;
+
+/// What happened. It borrows from the input alone, so that it may be answered while it is handled.
+#[derive(Drop)]
+pub struct Event<'a> {
+    /// The stream, or 0 for an event of the connection.
+    pub stream: u64,
+    /// The session that the stream belongs to, or whose own stream it is.
+    pub session: Option<u64>,
+    /// The number that the program gave the stream, if it gave one.
+    pub user: Option<u64>,
+    /// What happened.
+    pub kind: EventKind<'a>,
+}
+
+/// What a CONNECT request asks for.
+#[derive(Clone, Copy, Debug, PartialEq, Eq)]
+pub enum Tunnel {
+    /// A session of WebTransport.
+    Session,
+    /// Anything else. This library has no use for it: answer with status 501.
+    Other,
+}
+
+/// What happened.
+#[derive(Drop)]
+pub enum EventKind<'a> {
+    /// SETTINGS of the peer came.
+    Ready(PeerSettings),
+    /// GOAWAY of the peer came, with this ID (RFC 9114, section 5.2).
+    GoAway(u64),
+    /// After [`shutdown`](crate::connection::Connection::shutdown): nothing is left. The connection closes with
+    /// H3_NO_ERROR.
+    Idle,
+    /// The connection is closed, with this code, by the peer or here. It is the last event.
+    ConnectionClosed(u64, bool),
+    /// At a server, a request.
+    Request(FieldList),
+    /// At a server, a CONNECT request, for this.
+    Connect(Tunnel, FieldList),
+    /// At a client, an interim response, with its status.
+    Interim(u32, FieldList),
+    /// At a client, the final response, with its status. With 2xx to a CONNECT request, its session is open.
+    Response(u32, FieldList),
+    /// A piece of content, or of a stream of a session, of at least one byte.
+    Data(Piece<'a>),
+    /// The trailers of the message.
+    Trailers(FieldList),
+    /// The peer's half ended.
+    End,
+    /// The peer opened a stream of an open session, of this kind.
+    NewStream(StreamKind),
+    /// A datagram of a session.
+    Datagram(Piece<'a>),
+    /// The peer asks to end the session soon.
+    Draining,
+    /// The peer reset the stream, with this code: the application's, on a stream of a session.
+    Reset(u64),
+    /// The peer asked to stop the own half, with this code. It is reset.
+    Stopped(u64),
+    /// There is room again on the stream.
+    Writable,
+    /// There is room again for datagrams.
+    DatagramsWritable,
+    /// The stream is over. It is the last event of the stream: each that the program was told of, or opened, has one.
+    Closed(Why),
+}
+
+/// Why a stream is over.
+#[derive(Drop)]
+pub enum Why {
+    /// Both halves ended, or were ended by calls, and QUIC took what was queued.
+    Done,
+    /// The peer closed the session of this stream, with a code and a reason.
+    Session(Close),
+    /// The session is over, of which this stream was one; or it was the session's own stream, and was lost.
+    SessionGone,
+    /// The message is malformed, by this rule.
+    Malformed(Malformed),
+    /// A field section is larger than the limits.
+    TooLarge,
+    /// The peer violated a rule.
+    Fault(Fault),
+    /// The server does not process the request: send it again on another connection (RFC 9114, section 5.2).
+    Unprocessed,
+    /// The connection is closed.
+    ConnectionClosed,
+}
+
+impl<'a> Event<'a> {
+    // Creates an event of the connection.
+    pub(crate) fn of_connection(kind: EventKind<'a>) -> Self {
+        Event {
+            stream: 0,
+            session: None,
+            user: None,
+            kind,
+        }
+    }
+}

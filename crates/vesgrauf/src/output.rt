@@ -1,0 +1,92 @@
+//! What QUIC is to do.
+
+/// What QUIC is to do.
+#[derive(Clone, Copy, Debug, PartialEq, Eq)]
+pub enum Output {
+    /// Open the next own stream of its kind, which has this ID. Answer with
+    /// [`opened`](crate::connection::Connection::opened), or, if QUIC may open no more, with
+    /// [`set_blocked`](crate::connection::Connection::set_blocked).
+    Open {
+        /// The ID of the stream.
+        id: u64,
+        /// Its kind.
+        kind: StreamKind,
+    },
+    /// Reset a stream, with this code. Bytes that QUIC took and has not sent may be dropped.
+    Reset(u64, u64),
+    /// Ask the peer to stop a stream, with this code.
+    StopSending(u64, u64),
+    /// Extend QUIC's windows of a stream and of the connection by so many bytes, which had waited.
+    Credit(u64, usize),
+    /// Close the connection, with this code.
+    Close(u64),
+}
+
+/// A kind of streams (RFC 9000, section 2.1).
+#[derive(Clone, Copy, Debug, PartialEq, Eq)]
+pub enum StreamKind {
+    /// Both ends send.
+    Bidirectional,
+    /// The end that opens it sends.
+    Unidirectional,
+}
+
+impl StreamKind {
+    ghost use Rattle.std.specs.Prelude.{◌≡◌};
+    ghost use Rattle.vesgrauf.specs.Ids.{kind_of};
+
+    /// Returns the kind of the stream with this ID.
+    pub fn of(id: u64) -> Self
+        ensures { result ≡ kind_of id }
+    {
+        if id % 4 < 2 {
+            StreamKind::Bidirectional
+        } else {
+            StreamKind::Unidirectional
+        }
+    }
+}
+
+/// What QUIC takes nothing of.
+#[derive(Clone, Copy, Debug, PartialEq, Eq)]
+pub enum Scope {
+    /// A stream.
+    Stream(u64),
+    /// Streams of a kind that are to be opened.
+    Kind(StreamKind),
+}
+
+/// Bytes that QUIC is to send.
+#[derive(Drop)]
+pub struct Next<'a> {
+    /// The stream.
+    pub id: u64,
+    /// The bytes.
+    pub bytes: &'a [u8],
+    /// The bytes that follow them.
+    pub more: &'a [u8],
+    /// Whether the stream ends after these.
+    pub fin: bool,
+}
+
+/// How a connection is shut down (RFC 9114, section 5.2).
+#[derive(Clone, Copy, Debug, PartialEq, Eq)]
+pub enum Shutdown {
+    /// The peer is told to send no new requests. Those that come are still processed.
+    Notice,
+    /// Requests that come from now on are rejected.
+    Final,
+}
+
+/// How much there is of what is bounded.
+#[derive(Clone, Copy, Debug, PartialEq, Eq)]
+pub struct Stats {
+    /// How many streams there are, but for the own critical ones.
+    pub streams: usize,
+    /// How many sessions there are, or may come to be.
+    pub sessions: u32,
+    /// How many bytes of streams that are not paused wait until they can be read.
+    pub held: usize,
+    /// How many datagrams are queued.
+    pub datagrams: usize,
+}
