@@ -1,226 +1,203 @@
-//! A client: two requests, three sessions and a tunnel at once.
+//! A client: it asks for what the server knows, and for what it does not.
+use anyhow::Result;
 use std::alloc::Global;
 use std::collections::BTreeMap;
-use wt_ends::end::{Application, Link};
-use wtp_core::error::Code;
-use wtp_fields::fields::FieldList;
-use wtp_fields::session::UrlParseError;
-use wtp_streams::error::Error;
-use wtp_webtransport::event::{Event, HeadersKind};
+use test_network::handler::Handler;
+use vesgrauf::FieldList;
+use vesgrauf::connection::Connection;
+use vesgrauf::event::{Event, EventKind};
+use vesgrauf::output::{Shutdown, StreamKind};
 
-/// How many bytes the content of each request has.
-pub const CONTENT: usize = 20_000;
+/// A stream, and what came on it.
+#[derive(Drop)]
+struct Stream {
+    name: &'static str,
+    bytes: Vec<u8>,
+}
 
-/// A client, and what came back.
+/// A client that leaves once all of its streams are over.
 #[derive(Drop)]
 pub struct Client {
     alloc: Global,
-    /// What is to be printed.
-    pub log: Vec<String>,
-    /// How many bytes of content came on each stream of a message.
-    content: BTreeMap<u64, usize>,
-    /// The text of each stream of a session.
-    texts: BTreeMap<u64, Vec<u8>>,
-    /// The sessions of the streams.
-    sessions: BTreeMap<u64, u64>,
-    /// How many streams and datagrams are still to come in each session, until it is closed.
-    left: BTreeMap<u64, u32>,
+    /// What came.
+    pub lines: Vec<String>,
+    streams: BTreeMap<u64, Stream>,
+    /// The stream of the content, and how many thousands of bytes are left of it.
+    upload: u64,
+    left: u32,
+    /// How many streams and datagrams of the session are to come back.
+    echoes: u32,
+}
+
+impl Handler for Client {
+    fn event(&mut self, _peer: usize, on: &mut Connection, event: Event<'_>) -> Result<()> {
+        let id = event.stream;
+        match event.kind {
+            EventKind::Ready(_) => self.begin(on),
+            EventKind::Response(status, _) => self.answered(on, id, status),
+            EventKind::NewStream(_) => self.begin_stream(id, "a stream back"),
+            EventKind::Data(bytes) => self.keep(id, bytes.as_slice()),
+            EventKind::End => self.ended(on, id, event.session),
+            EventKind::Datagram(bytes) => {
+                self.note("a datagram back", text(bytes.as_slice()))?;
+                self.came(on, id)
+            }
+            EventKind::Writable if id == self.upload => self.send_content(on),
+            EventKind::Closed(_) => self.closed(on, id),
+            EventKind::Idle => self.note("the connection", "idle"),
+            _ => Ok(()),
+        }
+    }
 }
 
 impl Client {
-    /// Creates a client that sent nothing.
+    /// Creates a client that asked for nothing.
     pub fn new(alloc: Global) -> Self {
         Client {
             alloc,
-            log: Vec::new(alloc),
-            content: BTreeMap::new(alloc),
-            texts: BTreeMap::new(alloc),
-            sessions: BTreeMap::new(alloc),
-            left: BTreeMap::new(alloc),
+            lines: Vec::new(alloc),
+            streams: BTreeMap::new(alloc),
+            upload: 0,
+            left: 100,
+            echoes: 3,
         }
     }
 
-    /// Sends requests and asks for sessions and a tunnel, once the server allows them.
-    fn begin(&mut self, link: &mut Link) -> Result<(), Error> {
-        for path in ["/first", "/second"] {
-            self.upload(link, path)?;
-        }
-        for url in [
-            "https://example.com/chat",
-            "https://example.com/none",
-            "https://example.com/chat",
-        ] {
-            let id = link.outgoing.open_bidirectional();
-            let list = session_request(link.alloc, url)?;
-            link.connection
-                .request(id, &list, link.outgoing.stream(id)?)?;
-        }
-        self.ask_for_tunnel(link)
+    /// Asks, once SETTINGS of the server came.
+    fn begin(&mut self, on: &mut Connection) -> Result<()> {
+        self.upload = self.ask(on, "POST /echo", &[b"POST", b"/echo"], false)?;
+        self.ask(on, "GET /", &[b"GET", b"/"], true)?;
+        self.ask(on, "GET /none", &[b"GET", b"/none"], true)?;
+        let unread = self.ask(on, "POST /none", &[b"POST", b"/none"], false)?;
+        on.send(unread, &[0x62; 3000], true)?;
+        self.ask(
+            on,
+            "session",
+            &[b"CONNECT", b"/echo", b"webtransport"],
+            false,
+        )?;
+        self.ask(
+            on,
+            "session at /none",
+            &[b"CONNECT", b"/none", b"webtransport"],
+            false,
+        )?;
+        self.ask(on, "tunnel", &[b"CONNECT", b"/echo", b"websocket"], false)?;
+        self.send_content(on)
     }
 
-    /// Asks for a tunnel by a protocol that the server does not know (RFC 9220, section 3).
-    fn ask_for_tunnel(&mut self, link: &mut Link) -> Result<(), Error> {
-        let id = link.outgoing.open_bidirectional();
-        let list = tunnel_request(link.alloc)?;
-        link.connection
-            .request(id, &list, link.outgoing.stream(id)?)?;
+    /// Sends a request with these values of its fields.
+    fn ask(
+        &mut self,
+        on: &mut Connection,
+        name: &'static str,
+        values: &[&[u8]],
+        fin: bool,
+    ) -> Result<u64> {
+        let mut list = FieldList::from_fields(
+            self.alloc,
+            &[(b":scheme", b"https"), (b":authority", b"example.com")],
+        )?;
+        let names: [&[u8]; 3] = [b":method", b":path", b":protocol"];
+        for (name, value) in names.iter().zip(values) {
+            list.append(name, value)?;
+        }
+        let id = on.request(&list, fin)?;
+        self.begin_stream(id, name)?;
+        Ok(id)
+    }
+
+    /// Sends content, until there is no room.
+    fn send_content(&mut self, on: &mut Connection) -> Result<()> {
+        for _piece in 0..self.left {
+            self.left = self.left.saturating_sub(1);
+            if !on.send(self.upload, &[0x61; 1000], self.left == 0)? {
+                break;
+            }
+        }
         Ok(())
     }
 
-    /// Sends a request with content, in DATA frames of 1,000 bytes.
-    fn upload(&mut self, link: &mut Link, path: &str) -> Result<(), Error> {
-        let id = link.outgoing.open_bidirectional();
-        let list = request(link.alloc, path)?;
-        link.connection
-            .request(id, &list, link.outgoing.stream(id)?)?;
-        for _piece in 0..CONTENT / 1000 {
-            link.send_content(id, &[0x61; 1000])?;
+    /// Notes a response, and uses the session that it opens.
+    fn answered(&mut self, on: &mut Connection, id: u64, status: u32) -> Result<()> {
+        let name = self.name(id);
+        let line = format!(in self.alloc; "{name}: status {status}")?;
+        self.lines.push(line)?;
+        if name != "session" {
+            return Ok(());
         }
-        link.end(id)
-    }
-
-    /// Uses a session: streams of both kinds, and a datagram.
-    fn use_session(&mut self, link: &mut Link, id: u64) -> Result<(), Error> {
-        self.note(format!(in link.alloc; "session {id} is open")?)?;
-        let question = link.open_stream(id, true, b"a question of the client")?;
-        link.open_stream(id, false, b"news of the client")?;
-        self.sessions.insert(question, id)?;
-        // Two streams of the server, one that comes back, and a datagram.
-        self.left.insert(id, 4)?;
-        link.send_datagram(id, b"a datagram of the client")
-    }
-
-    /// Keeps a line.
-    fn note(&mut self, line: String) -> Result<(), Error> {
-        self.log.push(line)?;
+        let both = on.open_stream(id, StreamKind::Bidirectional)?;
+        self.begin_stream(both, "a stream in both directions")?;
+        on.send(both, b"there and back", true)?;
+        let one = on.open_stream(id, StreamKind::Unidirectional)?;
+        self.begin_stream(one, "a stream in one direction")?;
+        on.send(one, b"there, and back on another", true)?;
+        on.send_datagram(id, b"a datagram")?;
         Ok(())
     }
 
-    /// Notes that the server refused a session.
-    fn rejected(&mut self, link: &mut Link, id: u64, status: u32) -> Result<(), Error> {
-        self.note(format!(in link.alloc; "session {id} is refused with status {status}")?)?;
-        link.end(id)
-    }
-
-    /// Notes the response to a request.
-    fn responded(&mut self, link: &mut Link, id: u64, status: u32) -> Result<(), Error> {
-        self.note(format!(in link.alloc; "request {id}: status {status}")?)
-    }
-
-    /// Counts content of a message.
-    fn count(&mut self, id: u64, len: usize) -> Result<(), Error> {
-        let count = self.content.entry(id)?.or_insert(0);
-        *count = count.saturating_add(len);
-        Ok(())
-    }
-
-    /// Keeps bytes of a stream of a session.
-    fn keep(&mut self, id: u64, bytes: &[u8]) -> Result<(), Error> {
-        let alloc = self.alloc;
-        let text = self.texts.entry(id)?.or_insert(Vec::new(alloc));
-        text.extend_from_slice(bytes)?;
+    /// Counts a stream or a datagram of the session, which is closed after the last one.
+    fn came(&mut self, on: &mut Connection, session: u64) -> Result<()> {
+        self.echoes = self.echoes.saturating_sub(1);
+        if self.echoes == 0 {
+            on.close_session(session, 7, "bye")?;
+        }
         Ok(())
     }
 
     /// Notes the end of a stream.
-    fn end(&mut self, link: &mut Link, id: u64) -> Result<(), Error> {
-        link.finish(id)?;
-        if let Some(count) = self.content.remove(&id) {
-            return self.note(format!(in link.alloc; "request {id}: {count} bytes came back")?);
+    fn ended(&mut self, on: &mut Connection, id: u64, session: Option<u64>) -> Result<()> {
+        if let Some(stream) = self.streams.get(&id) {
+            let (name, bytes) = (stream.name, stream.bytes.as_slice());
+            let line = if bytes.len() < 100 {
+                format!(in self.alloc; "{name}: {}, and its end", text(bytes))?
+            } else {
+                format!(in self.alloc; "{name}: {} bytes, and its end", bytes.len())?
+            };
+            self.lines.push(line)?;
         }
-        let Some(text) = self.texts.remove(&id) else {
-            return Ok(());
-        };
-        let text = str::from_utf8(text.as_slice()).unwrap_or("no text");
-        self.note(format!(in link.alloc; "stream {id}: {text}")?)?;
-        match self.sessions.remove(&id) {
-            Some(session) => self.came(link, session),
-            None => Ok(()),
-        }
-    }
-
-    /// Counts a stream or a datagram of a session, which is closed after the last one.
-    fn came(&mut self, link: &mut Link, session: u64) -> Result<(), Error> {
-        let Some(left) = self.left.get_mut(&session) else {
-            return Ok(());
-        };
-        *left = left.saturating_sub(1);
-        if *left > 0 {
-            return Ok(());
-        }
-        link.close_session(session, 7, "bye")
-    }
-
-    /// Keeps the session of a stream.
-    fn joined(&mut self, id: u64, session: u64) -> Result<(), Error> {
-        self.sessions.insert(id, session)?;
-        Ok(())
-    }
-}
-
-impl Application for Client {
-    fn handle(&mut self, link: &mut Link, id: u64, event: Event<'_>) -> Result<(), Error> {
-        match event {
-            Event::Settings(_, _) => self.begin(link),
-            Event::SessionReady(_, _) => self.use_session(link, id),
-            Event::Rejected(status, _) => self.rejected(link, id, status),
-            Event::Headers(HeadersKind::Response(status), _) => self.responded(link, id, status),
-            Event::Data(bytes) => self.count(id, bytes.len()),
-            Event::Joined(session) => self.joined(id, session),
-            Event::StreamData(bytes) => self.keep(id, bytes),
-            Event::End => self.end(link, id),
-            Event::SessionLost | Event::Reset(_) => link.close(id, Code::H3_NO_ERROR),
-            Event::StreamError(fault) => link.close(id, fault.code()),
-            Event::Malformed(_) => link.close(id, Code::H3_MESSAGE_ERROR),
-            Event::ConnectionError(fault) => Err(fault.into()),
-            Event::NoMemory => Err(Error::Memory),
+        match session {
+            Some(session) if session != id => self.came(on, session),
             _ => Ok(()),
         }
     }
 
-    fn datagram(&mut self, link: &mut Link, session: u64, payload: &[u8]) -> Result<(), Error> {
-        let text = str::from_utf8(payload).unwrap_or("no text");
-        self.note(format!(in link.alloc; "session {session}: {text}")?)?;
-        self.came(link, session)
+    /// Forgets a stream that is closed. After the last one the client leaves.
+    fn closed(&mut self, on: &mut Connection, id: u64) -> Result<()> {
+        self.streams.remove(&id);
+        if self.streams.is_empty() {
+            on.shutdown(Shutdown::Final)?;
+        }
+        Ok(())
+    }
+
+    fn begin_stream(&mut self, id: u64, name: &'static str) -> Result<()> {
+        let bytes = Vec::new(self.alloc);
+        self.streams.insert(id, Stream { name, bytes })?;
+        Ok(())
+    }
+
+    fn keep(&mut self, id: u64, bytes: &[u8]) -> Result<()> {
+        if let Some(stream) = self.streams.get_mut(&id) {
+            stream.bytes.extend_from_slice(bytes)?;
+        }
+        Ok(())
+    }
+
+    fn name(&self, id: u64) -> &'static str {
+        match self.streams.get(&id) {
+            Some(stream) => stream.name,
+            None => "an unknown stream",
+        }
+    }
+
+    fn note(&mut self, name: &str, text: &str) -> Result<()> {
+        let line = format!(in self.alloc; "{name}: {text}")?;
+        self.lines.push(line)?;
+        Ok(())
     }
 }
 
-/// Returns the fields of a request for a session.
-fn session_request(alloc: Global, url: &str) -> Result<FieldList, Error> {
-    match FieldList::request(alloc, url) {
-        Ok(list) => Ok(list),
-        Err(UrlParseError::Memory) => Err(Error::Memory),
-        Err(_) => Err(Error::Stream(Code::H3_INTERNAL_ERROR)),
-    }
-}
-
-/// Returns the fields of a request for a tunnel of WebSockets.
-fn tunnel_request(alloc: Global) -> Result<FieldList, Error> {
-    let list = FieldList::from_fields(
-        alloc,
-        &[
-            (b":method", b"CONNECT"),
-            (b":scheme", b"https"),
-            (b":authority", b"example.com"),
-            (b":path", b"/chat"),
-            (b":protocol", b"websocket"),
-        ],
-    )?;
-    Ok(list)
-}
-
-/// Returns the fields of a request with content.
-fn request(alloc: Global, path: &str) -> Result<FieldList, Error> {
-    let mut list = FieldList::from_fields(
-        alloc,
-        &[
-            (b":method", b"POST"),
-            (b":scheme", b"https"),
-            (b":authority", b"example.com"),
-        ],
-    )?;
-    list.append(b":path", path.as_bytes())?;
-    let length = format!(in alloc; "{CONTENT}")?;
-    list.push(b"content-length", length.as_bytes())?;
-    Ok(list)
+fn text(bytes: &[u8]) -> &str {
+    str::from_utf8(bytes).unwrap_or("no text")
 }

@@ -1,5 +1,4 @@
-//! Both ends of a connection of HTTP/3 with sessions of WebTransport, in memory: a client and a server, whose
-//! streams are cut into pieces that come in any order.
+//! A server and a client of HTTP/3 with sessions of WebTransport, over a network in memory.
 #![tactic(auto)]
 
 mod client;
@@ -11,27 +10,22 @@ use anyhow::{Result, bail};
 use std::alloc::Global;
 use std::env::{self, Env};
 use std::{io, mem};
-use wt_ends::end::{End, run};
-use wt_ends::network::Network;
-use wtp_frames::endpoint::Side;
-
-/// The largest piece of a stream that comes at once, in bytes.
-const PIECE: usize = 900;
+use test_network::conditions::Conditions;
+use test_network::network::Network;
 
 fn main(rt: HostRuntime) -> Result<()> {
     let alloc = rt.alloc();
-    let words = arguments(&rt)?;
-    let schedules = schedules(words.as_slice())?;
-    let first = log_of(alloc, 1)?;
-    for line in &first {
+    let runs = runs(arguments(&rt)?.as_slice())?;
+    let lines = run(alloc, Conditions::ideal(), 0)?;
+    for line in &lines {
         println!(rt; "{line}")?;
     }
-    for seed in 2..=schedules {
-        if log_of(alloc, seed)? != first {
-            bail!("schedule {seed} has other events");
+    for seed in 1..runs {
+        if run(alloc, Conditions::harsh(), seed)? != lines {
+            bail!("other events with seed {seed}");
         }
     }
-    println!(rt; "schedules with these events: {schedules}")?;
+    println!(rt; "the same events in {runs} runs")?;
     Ok(())
 }
 
@@ -41,22 +35,23 @@ fn arguments<R: Env + AllocGlobal>(rt: &R) -> io::Result<Vec<String>> {
     Ok(arguments)
 }
 
-/// Returns how many schedules are to be run: the number in the first argument, or 1.
-fn schedules(arguments: &[String]) -> Result<u64> {
+/// Returns how many runs are asked for: the number in the first argument, or 1.
+fn runs(arguments: &[String]) -> Result<u64> {
     match arguments.first() {
         Some(text) => Ok(text.parse::<u64>()?),
         None => Ok(1),
     }
 }
 
-/// Returns what a client notes when its connection is cut by this seed, in the order of the lines.
-fn log_of(alloc: Global, seed: u64) -> Result<Vec<String>> {
-    let mut client = End::new(alloc, Side::Client, Client::new(alloc))?;
-    let mut server = End::new(alloc, Side::Server, Server)?;
-    if !run(&mut client, &mut server, &mut Network::new(seed, PIECE))? {
-        bail!("the connection does not end");
-    }
-    let mut log = mem::replace(&mut client.app.log, Vec::new(alloc));
-    log.sort()?;
-    Ok(log)
+/// Connects a client to a server, and returns what the client notes, in the order of the lines.
+fn run(alloc: Global, conditions: Conditions, seed: u64) -> Result<Vec<String>> {
+    let mut network = Network::new(alloc, conditions, seed, Server { alloc });
+    let peer = network.connect(Client::new(alloc))?;
+    network.run_until_quiet()?;
+    let Some(client) = network.client(peer) else {
+        bail!("there is no client");
+    };
+    let mut lines = mem::replace(&mut client.lines, Vec::new(alloc));
+    lines.sort()?;
+    Ok(lines)
 }

@@ -1,178 +1,260 @@
-//! An end of a schedule: it does what its seed chooses, and keeps a journal.
-use crate::journal::{Datagram, Journal, Left};
-use crate::plan::{Job, Room, Scale};
+//! An end: it does what its seed chooses, and keeps a journal.
+use crate::journal::{Journal, Over};
+use anyhow::{Result, bail};
 use std::alloc::Global;
-use std::collections::{BTreeMap, VecDeque};
-use wt_ends::end::{Application, Link};
-use wt_ends::network::Random;
-use wt_ends::quic::Happened;
-use wtp_connection::stream::Purpose;
-use wtp_core::error::Code;
-use wtp_core::varint::first_varint;
-use wtp_streams::error::Error;
-use wtp_webtransport::event::{Event, Waits};
+use std::collections::{BTreeSet, VecDeque};
+use std::mem;
+use test_network::handler::Handler;
+use test_network::random::Random;
+use vesgrauf::connection::Connection;
+use vesgrauf::event::{Event, EventKind, Tunnel, Why};
+use vesgrauf::output::StreamKind;
 
-/// What one end does, and its journal.
+/// What is to be said on a stream.
+#[derive(Clone, Copy, Debug, PartialEq, Eq)]
+pub struct Job {
+    pub id: u64,
+    /// How many bytes are left.
+    pub left: u64,
+    /// Whether it ends after them, or is reset.
+    pub ends: bool,
+    /// Whether there is no room for now.
+    pub is_full: bool,
+}
+
+/// An end.
 #[derive(Drop)]
 pub struct Actor {
     pub alloc: Global,
+    pub is_client: bool,
     pub random: Random,
-    pub scale: Scale,
     pub journal: Journal,
-    /// What is to be sent on streams.
     pub jobs: VecDeque<Job>,
-    /// What is to be done in open sessions.
-    pub rooms: VecDeque<Room>,
-    /// After how many bytes a stream is stopped.
-    pub stops: BTreeMap<u64, usize>,
-    /// How many requests, sessions and GOAWAY frames are to be sent.
+    /// The sessions that are open.
+    pub sessions: BTreeSet<u64>,
+    /// The streams that are paused.
+    pub paused: BTreeSet<u64>,
+    /// How many requests, streams of sessions and datagrams are still to be made.
     pub requests: usize,
-    pub sessions: usize,
-    pub goaways: usize,
-    /// The sessions that a client asked for.
-    pub asked: BTreeMap<u64, bool>,
-    /// Whether the settings of the other end came.
-    pub is_settled: bool,
-    /// The ID after that of the last request that goes on, and that in the own GOAWAY.
-    pub next_request: u64,
-    pub goaway: Option<u64>,
-    /// The code that was reported last, and whether it was that of a reset.
-    pub code: Code,
-    pub is_reset: bool,
+    pub streams: usize,
+    pub datagrams: usize,
+    /// The number of the next datagram.
+    pub number: u64,
+    pub is_ready: bool,
+    /// Whether it shuts down, and has begun to.
+    pub leaves: bool,
+    pub is_leaving: bool,
+    /// Whether nothing was left, and whether the connection is over.
+    pub is_idle: bool,
+    pub is_over: bool,
+}
+
+impl Handler for Actor {
+    fn event(&mut self, _peer: usize, on: &mut Connection, event: Event<'_>) -> Result<()> {
+        if self.is_over {
+            bail!("an event after the last one");
+        }
+        let Event {
+            stream,
+            session,
+            kind,
+            ..
+        } = event;
+        match kind {
+            EventKind::Ready(_) => self.hear_ready(),
+            EventKind::Request(_) => self.hear_request(on, stream),
+            EventKind::Connect(Tunnel::Session, _) => self.hear_session(on, stream),
+            EventKind::Connect(Tunnel::Other, _) => bail!("a tunnel that was not asked for"),
+            EventKind::Response(status, _) => self.hear_response(stream, session, status),
+            EventKind::NewStream(kind) => self.hear_stream(on, stream, kind),
+            EventKind::Data(bytes) => self.hear_bytes(on, stream, bytes.as_slice()),
+            EventKind::End => self.journal.hear_over(stream, Over::End),
+            EventKind::Reset(code) => self.journal.hear_over(stream, Over::Reset(code)),
+            EventKind::Stopped(_) => self.hear_stop(stream),
+            EventKind::Datagram(bytes) => self.hear_datagram(stream, bytes.as_slice()),
+            EventKind::Writable => self.hear_room(stream),
+            EventKind::Closed(why) => self.hear_closed(stream, &why),
+            EventKind::Idle => self.hear_idle(),
+            EventKind::ConnectionClosed(code, _) => self.hear_end(code),
+            EventKind::Interim(_, _)
+            | EventKind::Trailers(_)
+            | EventKind::Draining
+            | EventKind::GoAway(_)
+            | EventKind::DatagramsWritable => Ok(()),
+        }
+    }
+
+    fn turn(&mut self, _peer: usize, on: &mut Connection) -> Result<()> {
+        self.act(on)
+    }
 }
 
 impl Actor {
     /// Creates an end that did nothing.
-    pub fn new(alloc: Global, seed: u64, scale: Scale) -> Self {
+    pub fn new(alloc: Global, is_client: bool, seed: u64) -> Self {
+        let mut random = Random::new(seed);
+        let requests = if is_client {
+            random.below(8).saturating_add(1)
+        } else {
+            0
+        };
         Actor {
             alloc,
-            random: Random::new(seed),
-            scale,
+            is_client,
             journal: Journal::new(alloc),
             jobs: VecDeque::new(alloc),
-            rooms: VecDeque::new(alloc),
-            stops: BTreeMap::new(alloc),
-            requests: 0,
-            sessions: 0,
-            goaways: 0,
-            asked: BTreeMap::new(alloc),
-            is_settled: false,
-            next_request: 0,
-            goaway: None,
-            code: Code::H3_NO_ERROR,
-            is_reset: false,
+            sessions: BTreeSet::new(alloc),
+            paused: BTreeSet::new(alloc),
+            requests,
+            streams: random.below(12),
+            datagrams: random.below(12),
+            number: 0,
+            is_ready: false,
+            leaves: false,
+            is_leaving: false,
+            is_idle: false,
+            is_over: false,
+            random,
         }
     }
 
-    /// Creates a client, with the numbers of its requests and sessions.
-    pub fn client(alloc: Global, seed: u64, scale: Scale) -> Self {
-        let mut actor = Actor::new(alloc, seed, scale);
-        actor.requests = actor.random.below(4).saturating_add(1);
-        actor.sessions = actor.random.below(3).saturating_add(1);
-        actor
+    /// Begins to shut down.
+    pub fn leave(&mut self) {
+        self.leaves = true;
     }
 
-    /// Creates a server, which sends GOAWAY in some schedules.
-    pub fn server(alloc: Global, seed: u64, scale: Scale) -> Self {
-        let mut actor = Actor::new(alloc, seed, scale);
-        actor.goaways = actor.random.below(6).saturating_sub(3);
-        actor
+    /// Returns the journal, and leaves an empty one.
+    pub fn take_journal(&mut self) -> Journal {
+        let empty = Journal::new(self.alloc);
+        mem::replace(&mut self.journal, empty)
     }
 
-    /// Returns whether nothing is left to be done.
-    pub fn is_idle(&self) -> bool {
-        self.jobs.is_empty()
-            && self.rooms.is_empty()
-            && self.requests == 0
-            && self.sessions == 0
-            && self.goaways == 0
+    /// Checks that all is over.
+    pub fn check(&self) -> Result<()> {
+        if !self.is_over {
+            bail!("the connection of an end is not over");
+        }
+        self.journal.check_closed()
     }
 
-    /// Takes a datagram that QUIC reported: it is due if its session is open here.
-    fn report_datagram(&mut self, bytes: &[u8]) -> Result<(), Error> {
-        self.journal.arrived = self.journal.arrived.saturating_add(1);
-        let Some((quarter, len)) = first_varint(bytes) else {
-            return Ok(());
-        };
-        let session = quarter.into_inner().saturating_mul(4);
-        if self.journal.is_session_open(session) {
-            let payload = bytes.get(len..).unwrap_or(&[]);
-            let datagram = Datagram::new(self.alloc, session, payload)?;
-            self.journal.due.push(datagram)?;
+    fn hear_ready(&mut self) -> Result<()> {
+        self.is_ready = true;
+        Ok(())
+    }
+
+    fn hear_response(&mut self, id: u64, session: Option<u64>, status: u32) -> Result<()> {
+        self.journal.check_open(id)?;
+        if session == Some(id) && status == 200 {
+            self.sessions.insert(id)?;
         }
         Ok(())
     }
 
-    fn report_code(&mut self, code: Code, is_reset: bool) {
-        self.code = code;
-        self.is_reset = is_reset;
-    }
-
-    fn report_stop(&mut self, id: u64, code: Code) -> Result<(), Error> {
-        self.report_code(code, false);
-        self.journal.do_stopped(id, code)?;
-        Ok(())
-    }
-}
-
-impl Application for Actor {
-    fn handle(&mut self, link: &mut Link, id: u64, event: Event<'_>) -> Result<(), Error> {
-        match event {
-            Event::Settings(_, _) => self.hear_settings(),
-            Event::GoAway(first) => self.hear_goaway(id, first),
-            Event::Opened(Purpose::Message) => self.hear_request(link, id),
-            Event::Headers(kind, list) => self.hear_headers(id, kind, &list),
-            Event::SessionRequested(list) => self.hear_connect(id, &list),
-            Event::SessionReady(status, list) => self.hear_ready(link, id, status, &list),
-            Event::Rejected(status, list) => self.hear_rejected(link, id, status, &list),
-            Event::SessionClosed(close) => {
-                self.hear_closed(link, id, close.code(), close.reason())
-            }
-            Event::SessionLost => self.hear_lost(link, id),
-            Event::Draining => self.hear_drain(id),
-            Event::Joined(session) => self.hear_joined(id, session),
-            Event::Data(bytes) | Event::StreamData(bytes) => self.hear_data(link, id, bytes),
-            Event::End => self.hear_end(link, id),
-            Event::Reset(fault) => self.hear_reset(link, id, fault),
-            Event::StreamError(fault) => self.hear_refusal(link, id, fault.code()),
-            Event::Waits(Waits::Session(session)) => self.hear_early(id, session),
-            Event::Opened(_)
-            | Event::Inserted(_)
-            | Event::Waits(_)
-            | Event::Skipped
-            | Event::More => Ok(()),
-            Event::ConnectionError(fault) => Err(fault.into()),
-            Event::NoMemory => Err(Error::Memory),
-            Event::Joins(_)
-            | Event::Frame(_, _)
-            | Event::Datagram(_)
-            | Event::TooLarge(_)
-            | Event::Malformed(_) => Err(Error::Connection(Code::H3_GENERAL_PROTOCOL_ERROR)),
+    /// Hears of a stream of a session. One in both directions is used.
+    fn hear_stream(&mut self, on: &mut Connection, id: u64, kind: StreamKind) -> Result<()> {
+        self.journal.know(id)?;
+        if kind == StreamKind::Bidirectional {
+            self.begin_job(id)?;
         }
-    }
-
-    fn datagram(&mut self, _link: &mut Link, session: u64, payload: &[u8]) -> Result<(), Error> {
-        let datagram = Datagram::new(self.alloc, session, payload)?;
-        self.journal.came.push(datagram)?;
+        let _set = on.set_user(id, id);
         Ok(())
     }
 
-    fn reported(&mut self, happened: &Happened) -> Result<(), Error> {
-        match happened {
-            Happened::Reset(_, code) => {
-                self.report_code(*code, true);
-                Ok(())
+    /// Hears bytes, and at times wants no more of them.
+    fn hear_bytes(&mut self, on: &mut Connection, id: u64, bytes: &[u8]) -> Result<()> {
+        self.journal.hear(id, !self.is_client, bytes)?;
+        if self.random.one_in(60) {
+            self.stop(on, id)
+        } else if self.random.one_in(10) {
+            self.pause(on, id)
+        } else {
+            Ok(())
+        }
+    }
+
+    /// The peer stops the own half: it says no more.
+    fn hear_stop(&mut self, id: u64) -> Result<()> {
+        self.journal.check_open(id)?;
+        self.journal.disturbed.insert(id)?;
+        self.drop_job(id);
+        Ok(())
+    }
+
+    fn hear_datagram(&mut self, session: u64, bytes: &[u8]) -> Result<()> {
+        self.journal.check_open(session)?;
+        let text = str::from_utf8(bytes)?;
+        let number = text.parse::<u64>()?;
+        self.journal.datagrams_heard.insert(number)?;
+        Ok(())
+    }
+
+    fn hear_room(&mut self, id: u64) -> Result<()> {
+        self.journal.check_open(id)?;
+        for job in self.jobs.iter_mut() {
+            if job.id == id {
+                job.is_full = false;
             }
-            Happened::Stopped(id, code) => self.report_stop(*id, *code),
-            Happened::Datagram(bytes) => self.report_datagram(bytes.as_slice()),
-            Happened::Opened(_) | Happened::Readable(_) => {
-                self.is_reset = false;
-                Ok(())
+        }
+        Ok(())
+    }
+
+    fn hear_closed(&mut self, id: u64, why: &Why) -> Result<()> {
+        self.journal.close(id)?;
+        self.drop_job(id);
+        self.sessions.remove(&id);
+        self.paused.remove(&id);
+        match why {
+            Why::Done => Ok(()),
+            Why::Session(close) => {
+                self.journal.closes_heard.insert(id, close.code())?;
+                self.disturb(id)
+            }
+            Why::Malformed(_) => bail!("stream {id} is malformed"),
+            Why::TooLarge => bail!("stream {id} is too large"),
+            _ => self.disturb(id),
+        }
+    }
+
+    fn hear_idle(&mut self) -> Result<()> {
+        self.is_idle = true;
+        self.journal.check_closed()
+    }
+
+    fn hear_end(&mut self, code: u64) -> Result<()> {
+        if code != 0x100 {
+            bail!("the connection is closed with {code:x}");
+        }
+        self.is_over = true;
+        Ok(())
+    }
+
+    pub fn disturb(&mut self, id: u64) -> Result<()> {
+        self.journal.disturbed.insert(id)?;
+        Ok(())
+    }
+
+    /// Says no more on a stream.
+    pub fn drop_job(&mut self, id: u64) {
+        for _job in 0..self.jobs.len() {
+            if let Some(job) = self.jobs.pop_front() {
+                if job.id != id {
+                    let _kept = self.jobs.push_back(job);
+                }
             }
         }
     }
 
-    fn gone(&mut self, link: &mut Link, id: u64) -> Result<(), Error> {
-        self.note_close(link, id, Code::WEBTRANSPORT_SESSION_GONE, Left::SessionOver)
+    /// Begins to say something on a stream.
+    pub fn begin_job(&mut self, id: u64) -> Result<()> {
+        let most = if self.random.one_in(6) { 40_000 } else { 300 };
+        let left = self.random.below(most) as u64;
+        let ends = !self.random.one_in(8);
+        self.jobs.push_back(Job {
+            id,
+            left,
+            ends,
+            is_full: false,
+        })?;
+        self.journal.say(id, 0, false)
     }
 }

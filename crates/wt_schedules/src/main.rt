@@ -1,40 +1,32 @@
-//! Random schedules of two ends over a network in memory: each end does what a seed chooses, and what the other
-//! end hears is compared with it.
+//! Random schedules of two ends over a network in memory: each end does what its seed chooses, and what the other end
+//! hears is compared with it.
 #![tactic(auto)]
 
 mod act;
 mod actor;
 mod compare;
-mod hear;
 mod journal;
-mod plan;
-mod totals;
 
 use crate::actor::Actor;
-use crate::compare::{Difference, Side, compare};
-use crate::plan::{Scale, limits};
-use crate::totals::Totals;
+use crate::compare::{check_end, compare};
 use anyhow::{Result, bail};
 use std::alloc::Global;
 use std::env::{self, Env};
 use std::io;
-use wt_ends::end::End;
-use wt_ends::network::Network;
-use wtp_frames::endpoint;
-use wtp_streams::error::Error;
-
-/// The most turns of a schedule.
-const TURNS: u32 = 400_000;
+use test_network::conditions::Conditions;
+use test_network::network::Network;
+use test_network::random::Random;
+use vesgrauf::config::Config;
 
 fn main(rt: HostRuntime) -> Result<()> {
     let alloc = rt.alloc();
-    let words = arguments(&rt)?;
-    let (first, last) = seeds(words.as_slice())?;
-    let mut totals = Totals::new();
+    let (first, last) = seeds(arguments(&rt)?.as_slice())?;
     for seed in first..=last {
-        run(alloc, seed, &mut totals)?;
+        if let Err(error) = run(alloc, seed) {
+            bail!("schedule {seed}: {error}");
+        }
     }
-    print(&rt, first, last, &totals)?;
+    println!(rt; "schedules {first} to {last}: each end heard what the other did")?;
     Ok(())
 }
 
@@ -53,133 +45,95 @@ fn seeds(arguments: &[String]) -> Result<(u64, u64)> {
     }
 }
 
-/// Prints what happened.
-fn print<R: Print>(rt: &R, first: u64, last: u64, totals: &Totals) -> io::Result<()> {
-    println!(rt; "schedules: {first} to {last}, without a difference")?;
-    print_streams(rt, totals)?;
-    print_sessions(rt, totals)
+/// Returns a network of a seed.
+fn conditions(random: &mut Random) -> Conditions {
+    let window = random.below(20_000).saturating_add(2_000);
+    Conditions {
+        max_piece: random.below(3_000).saturating_add(1),
+        delays: random.below(3).saturating_add(2),
+        losses: random.below(4),
+        stream_window: window,
+        connection_window: random.below(30_000).saturating_add(window),
+        max_streams: (random.below(20) as u64).saturating_add(4),
+        max_datagram: 1_200,
+        acks: random.one_in(2),
+    }
 }
 
-fn print_streams<R: Print>(rt: &R, totals: &Totals) -> io::Result<()> {
-    println!(rt;
-        "halves of streams: {}, of them early {}",
-        totals.halves, totals.early
-    )?;
-    println!(rt;
-        "reset {}, stopped {}, left {}",
-        totals.resets, totals.stops, totals.left
-    )?;
-    println!(rt; "refused after GOAWAY or a session: {}", totals.refused)?;
-    println!(rt; "GOAWAY {}, bytes {}", totals.goaways, totals.bytes)?;
-    println!(rt; "contents of 1 MiB: {}", totals.mebibytes)?;
-    println!(rt;
-        "sections that refer to a table: {}, that waited for it: {}",
-        totals.referring, totals.blocked
-    )
-}
-
-fn print_sessions<R: Print>(rt: &R, totals: &Totals) -> io::Result<()> {
-    println!(rt; "sessions closed {}, ended {}", totals.closed, totals.clean)?;
-    println!(rt; "lost {}, left open {}", totals.lost, totals.open)?;
-    println!(rt; "rejected {}", totals.rejected)?;
-    println!(rt;
-        "datagrams {}, dropped {}",
-        totals.datagrams, totals.dropped
-    )
+/// Returns a configuration of a seed.
+fn configure(mut config: Config, random: &mut Random, acks: bool) -> Config {
+    config.send_buffer = random.below(5_000).saturating_add(100);
+    config.keep_until_acked = acks && random.one_in(2);
+    config.bound_by_acked = acks && random.one_in(2);
+    if random.one_in(3) {
+        config.qpack_max_table_capacity = 0;
+        config.qpack_blocked_streams = 0;
+    } else if random.one_in(2) {
+        config.qpack_blocked_streams = 1;
+    }
+    if random.one_in(3) {
+        config.encoder_table_capacity = 0;
+    }
+    config.max_resets = 1_000;
+    config
 }
 
 /// Runs the schedule of a seed, and compares what its ends did and heard.
-fn run(alloc: Global, seed: u64, totals: &mut Totals) -> Result<()> {
-    let scale = Scale::new(seed);
+fn run(alloc: Global, seed: u64) -> Result<()> {
+    let mut random = Random::new(seed.wrapping_mul(7));
+    let conditions = conditions(&mut random);
+    let client = configure(Config::client(), &mut random, conditions.acks);
+    let server = configure(Config::server(), &mut random, conditions.acks);
     let number = seed.wrapping_mul(3);
-    let mut client = client(alloc, number, scale)?;
-    let mut server = server(alloc, number.wrapping_add(1), scale)?;
-    let mut network = Network::new(number.wrapping_add(2), scale.piece);
-    match play(&mut client, &mut server, &mut network) {
-        Ok(true) => {}
-        Ok(false) => bail!("schedule {seed} does not end, or an insertion was not acknowledged"),
-        Err(error) => bail!("schedule {seed}: {error}"),
-    }
-    if let Some((from, difference)) = compare_both(&client.app, &server.app) {
-        let Difference { id, what } = difference;
-        bail!("schedule {seed}, from the {from}, stream {id}: {what}");
-    }
-    totals.count(&client.app.journal);
-    totals.count(&server.app.journal);
-    totals.count_sections(&client.link.tables);
-    totals.count_sections(&server.link.tables);
+    let mut network = Network::new(
+        alloc,
+        conditions,
+        number,
+        Actor::new(alloc, false, number.wrapping_add(1)),
+    );
+    let actor = Actor::new(alloc, true, number.wrapping_add(2));
+    let peer = network.connect_with(actor, client, server)?;
+    network.run_until_quiet()?;
+    finish(&mut network, peer)?;
+    network.run_until_quiet()?;
+    check(&mut network, peer)
+}
+
+/// Lets both ends shut down.
+fn finish(network: &mut Network<Actor, Actor>, peer: usize) -> Result<()> {
+    network.server.leave();
+    let Some(client) = network.client(peer) else {
+        bail!("there is no client");
+    };
+    client.leave();
     Ok(())
 }
 
-/// Creates the client.
-fn client(alloc: Global, seed: u64, scale: Scale) -> Result<End<Actor>, Error> {
-    let mut actor = Actor::client(alloc, seed, scale);
-    let limits = limits(&mut actor.random);
-    End::with_limits(alloc, endpoint::Side::Client, limits, actor)
-}
-
-/// Creates the server.
-fn server(alloc: Global, seed: u64, scale: Scale) -> Result<End<Actor>, Error> {
-    let mut actor = Actor::server(alloc, seed, scale);
-    let limits = limits(&mut actor.random);
-    End::with_limits(alloc, endpoint::Side::Server, limits, actor)
-}
-
-/// Compares both directions. Returns what differs, and from which end it came.
-fn compare_both(client: &Actor, server: &Actor) -> Option<(&'static str, Difference)> {
-    let client = Side {
-        journal: &client.journal,
-        goaway: client.goaway,
-        bit: 0,
+/// Compares both directions, and checks that nothing is left.
+fn check(network: &mut Network<Actor, Actor>, peer: usize) -> Result<()> {
+    let mut left = [0, 0];
+    if let Some(connection) = network.client_connection(peer) {
+        left[0] = connection.stats().streams;
+    }
+    if let Some(connection) = network.server_connection(peer) {
+        left[1] = connection.stats().streams;
+    }
+    let [at_client, at_server] = left;
+    let Some(client) = network.client(peer) else {
+        bail!("there is no client");
     };
-    let server = Side {
-        journal: &server.journal,
-        goaway: server.goaway,
-        bit: 1,
-    };
-    if let Err(difference) = compare(client, server) {
-        return Some(("client", difference));
-    }
-    match compare(server, client) {
-        Ok(()) => None,
-        Err(difference) => Some(("server", difference)),
-    }
+    check_actor("client", client, at_client)?;
+    let journal = client.take_journal();
+    let server = &network.server;
+    check_actor("server", server, at_server)?;
+    compare("client", &journal, &server.journal)?;
+    compare("server", &server.journal, &journal)
 }
 
-/// Plays a schedule. Returns whether it ends, and each end then knows that the other one read all of its insertions.
-fn play(
-    client: &mut End<Actor>,
-    server: &mut End<Actor>,
-    network: &mut Network,
-) -> Result<bool, Error> {
-    for _turn in 0..TURNS {
-        if turn(client, server, network)? {
-            let is_settled = client.link.tables.is_settled();
-            return Ok(is_settled && server.link.tables.is_settled());
-        }
+/// Checks that nothing is left at an end, which has so many streams.
+fn check_actor(side: &str, actor: &Actor, streams: usize) -> Result<()> {
+    if actor.is_idle {
+        check_end(side, streams)?;
     }
-    Ok(false)
-}
-
-/// Lets both ends go on once. Returns whether nothing was left to be done.
-fn turn(
-    client: &mut End<Actor>,
-    server: &mut End<Actor>,
-    network: &mut Network,
-) -> Result<bool, Error> {
-    let is_idle = client.app.is_idle() && server.app.is_idle();
-    let to = client.link.outgoing.carry(network, &mut server.incoming)?;
-    let back = server.link.outgoing.carry(network, &mut client.incoming)?;
-    server.serve()?;
-    client.serve()?;
-    step(client)?;
-    step(server)?;
-    Ok(is_idle && to && back)
-}
-
-/// Lets an end do something.
-fn step(end: &mut End<Actor>) -> Result<(), Error> {
-    end.app.act(&mut end.link)?;
-    end.read_again()?;
-    end.close_streams()
+    actor.check()
 }
