@@ -233,9 +233,10 @@ class Crates:
         return None
 
     def all_modules(self, crate):
-        """Yields the modules of a crate that are files."""
-        for file in sorted(self.folders[crate].rglob("*.rt")):
-            path = file.relative_to(self.folders[crate]).with_suffix("").parts
+        """Yields the modules of a crate that are files, each before those below it."""
+        folder = self.folders[crate]
+        files = [file.relative_to(folder).with_suffix("").parts for file in folder.rglob("*.rt")]
+        for path in sorted(files):
             yield self.module(crate, () if path == ("lib",) else path)
 
 
@@ -245,6 +246,11 @@ def type_and_trait(head):
     trait, _, owner = head.rpartition(" for ")
     trait = re.sub(r"\b[\w:]*::(?=\w)", "", trait)
     return without_generics(owner).strip().split("::")[-1], trait
+
+
+def is_hidden(found, entries):
+    """Returns whether what was found is an item of these crates that no user can name."""
+    return isinstance(found, tuple) and id(found[1]) not in entries
 
 
 def add_impls(crates, crate, entries):
@@ -260,9 +266,10 @@ def add_impls(crates, crate, entries):
                 continue
             name = without_generics(trait)
             if trait and name not in COMMON:
-                # (a trait of these crates may not be public)
-                declared = crates.find(module, [name])
-                if not isinstance(declared, tuple) or id(declared[1]) in entries:
+                # (a trait of these crates, and the type that it converts, may not be public)
+                words = [name, *re.findall(r"^From<(\w+)>$", trait)]
+                declared = [found for word in words if (found := crates.find(module, [word]))]
+                if not any(is_hidden(found, entries) for found in declared):
                     entry.traits.append(trait)
             elif not trait:
                 inside = items_in(module.text, module.code, *item.body)

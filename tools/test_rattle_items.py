@@ -72,7 +72,8 @@ class Api(unittest.TestCase):
             "low/src/a.rt": "//! It is a.\npub mod b;\nmod c;\npub use b::B;\npub use c::C;\n",
             "low/src/a/b.rt": "pub struct B;\nimpl B {\n    pub fn f() {}\n    fn g() {}\n}\n",
             "low/src/a/c.rt": "mod d;\nuse crate::a::B;\npub struct C;\nimpl From<B> for C {}\n"
-            "trait Own {}\nimpl Own for C {}\n",
+            "trait Own {}\nimpl Own for C {}\nstruct D;\nimpl From<D> for C {}\n"
+            "impl C {\n    pub fn new() {}\n}\n",
             "low/src/a/c/d.rt": "use super::C;\nimpl C {\n    pub fn h() {}\n}\n",
             "top/src/lib.rt": "pub use low::a;\nfn hidden() {}\n",
         }
@@ -89,4 +90,4 @@ class Api(unittest.TestCase):
             (entry.item.name, [member.name for member in entry.members], entry.traits)
             for entry in entries
         ]
-        self.assertEqual(found, [("B", ["f"], []), ("C", ["h"], ["From<B>"])])
+        self.assertEqual(found, [("B", ["f"], []), ("C", ["new", "h"], ["From<B>"])])
