@@ -63,7 +63,8 @@ impl Connection {
         let Some(entry) = self.streams.get_mut(&id) else {
             return Ok(());
         };
-        if entry.writing.is_done() {
+        let is_reset = entry.writing.is_ended() && !entry.writing.is_finished();
+        if is_reset || entry.writing.is_done() {
             return Ok(());
         }
         self.give_up(id)?;
@@ -164,8 +165,8 @@ impl Connection {
     // Returns the first stream of an own request from this ID on.
     fn first_request(&self, first: u64) -> Option<u64> {
         let mut streams = self.streams.range(first..);
-        while let Some((id, _)) = streams.next() {
-            if *id % 4 == 0 {
+        while let Some((id, entry)) = streams.next() {
+            if *id % 4 == 0 && entry.session.is_none() {
                 return Some(*id);
             }
         }

@@ -5,8 +5,9 @@ ghost use Rattle.vesgrauf.specs.State.{IsStill, Changes, IsWhy, RefusesDrain, op
 
 use crate::connection::{Connection, Step, Stop};
 use crate::entry::SHARED;
-use crate::event::{EventKind, Tunnel};
+use crate::event::{EventKind, Tunnel, Why};
 use crate::refused::Refused;
+use wtp_core::error::Code;
 use wtp_fields::fields::FieldList;
 use wtp_messages::response::Asked;
 
@@ -26,16 +27,22 @@ impl Connection {
         Ok(self.tell(id, EventKind::Connect(Tunnel::Session, list)))
     }
 
-    // The server accepted a session.
+    // The server accepted a session. It is lost if the server stopped the own half before.
     pub(super) fn session_ready(
         &mut self,
         id: u64,
         status: u32,
         list: FieldList,
     ) -> Result<Step<'static>, Stop> {
-        if let Some(entry) = self.streams.get_mut(&id) {
-            entry.writing.connect();
+        let Some(entry) = self.streams.get_mut(&id) else {
+            return Ok(Step::More);
+        };
+        if entry.writing.is_ended() {
+            let step = self.tell(id, EventKind::Response(status, list));
+            self.shut(id, Code::H3_REQUEST_CANCELLED, Why::SessionGone)?;
+            return Ok(step);
         }
+        entry.writing.connect();
         self.datagrams.opened.push_back(id)?;
         self.wake();
         Ok(self.tell(id, EventKind::Response(status, list)))
