@@ -34,6 +34,7 @@ new_entry r p w = record {
   is_quiet = false;
   withheld = 0;
   stops = None;
+  stopped = None;
 }
 
 -- its place in the order of sending

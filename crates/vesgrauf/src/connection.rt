@@ -17,7 +17,7 @@ use crate::config::Config;
 use crate::connection::ids::Ids;
 use crate::critical::Critical;
 use crate::entry::{Entry, Member};
-use crate::event::Event;
+use crate::event::{Event, EventKind};
 use crate::input::{Input, Report};
 use crate::output::Output;
 use std::alloc::{AllocError, AllocFailed, Global};
@@ -259,7 +259,7 @@ impl Connection {
     ) -> Result<Option<Event<'a>>, AllocError> {
         for _step in 0..u64::MAX {
             if let Some(event) = self.events.pop_front() {
-                return Ok(Some(event));
+                return Ok(Some(self.numbered(event)));
             }
             let step = match self.ended {
                 Some(ended) => Ok(self.step_after_end(ended, input)),
@@ -274,6 +274,18 @@ impl Connection {
             }
         }
         Ok(None)
+    }
+
+    // Returns an event that was queued, with the number that the program has given its stream since.
+    fn numbered<'a>(&self, event: Event<'a>) -> Event<'a> {
+        let mut event = event;
+        if let (EventKind::Stopped(_), Some(entry)) = (
+            &event.kind,
+            self.streams.get(&event.stream),
+        ) {
+            event.user = entry.user;
+        }
+        event
     }
 
     // Takes one step.

@@ -63,6 +63,8 @@ pub(crate) struct Entry {
     pub(crate) withheld: usize,
     /// What the peer is asked to stop it with, once QUIC has opened it.
     pub(crate) stops: Option<u64>,
+    /// What the peer asked to stop the own half with, before the program knew of the stream.
+    pub(crate) stopped: Option<u64>,
 }
 
 impl Entry {
@@ -96,6 +98,7 @@ impl Entry {
             is_quiet: false,
             withheld: 0,
             stops: None,
+            stopped: None,
         }
     }
 

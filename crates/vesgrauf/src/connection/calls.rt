@@ -10,7 +10,7 @@ use wtp_core::error::application_codes;
 
 impl Connection {
     /// Resets the own half of a stream, with a code of HTTP/3 or, on a stream of a session, of the application. What is
-    /// queued is dropped. That of a session's own stream ends the session.
+    /// queued is dropped. That of a session's own stream ends the session, also of one that is still to come.
     ///
     /// # Errors
     ///
@@ -19,12 +19,13 @@ impl Connection {
         let code = self.code_for(id, code)?;
         self.reserve()?;
         self.reset_own(id, code)?;
-        self.end_if_session(id, code)?;
+        self.end_if_session(id, code, true)?;
         Ok(self.remove_if_done(id)?)
     }
 
     /// Asks the peer to stop its half of a stream, with a code of HTTP/3 or, on a stream of a session, of the
-    /// application. Nothing more is read on it. That of a session's own stream ends the session.
+    /// application. Nothing more is read on it. That of a session's own stream ends the session, at a client also of one
+    /// that is still to come.
     ///
     /// # Errors
     ///
@@ -33,7 +34,7 @@ impl Connection {
         let code = self.code_for(id, code)?;
         self.reserve()?;
         self.cancel(id)?;
-        self.end_if_session(id, code)?;
+        self.end_if_session(id, code, !self.is_server())?;
         self.stop_peer(id, code)?;
         Ok(self.remove_if_done(id)?)
     }
@@ -48,15 +49,20 @@ impl Connection {
         let code = self.code_for(id, code)?;
         self.reserve()?;
         self.cancel(id)?;
-        self.end_if_session(id, code)?;
+        self.end_if_session(id, code, true)?;
         self.reset_own(id, code)?;
         self.stop_peer(id, code)?;
         Ok(self.remove_if_done(id)?)
     }
 
-    // Ends the session whose own stream this is, if it is one that is open, and both halves of the stream.
-    fn end_if_session(&mut self, id: u64, code: u64) -> Result<(), Refused> {
-        if self.check_session(id).is_err() {
+    // Ends the session whose own stream this is, if it is one that is open or, with `always`, to come; and both halves of
+    // the stream.
+    fn end_if_session(&mut self, id: u64, code: u64, always: bool) -> Result<(), Refused> {
+        let has_session = match self.streams.get(&id) {
+            Some(entry) => entry.has_session,
+            None => false,
+        };
+        if self.check_session(id).is_err() && !(always && has_session) {
             return Ok(());
         }
         self.reset_own(id, code)?;

@@ -5,6 +5,9 @@ use crate::event::{EventKind, Why};
 use crate::output::Output;
 use wtp_core::error::Code;
 
+/// The status of the answer that a CONNECT request gets by a reset: what follows it is read as of one that is refused.
+const REFUSED: u32 = 500;
+
 impl Connection {
     // Closes both halves of a stream at once.
     pub(super) fn shut(&mut self, id: u64, code: Code, why: Why) -> Result<(), Stop> {
@@ -30,6 +33,8 @@ impl Connection {
         }
         self.ready.remove(id, entry.kind());
         self.full.remove(&id);
+        entry.reading.answer(REFUSED);
+        self.wake();
         Ok(())
     }
 
@@ -51,6 +56,11 @@ impl Connection {
         entry.reading.abandon(&mut self.shared);
         entry.peer = Peer::Over;
         self.drop_kept(id)
+    }
+
+    // There is nothing left to stop: the end of the peer's half came, or a reset.
+    pub(super) fn forget_stop(&mut self, id: u64) {
+        self.outputs.retain(|output| !is_stop(output, id));
     }
 
     // Reads the peer's half no further, whose end is still to come.
@@ -194,5 +204,13 @@ impl Connection {
         self.ready.remove(id, entry.kind());
         self.waiting.remove(&id);
         self.full.remove(&id);
+    }
+}
+
+// Returns whether this asks to stop this stream.
+fn is_stop(output: &Output, id: u64) -> bool {
+    match output {
+        Output::StopSending(stopped, _) => *stopped == id,
+        _ => false,
     }
 }

@@ -17,7 +17,7 @@ impl Connection {
     pub(super) fn reset_came(&mut self, id: u64, code: u64) -> Result<(), Stop> {
         self.accept(id)?;
         match self.peer_of(id) {
-            Peer::Over => return Ok(()),
+            Peer::Over => return Ok(self.forget_stop(id)),
             Peer::Drops => return self.peer_is_over(id),
             Peer::Reads => {}
         }
@@ -34,8 +34,21 @@ impl Connection {
         self.cancel(id)?;
         self.queue_event(id, EventKind::Reset(shown))?;
         self.half_ended(id, event)?;
+        self.lose_session(id)?;
         self.leave_untold(id)?;
         self.peer_is_over(id)
+    }
+
+    // The peer reset the own stream of a session that is still to come, or stopped its answer: it does not come.
+    fn lose_session(&mut self, id: u64) -> Result<(), Stop> {
+        let has_session = match self.streams.get(&id) {
+            Some(entry) => entry.has_session,
+            None => false,
+        };
+        if has_session {
+            self.shut(id, Code::H3_REQUEST_CANCELLED, Why::SessionGone)?;
+        }
+        Ok(())
     }
 
     // Resets the own half of a stream that the peer reset before the program was told of it: nothing will be sent on it.
@@ -72,10 +85,28 @@ impl Connection {
         let Some(entry) = self.streams.get_mut(&id) else {
             return Ok(());
         };
+        if !entry.is_told {
+            entry.stopped = Some(code);
+        }
         let event = entry.reading.stop(&mut self.shared);
         self.queue_event(id, EventKind::Stopped(shown))?;
         self.half_ended(id, event)?;
+        if self.is_server() {
+            self.lose_session(id)?;
+        }
         self.remove_if_done(id)
+    }
+
+    // Tells the program of a stop that came before it knew of the stream.
+    pub(super) fn tell_stop(&mut self, id: u64) -> Result<(), Stop> {
+        let Some(entry) = self.streams.get_mut(&id) else {
+            return Ok(());
+        };
+        let Some(code) = entry.stopped.take() else {
+            return Ok(());
+        };
+        let shown = self.shown_code(id, code);
+        self.queue_event(id, EventKind::Stopped(shown))
     }
 
     // Handles what the end of one half says of the stream.

@@ -111,6 +111,7 @@ impl Connection {
         match joining {
             Joining::Joined(session) => {
                 self.joined(id, session);
+                self.tell_stop(id)?;
                 Ok(self.tell(id, EventKind::NewStream(StreamKind::of(id))))
             }
             Joining::Refused(fault) => {
@@ -205,7 +206,11 @@ impl Connection {
         list: FieldList,
     ) -> Result<Step<'static>, Stop> {
         match kind {
-            HeadersKind::Request => Ok(self.request_came(id, list)),
+            HeadersKind::Request => {
+                let step = self.request_came(id, list);
+                self.tell_stop(id)?;
+                Ok(step)
+            }
             HeadersKind::Interim(status) => Ok(self.tell(id, EventKind::Interim(status, list))),
             HeadersKind::Response(status) => {
                 self.response_came(id, status)?;

@@ -49,8 +49,11 @@ impl Connection {
 
     // Drops bytes of a stream that is not read.
     fn drop_input<'a>(&mut self, id: u64, input: &mut Input<'a>) -> Result<(), Stop> {
-        if input.chunk.is_last() && self.peer_of(id) == Peer::Drops {
-            self.peer_is_over(id)?;
+        if input.chunk.is_last() {
+            self.forget_stop(id);
+            if self.peer_of(id) == Peer::Drops {
+                self.peer_is_over(id)?;
+            }
         }
         input.drop_rest();
         input.report = Report::Nothing;

@@ -24,6 +24,7 @@ impl Connection {
             entry.has_session = true;
             entry.priority = SHARED;
         }
+        self.tell_stop(id)?;
         Ok(self.tell(id, EventKind::Connect(Tunnel::Session, list)))
     }
 
