@@ -7,8 +7,6 @@ allow no dynamic table of QPACK.
 
 from dataclasses import dataclass
 
-from replay import ends_connection
-
 STREAM_CREATION, CLOSED_CRITICAL, UNEXPECTED, FRAME, LOAD = 0x103, 0x104, 0x105, 0x106, 0x107
 ID, WRONG_SETTINGS, MISSING_SETTINGS, INCOMPLETE, MESSAGE = 0x108, 0x109, 0x10A, 0x10D, 0x10E
 ENCODER, DECODER = 0x201, 0x202
@@ -72,37 +70,6 @@ class Row:
         """Returns the errors: the code of each, and what it ends."""
         scope = "stream" if self.of_stream or self.code in OF_STREAM else "connection"
         return [(self.code, scope)] if self.code is not None else []
-
-    def script(self, size, with_neighbour):
-        """Returns the script, in pieces of this size, and beside another stream or alone."""
-        neighbour = 1000 if not self.client else 1001
-        lines = ["client" if self.client else "server"]
-        lines[0] += "" if self.plain else " webtransport"
-        if with_neighbour:
-            # (a response to a request that the client opened, or a request)
-            lines += [f"request {neighbour}"] if self.client else []
-            section = RESPONSE if self.client else HEADERS
-            lines.append(f"bytes {neighbour} {section.hex()}0005")
-        lines += self.before.splitlines()
-        pieces = [self.data[at : at + size] for at in range(0, len(self.data), size)]
-        lines += [f"bytes {self.stream} {piece.hex()}" for piece in pieces]
-        lines += [f"end {self.stream}"] if self.end else []
-        lines += self.after.splitlines()
-        if with_neighbour:
-            lines.append(f"end {neighbour} {b'hello'.hex()}")
-        return "\n".join(lines) + "\n"
-
-    def difference(self, found, with_neighbour):
-        """Returns what is wrong with the events."""
-        faults = [event[1:] for _, event in found if event[0] == "fault"]
-        if faults != self.faults():
-            return f"wanted the errors {self.faults()}, found {faults}"
-        is_over = any(ends_connection(event) for _, event in found)
-        ends = [event for stream, event in found if event[0] == "end" and int(stream) >= 1000]
-        if with_neighbour and (len(ends) != 1) != is_over:
-            return f"the other stream has the ends {ends}"
-        return None
-
 
 def control(*frames):
     return SETTINGS + b"".join(frames)

@@ -23,10 +23,3 @@ def instructions_in(content):
             name, bits = CANCELLATION if content[0] & 0x40 else INCREMENT, 6
         value, content = number_in(content, bits)
         yield name, value
-
-
-def told_in(found):
-    """Yields the instructions among the events of wt_recorded."""
-    for stream, event in found:
-        if stream is None and event[0] == "decoder":
-            yield from instructions_in(bytes.fromhex(event[1]))

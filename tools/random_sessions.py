@@ -1,29 +1,20 @@
 """Random scripts of whole connections, with messages, sessions, their streams and datagrams, in
 three ways: one stream after the other, the same in pieces, and all in a random order, in pieces.
-
-On each stream each way has to give what tools/session_model.py says of its bytes, and the order of
-all events has to be one that tools/session_events.py allows. Where no error ends the connection the
-first two have to give the same.
 """
 
 import random
 from dataclasses import dataclass
 
 from connection_model import CONNECT, CRITICAL, DATAGRAM, DEFAULTS, Side, WEBTRANSPORT_ON
-from connection_model import is_forbidden
 from connection_rows import frame
 from message_bytes import CONNECT as TUNNEL
 from message_bytes import GET, SESSION, capsule, line, prefixed
 from nghttp3_sections import fields_of
 from random_scripts import Maker, is_critical
-from random_streams import Batch, StreamOfScript, mixed
-from session_events import Sessions, are_alike, cut_by_session, decision_in, difference, is_done
-from session_events import is_last, is_start, of_streams, session_events_in
+from random_streams import StreamOfScript, mixed
 from session_model import CLOSE, DRAIN, Surroundings, session_events
 
-# How many scripts a run of the program reads.
-BATCH = 500
-INCOMPLETE, CLOSED_CRITICAL, STREAM_CREATION = 0x10D, 0x104, 0x103
+INCOMPLETE, CLOSED_CRITICAL = 0x10D, 0x104
 # Entries of the static table (RFC 9204, appendix A).
 STATIC = {
     **{(b":authority", b""): 0, (b":path", b"/"): 1, (b":method", b"CONNECT"): 15},
@@ -60,9 +51,7 @@ REQUESTS = {
     "session": SESSION,
     "other": [*SESSION[:-1], (b":protocol", b"connect-udp")],
 }
-ASKED = {"": "get", "head": "head", "connect": "connect", "session": "session"}
 STATUSES = [b"200", b"200", b"200", b"204", b"304", b"404", b"503", b"999", b"299"]
-LEFT_OVER = "left"
 
 
 class SessionMaker(Maker):
@@ -172,16 +161,6 @@ class SessionMaker(Maker):
         places = sorted(rng.randrange(len(content) + 1) for _ in range(rng.choice((0, 1, 3))))
         starts, ends = [0, *places], [*places, len(content)]
         return [self.frame(0x00, content[start:end]) for start, end in zip(starts, ends)]
-
-
-def waits_after(events, wanted):
-    """Returns whether a stream may have only these events of those that are wanted: what comes next
-    waits for settings, an answer or a session."""
-    if not is_start(events, wanted) or len(events) == len(wanted):
-        return events == wanted
-    comes = wanted[len(events)]
-    asks = comes[0] in ("asked", "request") and (b":protocol", b"webtransport") in comes[1]
-    return asks or comes[0] == "answered" or bool(events) and events[-1][0] == "joins"
 
 
 def piece_start(piece):
@@ -301,89 +280,6 @@ class SessionScript:
 
     # ---- what they have to give
 
-    def fault(self, ways):
-        """Returns what is wrong with the events of the three ways."""
-        for found in ways:
-            if fault := self.difference(found):
-                return fault
-        whole, cut, _ = ways
-        if any(is_last(event) for _, event in (*whole, *cut) if event[0] == "fault"):
-            return None
-        shown, other = of_streams(whole), of_streams(cut)
-        for stream in {*shown, *other}:
-            if not are_alike(shown.get(stream, []), other.get(stream, [])):
-                return f"stream {stream}: whole {shown.get(stream)}, cut {other.get(stream)}"
-        return None
-
-    def difference(self, found):
-        """Returns what is wrong with the events of one way."""
-        shown = of_streams(found)
-        ends = [one for one in found if one[0] is None and one[1][1] == "fault"]
-        if ends and ends[0][1][1:] != ("fault", str(0x33), "connection"):
-            return f"a datagram gives {ends}"
-        found_until = found[: found.index(ends[0])] if ends else found
-        wanted = {s.stream: self.wanted_of(s, found, shown.get(s.stream, [])) for s in self.streams}
-        for stream in self.twins:
-            if shown.get(stream, [])[:1] == [("fault", STREAM_CREATION, "connection")]:
-                wanted[stream] = shown[stream]
-        may_end = ends or self.has_wrong_datagram()
-        if not may_end and self.twins and not any(is_last(e) for _, e in found if e[0] == "fault"):
-            return "two streams of which there may be one"
-        if may_end or any(is_last(e) for _, e in found if e[0] == "fault"):
-            fault = self.starts_fault(found, ends, shown, wanted)
-        else:
-            fault = difference(found, wanted)
-        known = Sessions(self.side.is_server, self.asked, self.own)
-        return fault or known.fault(found_until) or self.datagram_fault(found)
-
-    def starts_fault(self, found, ends, shown, wanted):
-        """Returns what is wrong with the events of a connection that an error ends."""
-        place = next((n for n, (_, e) in enumerate(found) if e[0] == "fault" and is_last(e)), None)
-        if ends:
-            place = found.index(ends[0])
-        if place is None:
-            return f"no error of a connection, where a datagram has one: {self.datagrams}"
-        after = [
-            one
-            for one in found[place + 1 :] if one[1][0] != LEFT_OVER and one[1] != (
-                "datagram", "drop"
-            )
-        ]
-        after = [one for one in after if one[1] != ("abandoned",)]
-        if after:
-            return f"{after} after the error of the connection"
-        for stream, events in shown.items():
-            events = [event for event in events if event[0] not in (LEFT_OVER, "abandoned")]
-            events_wanted = [
-                event
-                for event in wanted.get(stream, []) if event[0] not in (LEFT_OVER, "abandoned")
-            ]
-            if not is_start(events, events_wanted):
-                return f"stream {stream}: wanted a start of {events_wanted}, found {events}"
-        return None
-
-    def has_wrong_datagram(self):
-        wrong = any(
-            not content or content == b"\x40" or content[0] == 0xD0
-            for content in self.datagrams
-        )
-        return wrong and self.side.webtransport
-
-    def wanted_of(self, stream, found, events):
-        """Returns the events of a stream, where these were found of it and of all streams."""
-        settings = next((event[2] for _, event in found if event[0] == "settings"), None)
-        around = Surroundings(settings is not None, self.allows(settings), answers=self.answers)
-        around.fields_of = fields_of
-        decision = decision_in(events)
-        joined = next((event[1] for event in events if event[0] == "joins"), None)
-        around.states = {joined: decision} if joined is not None else {}
-        wanted, purpose = session_events(
-            *(self.side, stream.stream, stream.content, stream.fin, around),
-            *(stream.opened, stream.asked),
-        )
-        wanted = cut_by_session(events, wanted)
-        return self.with_leave(stream, wanted, purpose, events) if stream.left_by else wanted
-
     def allows(self, settings):
         """Returns whether the settings of the peer allow sessions."""
         if settings is None or not self.side.webtransport:
@@ -391,77 +287,6 @@ class SessionScript:
         values = dict(zip(DEFAULTS, settings))
         is_on = any(values[name] != "0" for name in (WEBTRANSPORT_ON, 0xC671706A, 0x14E9CD29))
         return is_on and values[DATAGRAM] == "1" and (self.side.is_server or values[CONNECT] == "1")
-
-    def with_leave(self, stream, wanted, purpose, events):
-        """Returns the events of a stream that is reset or abandoned: when it is not known what it
-        waits for, it may have only a start of its events."""
-        is_reset, is_critical_stream = stream.left_by == "reset", purpose in CRITICAL
-        if not is_reset and is_critical_stream:
-            place = next(
-                (n for n, event in enumerate(events) if event == ("abandoned",)), len(wanted)
-            )
-            return [*wanted[:place], ("abandoned",), *wanted[place:]]
-        kept = [event for event in wanted if event[0] != LEFT_OVER]
-        place = self.place_of_leave(events, is_reset)
-        if place is not None and waits_after(events[:place], kept):
-            kept = events[:place]
-        elif any(is_last(event) for event in wanted if event[0] == "fault"):
-            return wanted
-        return [*kept, *self.leave_events(stream, kept, is_reset, is_critical_stream)]
-
-    def place_of_leave(self, events, is_reset):
-        """Returns the place of the event of a reset or of the end of reading, or None."""
-        for place, event in enumerate(events):
-            is_lost = event[0] == "lost" and place and events[place - 1][0] != "fault"
-            if event[0] == "reset" or is_lost if is_reset else event[0] == "abandoned":
-                return place
-        return None
-
-    def leave_events(self, stream, events, is_reset, is_critical_stream):
-        """Returns the last events of a stream, after these."""
-        held = False
-        for event in events:
-            is_accepted = event[0] == "answered" and event[1] < 300 and any(
-                e[0] == "asked"
-                for e in events
-            )
-            held = (
-                held or is_accepted or event[0] == "ready"
-            ) and event[0] not in ("closed", "lost")
-        if not is_reset:
-            return [("abandoned",), ("lost",)] if held else [("abandoned",)]
-        if is_critical_stream:
-            return [("fault", CLOSED_CRITICAL, "connection")]
-        if stream.stream % 4 == 1 and is_forbidden(self.side):
-            return [("fault", STREAM_CREATION, "connection")]
-        if held:
-            return [("lost",)]
-        if is_done(events):
-            return []
-        is_request = self.side.is_server and stream.stream % 4 == 0 and not stream.opened
-        joins = any(event[0] == "joins" for event in events)
-        is_incomplete = is_request and not joins and not self.has_headers(stream)
-        return [("reset", INCOMPLETE if is_incomplete else None)]
-
-    def has_headers(self, stream):
-        """Returns whether HEADERS of a request came, or an error before them."""
-        around = Surroundings(True, True)
-        around.fields_of = fields_of
-        events, _ = session_events(self.side, stream.stream, stream.content, False, around)
-        names = ("request", "asked", "malformed", "large", "fault", "joins")
-        return any(event[0] in names for event in events)
-
-    def datagram_fault(self, found):
-        """Returns what is wrong with the payloads of datagrams."""
-        shown = [event for stream, event in found if stream is None]
-        if len(shown) != len(self.datagrams):
-            return f"{len(shown)} of {len(self.datagrams)} datagrams"
-        for event, content in zip(shown, self.datagrams):
-            if len(event) == 4 and event[1] != "fault" and not content.hex().endswith(
-                event[3].strip("-")
-            ):
-                return f"{event} of the datagram {content}"
-        return None
 
     def find_twins(self):
         """Returns the streams of which a connection may have only one, and has more."""
@@ -473,9 +298,3 @@ class SessionScript:
                 _, purpose = session_events(self.side, one.stream, one.content, one.fin, around)
                 purposes.setdefault(purpose, []).append(one.stream)
         return [s for kind in CRITICAL for s in purposes.get(kind, []) if len(purposes[kind]) > 1]
-
-
-def batch_of(seed, first, count):
-    """Returns the scripts of a seed from this one on."""
-    names = [f"sessions {seed} {n}" for n in range(first, first + count)]
-    return Batch([(name, SessionScript(name)) for name in names], session_events_in)

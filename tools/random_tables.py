@@ -11,11 +11,11 @@ from connection_rows import frame
 from decoder_stream import ACKNOWLEDGMENT, CANCELLATION, instructions_in
 from message_bytes import GET, OF_CLIENT, data, line, prefixed
 from random_sessions import EXTRA, STATIC
-from session_events import is_last, of_streams, session_events_in
+from whole_events import CLOSED, OUTPUTS, is_start, joined_pieces, whole_events_in
 
 CONTROL, ENCODER = 2, 6
 LIMITS = (0, 40, 100, 150, 220, 300, 500, 4096)
-UNDECODABLE, WRONG_INSTRUCTION = 0x200, 0x201
+UNDECODABLE, WRONG_INSTRUCTION, REQUEST_CANCELLED = 0x200, 0x201, 0x10C
 # The events of the sections of requests.
 SECTIONS = ("request", "trailers")
 FIELDS = (
@@ -159,14 +159,31 @@ def named(number, base, never):
 @dataclass
 class Stream:
     """The stream of a request: its bytes, how many were delivered, its sections with the offsets of
-    their ends, and how many of these a server can have read."""
+    their ends, the numbers of the commands with which a server can read them and with which it
+    ends, and whether it is reset."""
 
     content: bytes
     sections: list
     events: list
     delivered: int = 0
-    read: int = 0
+    numbers: list = field(default_factory=list)
+    ended: int = None
     is_reset: bool = False
+
+    @property
+    def read(self):
+        """How many sections a server can have read."""
+        return len(self.numbers)
+
+    def wanted_of_reset(self, shown):
+        """Returns the events of a stream that is reset, of which these were found: those of its
+        sections with the content between them, of which there may be a piece after the first."""
+        if not self.read:
+            return []
+        events = self.events[: 2 * self.read - 1]
+        if self.read == 1 and len(shown) > 1 and is_start(shown[1], ("data", b"content")):
+            events = [*events, shown[1]]
+        return [*events, ("reset", REQUEST_CANCELLED)]
 
     def is_open(self):
         return not self.is_reset and self.delivered <= len(self.content)
@@ -225,17 +242,16 @@ class RandomTables:
         more = [self.rng.choice(extra) for _ in range(self.rng.randint(0, 6))]
         first = self.encoder.section([*head, *more])
         content = frame(1, first.encoded)
-        sections, events = [(first, len(content))], [("opened", "message", 0)]
-        events.append(("request", first.fields, len(content)))
+        sections, events = [(first, len(content))], [("request", first.fields)]
         if self.rng.random() < 0.3:
             content += data(b"content")
-            events.append(("data", b"content", len(content)))
+            events.append(("data", b"content"))
             extra = [one for one in extra if one[0] != b"te"]
             last = self.encoder.section([self.rng.choice(extra) for _ in range(3)])
             content += frame(1, last.encoded)
             sections.append((last, len(content)))
-            events.append(("trailers", last.fields, len(content)))
-        events.append(("end", len(content)))
+            events.append(("trailers", last.fields))
+        events.append(("end",))
         self.streams[4 * len(self.streams)] = Stream(content, sections, events)
 
     def deliver(self):
@@ -264,6 +280,7 @@ class RandomTables:
         if is_last and (not piece or self.rng.random() < 0.5):
             stream.delivered += 1
             self.lines.append(f"end {number} {piece.hex()}".strip() + "\n")
+            stream.ended = len(self.lines) - 2
         else:
             self.lines.append(f"bytes {number} {piece.hex()}\n")
 
@@ -272,7 +289,7 @@ class RandomTables:
             section, end = stream.sections[stream.read]
             if end > stream.delivered or section.required > self.inserted:
                 return
-            stream.read += 1
+            stream.numbers.append(len(self.lines) - 2)
 
     def reset(self):
         """Resets a stream of which something came, and not its end."""
@@ -280,7 +297,7 @@ class RandomTables:
         if begun:
             number, stream = self.rng.choice(begun)
             stream.is_reset = True
-            self.lines.append(f"reset {number}\n")
+            self.lines.append(f"reset {number} {REQUEST_CANCELLED}\n")
 
     # ---- errors
 
@@ -328,33 +345,49 @@ class RandomTables:
 
     def difference(self, lines):
         """Returns what is wrong with the lines of the program, or None."""
-        told, shown = Told(self), session_events_in(lines)
-        for stream, event in shown:
-            if stream is None and event[0] == "decoder":
-                for instruction in instructions_in(bytes.fromhex(event[1])):
+        told, found = Told(self), whole_events_in(lines)
+        events, instructions = {number: [] for number in self.streams}, b""
+        for number, stream, event in found:
+            if event[0] == "decoder":
+                instructions += event[1]
+                for instruction in instructions_in(event[1] if len(instructions) > 1 else b""):
                     if fault := told.take(*instruction):
                         return fault
-            elif stream in self.streams and event[0] in SECTIONS:
-                told.note_read(stream)
-        events = of_streams([one for one in shown if one[0] is not None])
-        return self.event_fault(events) or told.end_fault()
-
-    def event_fault(self, events):
-        found = [
-            (stream, event[1])
-            for stream, some in events.items() for event in some if is_last(event)
-        ]
-        if found != ([self.fault] if self.fault else []):
-            return f"ended by {found}, and not {self.fault}"
+            elif stream in events and event[0] not in OUTPUTS:
+                events[stream].append((number, event))
+                if event[0] in SECTIONS and not told.note_read(stream):
+                    return f"stream {stream}: {event}, of no section"
+        if instructions[:1] != (b"\3" if self.encoder.limit else b""):
+            return "the decoder stream does not begin with its type"
         for number, stream in self.streams.items():
-            shown = events.get(number, [])
-            if stream.is_reset:
-                fields = [e[1] for e in shown if e[0] in SECTIONS]
-                wanted = [section.fields for section, _ in stream.sections[: stream.read]]
-                if fields != wanted or not shown or shown[-1][0] != "reset":
-                    return f"stream {number}, which was reset: {shown}, and not {wanted}"
-            elif shown != stream.events:
-                return f"stream {number}: {shown}, and not {stream.events}"
+            if fault := self.stream_fault(stream, joined_pieces(events[number])):
+                return f"stream {number}: {fault}"
+        return self.end_fault(found) or told.end_fault()
+
+    def stream_fault(self, stream, told):
+        """Returns what is wrong with what was told of a stream, or None."""
+        shown = [event for _, event in told if event[0] not in CLOSED]
+        numbers = [number for number, event in told if event[0] in (*SECTIONS, "end")]
+        wanted, is_over, due = stream.events, bool(self.fault), [*stream.numbers]
+        if stream.is_reset:
+            wanted, is_over = stream.wanted_of_reset(shown), bool(stream.read)
+        else:
+            due.append(max(stream.ended, due[-1]))
+        if shown != wanted or numbers != due:
+            return f"{told}, and not {wanted} with the commands {due}"
+        if len(told) - len(shown) != is_over or is_over and told[-1][1][0] not in CLOSED:
+            return f"it is not told to be over at last: {told}"
+        return None
+
+    def end_fault(self, found):
+        """Returns what is wrong with the end of the connection, or None."""
+        wanted = [(len(self.lines) - 2, self.fault[1])] if self.fault else []
+        for name in ("over", "closes"):
+            ends = [(number, event[1]) for number, _, event in found if event[0] == name]
+            if ends != wanted:
+                return f"it ends by {ends}, and not {wanted}"
+        if not self.fault and found[-1:] and found[-1][2] != ("held", 0):
+            return f"bytes wait at last: {found[-1]}"
         return None
 
 
@@ -368,11 +401,12 @@ class Told:
         self.cancelled = []
 
     def note_read(self, number):
-        """Notes that the next section of a stream was read."""
-        section, _ = self.connection.streams[number].sections[self.taken[number]]
+        """Notes that the next section of a stream was read. Returns whether there is one."""
+        sections = self.connection.streams[number].sections[self.taken[number] :]
         self.taken[number] += 1
-        if section.required:
-            self.due[number].append(section.required)
+        if sections and sections[0][0].required:
+            self.due[number].append(sections[0][0].required)
+        return bool(sections)
 
     def take(self, name, value):
         """Takes an instruction. Returns what is wrong with it, or None."""

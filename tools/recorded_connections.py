@@ -8,7 +8,7 @@ import json
 from dataclasses import dataclass, field
 
 from connection_model import decoder_fault, values_of
-from replay import by_streams, ends_connection
+from replay import ends_connection
 
 # The frames that are given whole, by the name of the index.
 WHOLE = {"HEADERS", "GOAWAY", "MAX_PUSH_ID"}
@@ -43,14 +43,6 @@ class Recorded:
     found: list = field(default_factory=list)
     other: list = field(default_factory=list)
 
-    def first_lines(self):
-        """Returns the lines that come before its bytes."""
-        if self.opened == REQUEST:
-            return f"request {self.stream}\ninterims {self.stream} {self.interims}\n"
-        if self.opened == SESSION:
-            return f"session {self.stream} {self.session}\n"
-        return ""
-
     def lines(self, sizes):
         """Returns the lines of its bytes, in pieces of these sizes, and of its end."""
         digits, lines, at = self.content.hex(), [], 0
@@ -68,11 +60,6 @@ class Recorded:
 
     def reset_line(self):
         return f"reset {self.stream}\n"
-
-    def is_reset_last(self):
-        """Returns whether it is reset after all else: what waits for its session would be lost."""
-        return self.ended.startswith("reset") and self.session is not None
-
 
 class Wanted:
     """What a stream has to give, from its line of the index."""
@@ -189,37 +176,9 @@ class Connection:
     def is_to_server(self):
         return self.name.endswith("c2s")
 
-    def wanted(self):
-        """Returns the events of each stream."""
-        return {stream.stream: stream.events for stream in self.streams}
-
     def sessions(self):
         """Returns the sessions to which streams belong."""
         return sorted({stream.session for stream in self.streams} - {None})
-
-    def without_errors(self):
-        """Returns the same connection without streams that end it, or None if there are none."""
-        kept = [s for s in self.streams if not any(map(ends_connection, s.events))]
-        if len(kept) == len(self.streams):
-            return None
-        other = Connection(self.name)
-        other.streams, other.datagrams = kept, self.datagrams
-        return other
-
-    def script(self, rng, size):
-        """Returns the script of a random order, in pieces of this size; of random sizes if it is
-        0."""
-        sizes = iter(lambda: size or rng.choice((1, 2, 3, 5, 8, 40, 1200)), None)
-        parts = [stream.lines(sizes) for stream in self.streams]
-        parts += [[f"known {session} open\n"] for session in self.sessions()]
-        order = [index for index, lines in enumerate(parts) for _ in lines]
-        rng.shuffle(order)
-        left = [iter(lines) for lines in parts]
-        side = "server" if self.is_to_server else "client"
-        head = [f"{side} webtransport\n", *(stream.first_lines() for stream in self.streams)]
-        last = [stream.reset_line() for stream in self.streams if stream.is_reset_last()]
-        return "".join([*head, *(next(left[index]) for index in order), *last])
-
 
 def connections_in(folder):
     """Returns the connections of a folder of recordings, each direction by itself."""
@@ -263,14 +222,3 @@ def session_of(file, found):
 def other_half(file):
     """Returns the name of the file with the other direction of a stream."""
     return file.replace("c2s", "s2c") if "c2s" in file else file.replace("s2c", "c2s")
-
-
-def consumed_fault(connection, found):
-    """Returns what is wrong with the bytes that were consumed, after no error: all but those that
-    are left over."""
-    for stream, events in by_streams(found).items():
-        if events[-1][0] == "left":
-            size = next(len(s.content) for s in connection.streams if s.stream == stream)
-            if events[-1][1] + events[-1][2] != size:
-                return f"stream {stream}: {events[-1]} of {size} bytes"
-    return None

@@ -1,22 +1,12 @@
 """Recorded connections with their messages and sessions, as an end of our own takes them: it sends
 the requests that the recorded peer answers, and answers those that it sends."""
 
-import re
-from collections import Counter
-from itertools import islice
-
-import section_bytes
-from decoder_stream import ACKNOWLEDGMENT, told_in
 from message_bytes import CONNECT, GET, OF_SERVER, section
 from message_bytes import SESSION as SESSION_REQUEST
 from message_rules import is_malformed_request
-from recorded_connections import REQUEST, SESSION, Connection, number_at
-from recorded_sessions import FIELDS, RecordedSessions, sections_in
-from session_events import of_streams
-from session_model import DECISIONS
-
-# The name of a frame in the events of an end, where it is not that of its type in capitals.
-FRAMES = {"GoAway": "GOAWAY", "Http2": "HTTP2", "WebTransport": "WEBTRANSPORT"}
+from played_ends import PlayedEnds
+from recorded_connections import REQUEST, SESSION, Connection
+from recorded_sessions import RecordedSessions, sections_in
 
 
 class RecordedEnds(RecordedSessions):
@@ -47,11 +37,14 @@ class RecordedEnds(RecordedSessions):
         0."""
         first, *lines = super().script(rng, size).splitlines(keepends=True)
         count = sum(line.startswith(("request ", "session ")) for line in lines)
-        head, lines = [f"{first.split()[0]} {self.table}\n", *lines[:count]], lines[count:]
+        head, lines = sorted(lines[:count], key=place_of), lines[count:]
+        head.insert(0, f"{first.split()[0]} {self.table}\n")
         if self.added is not None:
             head.append(f"bytes {self.added} {OF_SERVER}\n")
         elif not self.side.is_server and "session" in self.asked.values():
             head += taken_settings(lines, self.streams)
+        codes = {f"reset {s.stream}\n": f"{s.ended.split()[-1]}\n" for s in self.streams}
+        lines = [f"{one[:-1]} {codes[one]}" if one in codes else one for one in lines]
         return "".join([*head, *lines])
 
     def first_line(self, stream):
@@ -76,42 +69,16 @@ class RecordedEnds(RecordedSessions):
         other.streams, other.datagrams = part.streams, part.datagrams
         return RecordedEnds(other, self.table)
 
-    def fault(self, found):
-        """Returns what is wrong with what was found."""
-        events = [one for one in found if one[1][0] != "decoder"]
-        return super().fault(self.as_replayed(events)) or self.told_fault(found)
+    def fault(self, script, lines):
+        """Returns what is wrong with the lines of an end to which a script was played."""
+        return PlayedEnds(self, script, lines).fault()
 
-    def told_fault(self, found):
-        """Returns what is wrong with the acknowledgments (RFC 9204, section 4.4.1), or None: each
-        section that was read has one if it refers to the dynamic table."""
-        shown = of_streams(found)
-        told = Counter(value for name, value in told_in(found) if name == ACKNOWLEDGMENT)
-        for stream in self.streams:
-            events = shown.get(stream.stream, [])
-            count = sum(event[0] in FIELDS for event in events)
-            sections = islice(section_bytes.sections_in(stream.content), count)
-            due = sum(section[0] != 0 for section in sections)
-            if ("malformed",) not in events and told[stream.stream] != due:
-                return f"stream {stream.stream}: {told[stream.stream]} acknowledgments of {due}"
-        return None
 
-    def as_replayed(self, found):
-        """Returns the events as those of wt_replay: each stream of a session that the peer opened
-        joins it before anything else."""
-        shown, places = [], {stream.stream: stream for stream in self.streams}
-        is_first = {stream: events[0] for stream, events in of_streams(found).items()}
-        for stream, event in found:
-            if stream is not None and stream == self.added:
-                continue
-            if event[0] == "frame":
-                event = (event[0], frame_name(event[1]), *event[2:])
-            recorded = places.get(stream)
-            if event[0] == "fault" and event[1] in DECISIONS and is_first.get(stream) == event:
-                if recorded and recorded.session is not None and not recorded.opened:
-                    at = number_at(recorded.content, number_at(recorded.content, 0)[1])[1]
-                    shown.append((stream, ("joins", recorded.session, at)))
-            shown.append((stream, event))
-        return shown
+def place_of(line):
+    """Returns the place of a line among those of streams that are opened here: requests come first,
+    in the order of their IDs, which the connection chooses."""
+    name, number, *_ = line.split()
+    return name != "request", int(number)
 
 
 def taken_settings(lines, streams):
@@ -126,8 +93,3 @@ def taken_settings(lines, streams):
         taken.append(line)
         left -= len(line.split()[2]) // 2
     return taken
-
-
-def frame_name(name):
-    """Returns the name of a frame type in capitals."""
-    return FRAMES.get(name) or re.sub(r"(?<!^)(?=[A-Z])", "_", name).upper()

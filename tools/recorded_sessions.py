@@ -3,8 +3,7 @@ and the streams and datagrams in random orders, cut into pieces."""
 
 from connection_model import Side
 from recorded_connections import REQUEST, SESSION, Connection
-from session_events import Sessions, cut_by_session, decision_in, difference, is_done, is_last
-from session_events import of_streams
+from session_events import is_done, is_last
 from session_model import Surroundings, session_events
 
 # Settings, as the index names them.
@@ -74,35 +73,6 @@ class RecordedSessions:
             self.side, stream.stream, stream.content, fin, around, stream.opened, asked
         )
         return events
-
-    def wanted(self, shown):
-        """Returns the events of each stream, where these were found."""
-        wanted = {}
-        for stream in self.streams:
-            events = shown.get(stream.stream, [])
-            whole = self.wanted_of(stream, decision_in(events))
-            wanted[stream.stream] = cut_by_session(events, whole)
-        return wanted
-
-    def fault(self, found):
-        """Returns what is wrong with what was found."""
-        wanted = self.wanted(of_streams(found))
-        known = Sessions(self.side.is_server, self.asked, self.own)
-        return difference(found, wanted) or known.fault(found) or self.datagram_fault(found)
-
-    def datagram_fault(self, found):
-        """Returns what is wrong with the datagrams."""
-        is_over = any(is_last(event) for _, event in found)
-        shown = [event for stream, event in found if stream is None]
-        wanted = [
-            (4 * about["quarter stream id"], content[len(content) - about["bytes"] :])
-            for about, content in self.datagrams
-        ]
-        for event, (session, payload) in zip(shown, wanted):
-            is_dropped = event == ("datagram", "drop") and is_over
-            if not is_dropped and (event[1], event[3]) != (str(session), payload.hex() or "-"):
-                return f"{event}, where a datagram of session {session} came: {payload}"
-        return None if len(shown) == len(wanted) else f"{len(shown)} of {len(wanted)} datagrams"
 
     # ---- the index
 

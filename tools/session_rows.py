@@ -10,7 +10,6 @@ from connection_rows import CLOSED_CRITICAL, FRAME, ID, INCOMPLETE, MESSAGE, OTH
 from connection_rows import REQUEST, RESPONSE, ROWS, SESSION_GONE, TRAILERS, UNEXPECTED, Row
 from connection_rows import frame, number
 from message_bytes import CLOSE, CONNECT, GET, OF_CLIENT, OF_SERVER, SESSION, capsule, data, headers
-from session_events import session_events_in
 
 DATAGRAM_ERROR, UNDECODABLE = 0x33, 0x200
 LATE = 4
@@ -477,36 +476,6 @@ BESIDES = {
         (MESSAGE, "stream"), (REJECTED, "stream")
     ],
 }
-
-
-def faults_in(found):
-    """Returns the errors of events: the code of each, and what it ends."""
-    faults = []
-    for _, event in found:
-        if event[0] == "fault":
-            faults.append(event[1:])
-        elif event[0] == "malformed":
-            faults.append((MESSAGE, "stream"))
-        elif event[0] == "reset" and event[1] is not None:
-            faults.append((event[1], "stream"))
-        elif event[0] in ("datagram", "stopped") and event[1] == "fault":
-            faults.append((int(event[2]), event[3]))
-        elif event[0] == "datagram" and event[2:3] == ("end",):
-            faults.append((DATAGRAM_ERROR, "stream"))
-    return faults
-
-
-def difference(row, lines, with_neighbour):
-    """Returns what is wrong with the lines of a row, of which messages and sessions were read."""
-    found = session_events_in(lines)
-    wanted, shown = BESIDES.get(row.shows, row.faults()), faults_in(found)
-    if shown != wanted:
-        return f"wanted the errors {wanted}, found {shown}"
-    is_over = any(scope == "connection" for _, scope in shown)
-    ends = [event for stream, event in found if event[0] == "end" and (stream or 0) >= 1000]
-    if with_neighbour and (len(ends) != 1) != is_over:
-        return f"the other stream has the ends {ends}"
-    return None
 
 
 def rows():

@@ -211,6 +211,7 @@ impl End {
                 wire.signals.push_back(Signal::Stop(id, code))?;
             }
             Output::Credit(id, len) => wire.credit(id, len)?,
+            Output::Read(id, _) | Output::Prioritize(id, _) => self.check_open(id)?,
             Output::Close(code) => {
                 self.is_closed = true;
                 wire.closed = Some(code);

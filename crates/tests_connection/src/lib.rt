@@ -9,10 +9,6 @@ mod budgets;
 #[cfg(test)]
 mod datagrams;
 #[cfg(test)]
-mod holdings;
-#[cfg(test)]
-mod holds;
-#[cfg(test)]
 mod interims;
 #[cfg(test)]
 mod qpack;

@@ -1,5 +1,5 @@
 -- The IDs of streams (RFC 9000, section 2.1).
-use Rattle.std.specs.Prelude.{◌≡◌, ◌==◌, ℕ, ◌+◌, ◌%◌, ◌<◌, ◌^◌, nat_lt, Bool, true, false, if◌then◌else◌, Option, Some, None}
+use Rattle.std.specs.Prelude.{◌≡◌, ◌==◌, ℕ, ◌+◌, ◌-◌, ◌/◌, ◌%◌, ◌<◌, ◌^◌, nat_lt, Bool, true, false, if◌then◌else◌, Option, Some, None}
 use Rattle.wtp_frames.specs.declared.endpoint.Side.{Side}
 use Rattle.wtp_frames.specs.declared.endpoint.Side.TheVariants as side
 use Rattle.vesgrauf.specs.declared.output.StreamKind.{StreamKind}
@@ -33,6 +33,10 @@ next_own ids kind.Unidirectional = ids.unidirectional
 abbrev pub unopened : Ids → StreamKind → ℕ
 unopened ids kind.Bidirectional = ids.unopened_bidirectional
 unopened ids kind.Unidirectional = ids.unopened_unidirectional
+
+-- how many of a kind QUIC is to open
+abbrev pub count_unopened : Ids → StreamKind → ℕ
+count_unopened ids k = (next_own ids k - unopened ids k) / 4
 
 -- the first stream of the peer, of a kind, that was not seen
 abbrev pub next_peer : Ids → StreamKind → ℕ

@@ -1,6 +1,6 @@
 -- A connection as its contracts speak of it.
-use Rattle.std.specs.Prelude.{◌^◌, ◌≤◌, ◌+◌, ◌++◌, nat_lt, ◌≡◌, ◌⊎◌, ◌||◌, ℕ, if◌then◌else◌, Bool, true, false, is_some, List, [], ◌∷◌, length, Option, None, Some, Result, Ok, Err}
-use Rattle.std.specs.List.{list_any}
+use Rattle.std.specs.Prelude.{◌^◌, ◌≤◌, ◌+◌, ◌%◌, ◌==◌, ◌&&◌, ◌++◌, nat_lt, max, ◌≡◌, ◌⊎◌, ◌||◌, ℕ, if◌then◌else◌, Bool, true, false, not, is_some, List, [], ◌∷◌, length, Option, None, Some, Result, Ok, Err}
+use Rattle.std.specs.List.{filter, list_any}
 use Rattle.std.specs.declared.vec.Vec.{Vec}
 use Rattle.std.specs.declared.alloc.Global.{Global}
 use Rattle.std.specs.Ordering.{nat_cmp}
@@ -16,9 +16,12 @@ use Rattle.vesgrauf.specs.declared.config.Config.{Config}
 use Rattle.vesgrauf.specs.declared.critical.Critical.{Critical}
 use Rattle.vesgrauf.specs.declared.entry.Entry.{Entry}
 use Rattle.vesgrauf.specs.declared.event.Event.{Event}
+use Rattle.vesgrauf.specs.declared.event.EventKind.{EventKind}
+use Rattle.vesgrauf.specs.declared.event.EventKind.TheVariants as event
 use Rattle.vesgrauf.specs.declared.output.Output.{Output}
 use Rattle.vesgrauf.specs.declared.refused.Refused.{Refused}
 use Rattle.vesgrauf.specs.declared.refused.Refused.TheVariants as refused
+use Rattle.vesgrauf_ready.specs.declared.rank.Priority.{Priority}
 use Rattle.vesgrauf_queue.specs.Steps.{Does, Refuses}
 use Rattle.vesgrauf_stream.specs.declared.error.NotSent.{NotSent}
 use Rattle.vesgrauf_stream.specs.Writing.{RefusesContent, RefusesBy, Ends as EndsHalf, content_at, session_at, message_at, head_by, is_finished, is_none}
@@ -31,6 +34,9 @@ use Rattle.wtp_connection.specs.Streams.{known_alone}
 use Rattle.wtp_webtransport.specs.Sessions.{known_of}
 use Rattle.vesgrauf_queue.specs.State.{is_full, Shows}
 use Rattle.vesgrauf.specs.Streams.{IsDue, is_it, Says}
+use Rattle.vesgrauf.specs.Codes.{number_of}
+use Rattle.vesgrauf.specs.declared.code.StreamCode.{StreamCode}
+use Rattle.vesgrauf.specs.declared.code.StreamCode.TheVariants as codes
 use Rattle.vesgrauf.specs.declared.output.Scope.{Scope}
 use Rattle.vesgrauf.specs.declared.output.Shutdown.{Shutdown}
 use Rattle.vesgrauf.specs.declared.output.Shutdown.TheVariants as shutdown
@@ -41,7 +47,8 @@ use Rattle.vesgrauf_stream.specs.declared.error.NotSent.TheVariants as error
 use Rattle.wtp_sending.specs.declared.error.SendError.{SendError}
 use Rattle.wtp_sending.specs.declared.error.SendError.TheVariants as sending
 use Rattle.vesgrauf.specs.declared.output.Output.TheVariants as output
-use Rattle.vesgrauf.specs.Ids.{kind_of, to_open, was, blocked}
+use Rattle.vesgrauf.specs.Ids.{kind_of, to_open, was, blocked, count_unopened}
+use Rattle.vesgrauf.specs.declared.output.StreamKind.{StreamKind}
 use Rattle.wtp_connection.specs.declared.budget.RequestBudget.{RequestBudget}
 use Rattle.wtp_sending.specs.declared.control.ControlSending.{ControlSending}
 use Rattle.wtp_webtransport.specs.declared.connection.Connection.{Connection as Shared}
@@ -62,6 +69,7 @@ pub record View : Type 0 where
   pub budget : RequestBudget
   pub sessions : ℕ
   pub peer_decoder : Option ℕ
+  pub is_blocked : Bool
   pub is_configured : Bool
   pub is_leaving : Bool
   pub ended : Option Ended
@@ -83,6 +91,7 @@ view_of c = record {
   budget = c.budget;
   sessions = c.sessions;
   peer_decoder = c.peer_decoder;
+  is_blocked = c.is_blocked;
   is_configured = c.is_configured;
   is_leaving = c.is_leaving;
   ended = c.ended;
@@ -114,16 +123,38 @@ abbrev pub Changes : ℕ → (Writing → Writing → Type 0) → Connection →
 Changes id How c d = Of (stream_at c id)
     (λ e. (w : Writing) × How e.writing w × (view_of d ≡ with_stream (view_of c) id (record e { writing = w })))
 
+-- an output is queued, if this is so
+abbrev pub with_output : Bool → Output → View → View
+with_output true o v = record v { outputs = v.outputs ++ (o ∷ []) }
+with_output false o v = v
+
+abbrev pub differs : Bool → Bool → Bool
+differs true b = not b
+differs false b = b
+
+-- there is such a stream, and it is paused or not; QUIC is told so if that changes and it has opened the stream
+abbrev pub Pauses : ℕ → Bool → Connection → Connection → Type 0
+Pauses id p c d = Of (stream_at c id)
+    (λ e. view_of d ≡ with_output (e.is_opened && differs e.is_paused p) (output.Read id (not p))
+    (with_stream (view_of c) id (record e { is_paused = p })))
+
+-- there is such a stream, it has this priority, and QUIC is told so if it has opened the stream
+abbrev pub Prioritizes : ℕ → Priority → Connection → Connection → Type 0
+Prioritizes id p c d = Of (stream_at c id)
+    (λ e. view_of d ≡ with_output e.is_opened (output.Prioritize id p)
+    (with_stream (view_of c) id (record e { priority = p })))
+
 -- the connection ended
 abbrev pub is_over : Connection → Bool
 is_over c = is_some c.ended
 
 -- ---- sessions
 
--- What is known of a session of which no stream is left: a client knows which of its requests asked for one.
+-- What is known of a session of which no stream is left: at a client all of its requests are over. No other ID is one of a
+-- session (draft-ietf-webtrans-http3-02, section 4).
 abbrev pub known_else : Side → Connection → ℕ → Known
 known_else Server c id = known_alone c.shared.streams id
-known_else Client c id = if list_any (is_at (nat_cmp id)) c.asked.keys then known.Over else known.Impossible
+known_else Client c id = if id % 4 == 0 && was c.ids id then known.Over else known.Impossible
 
 abbrev pub known_by : Option Entry → Connection → ℕ → Known
 known_by (Some e) c id = known_of c.shared e.reading.stream
@@ -139,6 +170,33 @@ open_of _ = Err refused.NotOpen
 
 abbrev pub open_session : Connection → ℕ → Result (Unit {0}) Refused
 open_session c id = if is_over c then Err refused.Closed else open_of (known_in c id)
+
+-- ---- own streams that QUIC is to open
+
+-- fewer of a kind wait than may, of which there is at least one
+abbrev pub may_wait : Connection → StreamKind → Bool
+may_wait c k = nat_lt (count_unopened c.ids k) (max c.config.max_unopened 1)
+
+abbrev pub room_for : Connection → StreamKind → Result (Unit {0}) Refused
+room_for c k = if may_wait c k then Ok tt else Err refused.Full
+
+-- ---- codes of resets and stops
+
+-- on a stream of a session the application's, and on any other one of HTTP/3
+abbrev pub fits : Bool → StreamCode → Bool
+fits in_session (codes.Http n) = not in_session
+fits in_session (codes.Application n) = in_session
+
+abbrev pub code_by : Option Entry → StreamCode → Result ℕ Refused
+code_by None c = Err refused.NoStream
+code_by (Some e) c =
+    if e.is_quiet then Err refused.NoStream
+    else if fits (is_some e.session) c then Ok (number_of c)
+    else Err refused.WrongCode
+
+-- the number that QUIC sends for one on this stream, or why it is refused
+abbrev pub code_on : Connection → ℕ → StreamCode → Result ℕ Refused
+code_on c id k = if is_over c then Err refused.Closed else code_by (stream_at c id) k
 
 -- ---- what QUIC is to do
 
@@ -190,10 +248,11 @@ blocked_in c id b =
     else if is_it id c.encoder.id then record (view_of c) { encoder = with_block b c.encoder }
     else blocked_by (stream_at c id) (view_of c) id b
 
--- the same of streams of a kind that are to be opened
+-- the same of streams of a kind that are to be opened, and of all streams
 abbrev pub blocked_at : Scope → Connection → Bool → View
 blocked_at (scope.Stream id) c b = blocked_in c id b
 blocked_at (scope.Kind k) c b = record (view_of c) { ids = blocked c.ids k b }
+blocked_at scope.All c b = record (view_of c) { is_blocked = b }
 
 -- ---- calls on the own half of a stream
 
@@ -243,6 +302,10 @@ abbrev pub RefusesBytes : ℕ → Bool → Writing → Refused → Type 0
 RefusesBytes n fin w refused.Full = (w.queue.ending ≡ Open) × (is_full w.queue ≡ true)
 RefusesBytes n fin w e = IsFor (λ v x. RefusesContent v n fin x) w e
 
+-- the program was told that a stream is full, and the `Writable` is still to come
+abbrev pub was_told_full : Connection → ℕ → Bool
+was_told_full c id = list_any (is_at (nat_cmp id)) c.full.keys
+
 -- so it changes nothing of a stream, but that a `Writable` is owed if it is full
 abbrev pub StaysOf : Refused → Entry → Entry → Type 0
 StaysOf refused.Full e f = OwnHalf Owes e f
@@ -271,11 +334,20 @@ RefusesDrain w e = IsFor (λ v x. RefusesBy (session_at v) v (length drain_wire)
 
 -- ---- the end of the connection
 
--- It ends with this code, which QUIC is to close it with: what was to be told or done is dropped.
+-- the last event of a stream
+abbrev pub is_closed : EventKind → Bool
+is_closed (event.Closed why) = true
+is_closed other = false
+
+abbrev pub closes_stream : Event → Bool
+closes_stream e = is_closed e.kind
+
+-- It ends with this code, which QUIC is to close it with: what was to be told or done is dropped, but for the last events of
+-- streams.
 abbrev pub with_end : ℕ → Shared → View → View
 with_end code shared v = record v {
   shared = shared;
-  events = [];
+  events = filter closes_stream v.events;
   outputs = [];
   ended = Some (record { code = code; by_peer = false; is_told = false });
   closes = Some code;

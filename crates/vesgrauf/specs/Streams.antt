@@ -33,6 +33,8 @@ new_entry r p w = record {
   has_tunnel = false;
   is_quiet = false;
   withheld = 0;
+  since = 0;
+  offset = 0;
   stops = None;
   stopped = None;
 }

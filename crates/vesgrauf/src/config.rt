@@ -2,6 +2,16 @@
 use vesgrauf_queue::config::QueueConfig;
 use wtp_frames::endpoint::Side;
 
+/// What a server does with a request that is malformed, or of which a field section is too large.
+#[derive(Clone, Copy, Debug, PartialEq, Eq)]
+pub enum OnMalformed {
+    /// It resets the stream: a malformed one with H3_MESSAGE_ERROR, one that is too large with H3_EXCESSIVE_LOAD.
+    Reset,
+    /// If no final response was sent, it responds with status 400 (Bad Request), or 431 (Request Header Fields Too Large),
+    /// and stops the rest of the request with H3_MESSAGE_ERROR, or H3_NO_ERROR (RFC 9114, sections 4.1.2 and 4.2.2).
+    Answer,
+}
+
 /// What a connection announces in its SETTINGS, and its limits.
 #[derive(Clone, Copy)]
 pub struct Config {
@@ -32,16 +42,24 @@ pub struct Config {
     /// How many streams the peer may open beyond those that it has opened. A stream above them ends the connection with
     /// H3_INTERNAL_ERROR. QUIC's own limit is lower.
     pub max_streams: u64,
-    /// How many bytes of one stream may wait until they can be read. One more is an error, by what the stream is for.
+    /// How many own streams of each kind may wait until QUIC opens them. One more is refused as `Full`. At least 1.
+    pub max_unopened: u64,
+    /// How many bytes of one stream QUIC's windows are extended by before they can be read. One more of a frame that is
+    /// cut is an error, by what the stream is for. Those of a stream that waits, for the dynamic table, its session,
+    /// SETTINGS or an answer, are held back from there on: QUIC's windows are extended once they are read or dropped.
     pub receive_buffer: usize,
-    /// The same of all streams together. One more ends the connection with H3_EXCESSIVE_LOAD.
+    /// The same of all streams together: one more of a frame that is cut ends the connection with H3_EXCESSIVE_LOAD.
+    /// Streams that wait use at most half of it.
     pub receive_buffer_all: usize,
-    /// How many bytes of a stream that the program [pauses](crate::connection::Connection::pause) may come: QUIC's
-    /// window of a stream, which is not extended meanwhile.
+    /// How many bytes of a stream may be held back, because it waits or the program
+    /// [pauses](crate::connection::Connection::pause) it: at least QUIC's window of a stream, which is not extended by
+    /// them. One more is an error, by what the stream is for.
     pub max_paused: usize,
     /// How many bytes may be queued on one stream before [`send`](crate::connection::Connection::send) says that it is
     /// full.
     pub send_buffer: usize,
+    /// What a server does with a request that is malformed, or of which a field section is too large.
+    pub on_malformed: OnMalformed,
     /// How many datagrams may be queued.
     pub datagram_queue: usize,
     /// Whether the bytes that QUIC took stay in place until they are acknowledged: for a QUIC library that keeps
@@ -52,6 +70,9 @@ pub struct Config {
     pub bound_by_acked: bool,
     /// One turn of how many goes round all streams, so that none starves. At least 1.
     pub fair: u64,
+    /// Whether an event [`Failed`](crate::event::EventKind) tells of each rule that the peer violates on a stream, also
+    /// of one that the program does not know of, such as that of a malformed request: for a log, or a tool.
+    pub tells_failures: bool,
 }
 
 impl Config {
@@ -88,14 +109,17 @@ impl Config {
             max_sessions: 100,
             max_resets: 100,
             max_streams: 1000,
+            max_unopened: 100,
             receive_buffer: 65_551,
             receive_buffer_all: 262_144,
             max_paused: 1_048_576,
             send_buffer: 65_536,
+            on_malformed: OnMalformed::Reset,
             datagram_queue: 64,
             keep_until_acked: false,
             bound_by_acked: false,
             fair: 16,
+            tells_failures: false,
         }
     }
 

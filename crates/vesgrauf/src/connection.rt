@@ -4,10 +4,13 @@ mod closing;
 mod control;
 mod datagrams;
 mod endings;
+mod failing;
 mod heard;
 mod ids;
+mod malformed;
 mod messages;
 mod opening;
+mod quick;
 mod reading;
 mod sending;
 mod sessions;
@@ -17,19 +20,19 @@ use crate::config::Config;
 use crate::connection::ids::Ids;
 use crate::critical::Critical;
 use crate::entry::{Entry, Member};
-use crate::event::{Event, EventKind};
+use crate::event::{Event, EventKind, Failure};
 use crate::input::{Input, Report};
 use crate::output::Output;
 use std::alloc::{AllocError, AllocFailed, Global};
 use std::collections::{BTreeMap, BTreeSet, VecDeque};
 use vesgrauf_ready::ready::Ready;
+use vesgrauf_stream::early::EarlyDatagrams;
 use vesgrauf_stream::tools::Tools;
 use wtp_connection::budget::RequestBudget;
 use wtp_connection::settings::PeerSettings;
 use wtp_core::error::Code;
 use wtp_dynamic_decoder::decoder::QpackDecoder;
 use wtp_frames::endpoint::{Endpoint, Side};
-use wtp_hold::early::EarlyDatagrams;
 use wtp_sending::control::ControlSending;
 use wtp_webtransport::connection::Connection as Shared;
 use wtp_webtransport::fault::Fault;
@@ -50,8 +53,6 @@ pub struct Connection {
     streams: BTreeMap<u64, Entry>,
     /// The streams of sessions.
     members: BTreeSet<Member>,
-    /// At a client, the streams of its requests for sessions.
-    asked: BTreeSet<u64>,
     /// The streams that wait, or are paused.
     waiting: BTreeSet<u64>,
     /// The streams of which a `Writable` is owed.
@@ -78,14 +79,20 @@ pub struct Connection {
     /// How many streams are the peer's critical or ignored ones.
     quiet: usize,
     pending: Pending,
-    /// How many bytes are kept of all streams.
+    /// How many bytes are kept of all streams that QUIC's windows were extended by.
     held: usize,
+    /// How often the program said that time has passed.
+    ticks: u64,
+    /// Whether QUIC takes nothing of any stream.
+    is_blocked: bool,
     /// Whether SETTINGS of the peer came.
     is_configured: bool,
     /// Whether the last GOAWAY was sent.
     is_leaving: bool,
     /// How the connection ended.
     ended: Option<Ended>,
+    /// The rule by whose violation it did.
+    failure: Option<Failure>,
     /// The code with which QUIC is to close the connection.
     closes: Option<u64>,
 }
@@ -101,6 +108,9 @@ struct Pending {
     cursor: u64,
     /// Whether there may be room on a stream that was full.
     has_room: bool,
+    /// Whether an `Openable` is owed, of each kind of streams.
+    owes_bidirectional: bool,
+    owes_unidirectional: bool,
     /// Whether the own encoder is to begin.
     begins_table: bool,
     /// The first request that a server does not process, if streams are to be told so.
@@ -115,6 +125,8 @@ impl Pending {
             is_woken: false,
             cursor: 0,
             has_room: false,
+            owes_bidirectional: false,
+            owes_unidirectional: false,
             begins_table: false,
             unprocessed: None,
         }
@@ -130,7 +142,9 @@ struct DatagramQueue {
     /// Whether a `DatagramsWritable` is owed.
     is_owed: bool,
     early: EarlyDatagrams,
-    /// Sessions that were opened, whose early datagrams are to be given.
+    /// Those that came before the last tick.
+    aged: EarlyDatagrams,
+    /// Sessions that were opened or refused, whose early datagrams are to be given or dropped.
     opened: VecDeque<u64>,
 }
 
@@ -142,6 +156,7 @@ impl DatagramQueue {
             limit: 65_535,
             is_owed: false,
             early: EarlyDatagrams::new(alloc),
+            aged: EarlyDatagrams::new(alloc),
             opened: VecDeque::new(alloc),
         }
     }
@@ -161,8 +176,8 @@ struct Ended {
 enum Stop {
     /// Memory was refused: nothing changed.
     Memory,
-    /// An error ends the connection.
-    Broken(u64),
+    /// An error ends the connection, with this code: that of the peer's fault, if it is one.
+    Broken(u64, Option<Fault>),
 }
 
 impl From<AllocError> for Stop {
@@ -179,13 +194,13 @@ impl<T: Drop> From<AllocFailed<T>> for Stop {
 
 impl From<Fault> for Stop {
     fn from(fault: Fault) -> Stop {
-        Stop::Broken(fault.code().number().into_inner())
+        Stop::Broken(fault.code().number().into_inner(), Some(fault))
     }
 }
 
 // The end of the connection by an error of this endpoint or of its QUIC library.
 fn internal() -> Stop {
-    Stop::Broken(Code::H3_INTERNAL_ERROR.number().into_inner())
+    Stop::Broken(Code::H3_INTERNAL_ERROR.number().into_inner(), None)
 }
 
 /// What a step did.
@@ -200,6 +215,8 @@ enum Step<'a> {
 }
 
 impl Connection {
+    ghost use Rattle.vesgrauf.specs.Own.{Untouched};
+    ghost use Rattle.vesgrauf.specs.declared.config.OnMalformed.TheVariants as chosen;
     ghost use Rattle.std.specs.Prelude.{◌≡◌, if◌then◌else◌, Some, None};
 
     /// Creates a connection. Its first outputs open its control stream and, with a dynamic table, its decoder stream.
@@ -217,7 +234,6 @@ impl Connection {
             tools: Tools::new(alloc),
             streams: BTreeMap::new(alloc),
             members: BTreeSet::new(alloc),
-            asked: BTreeSet::new(alloc),
             waiting: BTreeSet::new(alloc),
             full: BTreeSet::new(alloc),
             ready: Ready::new(alloc, config.fair.max(1)),
@@ -236,9 +252,12 @@ impl Connection {
             quiet: 0,
             pending: Pending::nothing(),
             held: 0,
+            ticks: 0,
+            is_blocked: false,
             is_configured: false,
             is_leaving: false,
             ended: None,
+            failure: None,
             closes: None,
         };
         connection.begin()?;
@@ -253,14 +272,34 @@ impl Connection {
     /// # Errors
     ///
     /// If memory is refused: nothing is lost, the input stays as it is, and the call is to be made again.
-    pub fn next_event<'a>(
-        &mut self,
-        input: &mut Input<'a>,
-    ) -> Result<Option<Event<'a>>, AllocError> {
+    pub fn next_event<'a>(&mut self, input: &mut Input<'a>) -> Result<Option<Event<'a>>, AllocError>
+        ensures own { self.old.config.on_malformed ≡ chosen.Reset → Untouched self.old.streams.entries self.new.streams.entries }
+        ensures config { self.new.config ≡ self.old.config }
+    {
+        if self.is_quiet() {
+            match input.report {
+                Report::Nothing => {
+                    if self.is_still() {
+                        return Ok(None);
+                    }
+                }
+                Report::Stream(id) => return self.read_at_once(id, input),
+                _ => {}
+            }
+        }
+        self.next_by_steps(input)
+    }
+
+    // Returns the next event, as `next_event` does, by as many steps as it takes.
+    fn next_by_steps<'a>(&mut self, input: &mut Input<'a>) -> Result<Option<Event<'a>>, AllocError>
+        ensures own { self.old.config.on_malformed ≡ chosen.Reset → Untouched self.old.streams.entries self.new.streams.entries }
+        ensures config { self.new.config ≡ self.old.config }
+    {
         for _step in 0..u64::MAX {
             if let Some(event) = self.events.pop_front() {
                 return Ok(Some(self.numbered(event)));
             }
+            let stream = self.stream_at_hand(input);
             let step = match self.ended {
                 Some(ended) => Ok(self.step_after_end(ended, input)),
                 None => self.step(input),
@@ -270,7 +309,7 @@ impl Connection {
                 Ok(Step::Nothing) => return Ok(None),
                 Ok(Step::More) => {}
                 Err(Stop::Memory) => return Err(AllocError),
-                Err(Stop::Broken(code)) => self.break_off(code),
+                Err(Stop::Broken(code, fault)) => self.fail(stream, code, fault),
             }
         }
         Ok(None)
@@ -289,8 +328,14 @@ impl Connection {
     }
 
     // Takes one step.
-    fn step<'a>(&mut self, input: &mut Input<'a>) -> Result<Step<'a>, Stop> {
+    fn step<'a>(&mut self, input: &mut Input<'a>) -> Result<Step<'a>, Stop>
+        ensures own { self.old.config.on_malformed ≡ chosen.Reset → Untouched self.old.streams.entries self.new.streams.entries }
+        ensures config { self.new.config ≡ self.old.config }
+    {
         self.prepare()?;
+        if let Some(session) = self.session_opened() {
+            return Ok(self.step_opened(session));
+        }
         if let Some(id) = self.pending.resumed {
             return self.read_kept(id);
         }
@@ -307,7 +352,10 @@ impl Connection {
     }
 
     // Takes in a report without bytes.
-    fn report_came(&mut self, report: Report) -> Result<(), Stop> {
+    fn report_came(&mut self, report: Report) -> Result<(), Stop>
+        ensures own { Untouched self.old.streams.entries self.new.streams.entries }
+        ensures config { self.new.config ≡ self.old.config }
+    {
         match report {
             Report::Nothing | Report::Stream(_) | Report::Datagram => Ok(()),
             Report::Reset(id, code) => self.reset_came(id, code),
@@ -318,6 +366,7 @@ impl Connection {
                 Ok(())
             }
             Report::ConnectionClosed(code) => {
+                self.datagrams.queue.clear();
                 self.ended = Some(Ended {
                     code,
                     by_peer: true,
@@ -330,17 +379,20 @@ impl Connection {
     }
 
     // Does what is due before anything else, and reserves the memory that a step takes.
-    fn prepare(&mut self) -> Result<(), Stop> {
+    fn prepare(&mut self) -> Result<(), Stop>
+        ensures own { Untouched self.old.streams.entries self.new.streams.entries }
+        ensures config { self.new.config ≡ self.old.config }
+    {
         self.reserve_all()?;
         self.begin_table()?;
         self.queue_instructions()
     }
 
     // Takes a step without an input.
-    fn step_alone<'a>(&mut self) -> Result<Step<'a>, Stop> {
-        if let Some(step) = self.give_early() {
-            return Ok(step);
-        }
+    fn step_alone<'a>(&mut self) -> Result<Step<'a>, Stop>
+        ensures own { Untouched self.old.streams.entries self.new.streams.entries }
+        ensures config { self.new.config ≡ self.old.config }
+    {
         if let Some(first) = self.pending.unprocessed {
             return self.leave_unprocessed(first);
         }

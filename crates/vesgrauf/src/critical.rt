@@ -2,6 +2,7 @@
 use crate::output::Next;
 use std::alloc::Global;
 use vesgrauf_queue::config::QueueConfig;
+use vesgrauf_queue::ending::Ending;
 use vesgrauf_queue::error::{NotQueued, NotShown};
 use vesgrauf_queue::queue::Queue;
 use vesgrauf_queue::spares::Spares;
@@ -54,7 +55,7 @@ impl Critical {
     pub(crate) fn is_idle(&self) -> bool
         ensures { IsTrue result ↔ IsIdle self.now.queue }
     {
-        self.queue.next().is_none()
+        !self.queue.has_waiting() && !matches!(self.queue.ending(), Ending::Finishing)
     }
 
     // Returns whether QUIC may take bytes, and there are some.

@@ -61,6 +61,10 @@ pub(crate) struct Entry {
     pub(crate) is_quiet: bool,
     /// How many of the bytes that are kept QUIC's windows were not extended by.
     pub(crate) withheld: usize,
+    /// How many ticks there were when it named its session.
+    pub(crate) since: u64,
+    /// How many bytes of it were read, up to an error.
+    pub(crate) offset: u64,
     /// What the peer is asked to stop it with, once QUIC has opened it.
     pub(crate) stops: Option<u64>,
     /// What the peer asked to stop the own half with, before the program knew of the stream.
@@ -68,10 +72,12 @@ pub(crate) struct Entry {
 }
 
 impl Entry {
-    ghost use Rattle.std.specs.Prelude.{◌≡◌, ◌&&◌, ◌↔◌, not, if◌then◌else◌, Some, IsTrue, IfOk, IfErr, length};
+    ghost use Rattle.std.specs.Prelude.{◌≡◌, ◌-◌, ◌&&◌, ◌↔◌, true, not, if◌then◌else◌, Some, IsTrue, IfOk, IfErr, length};
+    ghost use Rattle.vesgrauf_stream.specs.Reading.{kept_of};
     ghost use Rattle.vesgrauf_stream.specs.Writing.{Sends};
     ghost use Rattle.vesgrauf.specs.State.{OwnHalf, RefusesBytes, StaysOf};
     ghost use Rattle.vesgrauf_queue.specs.State.{IsIdle};
+    ghost use Rattle.vesgrauf.specs.declared.refused.Refused.TheVariants as refused;
     ghost use Rattle.vesgrauf.specs.Streams.{new_entry, kind_of_entry, may_send as may_send_is, is_done as is_done_is, shown_session};
 
     // Creates the entry of a stream of which nothing came.
@@ -97,6 +103,8 @@ impl Entry {
             has_tunnel: false,
             is_quiet: false,
             withheld: 0,
+            since: 0,
+            offset: 0,
             stops: None,
             stopped: None,
         }
@@ -107,6 +115,13 @@ impl Entry {
         ensures { result ≡ kind_of_entry self.now }
     {
         Kind::Message(self.priority)
+    }
+
+    // Returns whether it has another priority than it has unless the program says so.
+    pub(crate) fn is_prioritized(&self) -> bool {
+        let is_shared = self.is_session || self.has_tunnel || self.session.is_some();
+        let usual = if is_shared { SHARED } else { Priority::DEFAULT };
+        self.priority != usual
     }
 
     // Returns whether QUIC may take bytes of it.
@@ -120,7 +135,10 @@ impl Entry {
     pub(crate) fn has_more(&self) -> bool
         ensures { IsTrue result ↔ ¬ (IsIdle self.now.writing.queue) }
     {
-        self.writing.next().is_some()
+        if self.writing.has_waiting() {
+            return true;
+        }
+        self.writing.is_ended() && self.writing.next().is_some()
     }
 
     // Returns whether both halves are over, and QUIC took what was queued.
@@ -130,18 +148,21 @@ impl Entry {
         self.peer == Peer::Over && self.is_opened && self.writing.is_done()
     }
 
-    // Queues content, or bytes of a stream of a session, unless the stream is full.
+    // Queues content, or bytes of a stream of a session. Where the program was told that the stream is full, they are
+    // refused as long as it is.
     pub(crate) fn send(
         &mut self,
         spares: &mut Spares,
         bytes: &[u8],
         fin: bool,
+        was_full: bool,
     ) -> Result<bool, Refused>
         ensures ok { IfOk result (λ room. OwnHalf (Sends bytes.now fin room) self.old self.new) }
         ensures why { IfErr result (λ e. RefusesBytes (length bytes.now) fin self.old.writing e) }
+        ensures told { IfErr result (λ e. e ≡ refused.Full → was_full ≡ true) }
         ensures kept { IfErr result (λ e. StaysOf e self.old self.new) }
     {
-        if !self.writing.admits() {
+        if was_full && !self.writing.admits() {
             return Err(Refused::Full);
         }
         Ok(self.writing.send(spares, bytes, fin)?)
@@ -153,13 +174,15 @@ impl Entry {
         spares: &mut Spares,
         bytes: Vec<u8>,
         fin: bool,
+        was_full: bool,
     ) -> Result<bool, NotSent>
         ensures ok { IfOk result (λ room. OwnHalf (Sends bytes.items fin room) self.old self.new) }
         ensures why { IfErr result (λ e. RefusesBytes (length bytes.items) fin self.old.writing e.why) }
+        ensures told { IfErr result (λ e. e.why ≡ refused.Full → was_full ≡ true) }
         ensures kept { IfErr result (λ e. StaysOf e.why self.old self.new) }
         ensures bytes { IfErr result (λ e. e.bytes ≡ bytes) }
     {
-        if !self.writing.admits() {
+        if was_full && !self.writing.admits() {
             return Err(NotSent {
                 why: Refused::Full,
                 bytes,
@@ -172,6 +195,13 @@ impl Entry {
                 bytes: refused.bytes,
             }),
         }
+    }
+
+    // Returns how many of the bytes that are kept QUIC's windows were extended by.
+    pub(crate) fn credited(&self) -> usize
+        ensures { result ≡ length (kept_of self.now.reading) - self.now.withheld }
+    {
+        self.reading.len().saturating_sub(self.withheld)
     }
 
     // Returns the session of the stream with this ID, as events show it.

@@ -1,4 +1,5 @@
 //! What happened.
+use crate::code::StreamCode;
 use crate::output::StreamKind;
 use vesgrauf_stream::bytes::Bytes as Piece;
 pub use vesgrauf_stream::bytes::Bytes;
@@ -37,8 +38,8 @@ pub enum EventKind<'a> {
     Ready(PeerSettings),
     /// GOAWAY of the peer came, with this ID (RFC 9114, section 5.2).
     GoAway(u64),
-    /// After [`shutdown`](crate::connection::Connection::shutdown): nothing is left. The connection closes with
-    /// H3_NO_ERROR.
+    /// After [`shutdown`](crate::connection::Connection::shutdown): nothing is left, and what was queued is
+    /// sent, datagrams too. The connection closes with H3_NO_ERROR.
     Idle,
     /// The connection is closed, with this code, by the peer or here. It is the last event.
     ConnectionClosed(u64, bool),
@@ -62,16 +63,44 @@ pub enum EventKind<'a> {
     Datagram(Piece<'a>),
     /// The peer asks to end the session soon.
     Draining,
-    /// The peer reset the stream, with this code: the application's, on a stream of a session.
-    Reset(u64),
+    /// The peer reset the stream, with this code.
+    Reset(StreamCode),
     /// The peer asked to stop the own half, with this code. It is reset.
-    Stopped(u64),
+    Stopped(StreamCode),
+    /// The peer violated a rule on the stream, of which the program may not know. It comes if
+    /// [`tells_failures`](crate::config::Config) is set, before the `Closed` of a stream that the program knows of.
+    Failed(Failure),
     /// There is room again on the stream.
     Writable,
     /// There is room again for datagrams.
     DatagramsWritable,
+    /// There is room again for own streams of this kind.
+    Openable(StreamKind),
     /// The stream is over. It is the last event of the stream: each that the program was told of, or opened, has one.
     Closed(Why),
+}
+
+/// A rule that the peer violated, and where.
+#[derive(Clone, Copy, Debug, PartialEq, Eq)]
+pub struct Failure {
+    /// The rule.
+    pub rule: Rule,
+    /// The stream, or `None` if it was a datagram.
+    pub stream: Option<u64>,
+    /// How many bytes of the stream were read before those that violate the rule: up to their frame, or their part of it.
+    pub offset: u64,
+}
+
+/// A rule that the peer violated.
+#[derive(Clone, Copy, Debug, PartialEq, Eq)]
+pub enum Rule {
+    /// A rule of streams, of frames, of QPACK, of sessions or of datagrams.
+    /// [`Rejected`](Fault::Rejected) is none that the peer violated.
+    Fault(Fault),
+    /// A rule of messages (RFC 9114, section 4.1.2).
+    Malformed(Malformed),
+    /// A field section is larger than the limits.
+    TooLarge,
 }
 
 /// Why a stream is over.

@@ -120,6 +120,13 @@ impl<'a> Input<'a> {
         self.credit
     }
 
+    // Counts what was taken in of `len` bytes.
+    pub(crate) fn count(&mut self, len: usize) {
+        self.credit = self
+            .credit
+            .saturating_add(len.saturating_sub(self.chunk.len()));
+    }
+
     // Drops what is not taken in, and counts it.
     pub(crate) fn drop_rest(&mut self) {
         self.credit = self.credit.saturating_add(self.chunk.len());

@@ -7,6 +7,7 @@
 //! [`next_datagram`](connection::Connection::next_datagram).
 #![tactic(auto)]
 
+pub mod code;
 pub mod config;
 pub mod connection;
 pub(crate) mod critical;
@@ -20,8 +21,10 @@ pub use vesgrauf_ready::rank::Priority;
 pub use wtp_connection::settings::PeerSettings;
 pub use wtp_core::error::Code;
 pub use wtp_core::ids::StatusCode;
+pub use wtp_core::varint::VarInt;
 pub use wtp_fields::fields::FieldList;
 pub use wtp_frames::endpoint::Side;
 pub use wtp_messages::malformed::Malformed;
 pub use wtp_webtransport::close::Close;
+pub use wtp_webtransport::event::Waits;
 pub use wtp_webtransport::fault::Fault;

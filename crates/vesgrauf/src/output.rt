@@ -1,4 +1,5 @@
 //! What QUIC is to do.
+use vesgrauf_ready::rank::Priority;
 
 /// What QUIC is to do.
 #[derive(Clone, Copy, Debug, PartialEq, Eq)]
@@ -16,8 +17,15 @@ pub enum Output {
     Reset(u64, u64),
     /// Ask the peer to stop a stream, with this code.
     StopSending(u64, u64),
-    /// Extend QUIC's windows of a stream and of the connection by so many bytes, which had waited.
+    /// Extend QUIC's windows of a stream and of the connection by so many bytes, which had waited or were held back by
+    /// a pause. If QUIC has closed the stream, that of the connection alone.
     Credit(u64, usize),
+    /// Read what came on a stream, or leave it in QUIC for now, as a pause asks: for a QUIC library from which a program
+    /// reads. It may be ignored, and the stream may be forgotten.
+    Read(u64, bool),
+    /// A stream has this priority now: for a QUIC library that decides itself whose turn it is. It may be ignored, and the
+    /// stream may be forgotten.
+    Prioritize(u64, Priority),
     /// Close the connection, with this code.
     Close(u64),
 }
@@ -54,6 +62,8 @@ pub enum Scope {
     Stream(u64),
     /// Streams of a kind that are to be opened.
     Kind(StreamKind),
+    /// All streams, as without a window of the connection. They may still be opened, reset and stopped.
+    All,
 }
 
 /// Bytes that QUIC is to send.
@@ -85,7 +95,7 @@ pub struct Stats {
     pub streams: usize,
     /// How many sessions there are, or may come to be.
     pub sessions: u32,
-    /// How many bytes of streams that are not paused wait until they can be read.
+    /// How many bytes are kept until they can be read, of those that QUIC's windows were extended by.
     pub held: usize,
     /// How many datagrams are queued.
     pub datagrams: usize,

@@ -17,9 +17,13 @@ pub enum Refused {
     /// The own half was finished or reset.
     #[error("the own half of the stream is over")]
     Over,
-    /// As many bytes are queued as `send_buffer` says: a `Writable` follows.
-    #[error("the stream is full")]
+    /// As many bytes are queued as `send_buffer` says: a `Writable` follows. Or as many own streams wait as
+    /// `max_unopened` says: an `Openable` follows.
+    #[error("there is no room for now")]
     Full,
+    /// An application's code is for a stream of a session, and a code of HTTP/3 for any other.
+    #[error("the code is of another kind of stream")]
+    WrongCode,
     /// It is a call of the other side.
     #[error("this is a call of the other side")]
     WrongSide,

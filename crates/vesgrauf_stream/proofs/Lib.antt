@@ -5,3 +5,4 @@ pub mod HeadersLemmas
 pub mod SaidLemmas
 pub mod CallLemmas
 pub mod ReadBackLemmas
+pub mod EarlyLemmas

@@ -5,3 +5,4 @@ pub mod Writing
 pub mod Headers
 pub mod Said
 pub mod ReadBack
+pub mod Early

@@ -5,6 +5,7 @@ use std::alloc::Global;
 use std::collections::{BTreeMap, VecDeque};
 use test_network::handler::Handler;
 use vesgrauf::FieldList;
+use vesgrauf::code::StreamCode;
 use vesgrauf::connection::Connection;
 use vesgrauf::event::{Event, EventKind};
 use vesgrauf::output::StreamKind;
@@ -53,7 +54,7 @@ impl Handler for Guests {
             EventKind::Data(bytes) => self.keep(id, bytes.as_slice()),
             EventKind::End => self.end(id),
             EventKind::Datagram(bytes) => self.hear_datagram(id, bytes.as_slice()),
-            EventKind::Reset(code) => self.note(id, "refused with code", code),
+            EventKind::Reset(code) => self.hear_refusal(id, code),
             EventKind::Draining => self.leave(on, id),
             EventKind::GoAway(first) => self.note_all("GOAWAY with ID", first),
             EventKind::Closed(_) => self.forget(id),
@@ -104,6 +105,13 @@ impl Guests {
         let line = format!(in self.alloc; "a connection: {what} {number}")?;
         self.log.push(line)?;
         Ok(())
+    }
+
+    fn hear_refusal(&mut self, id: u64, code: StreamCode) -> Result<()> {
+        match code {
+            StreamCode::Application(code) => self.note(id, "refused with code", u64::from(code)),
+            StreamCode::Http(_) => Ok(()),
+        }
     }
 
     fn hear_datagram(&mut self, session: u64, said: &[u8]) -> Result<()> {

@@ -16,7 +16,7 @@ const MAX_PENDING: usize = 50;
 /// The longest line, in bytes, and the code with which a longer one is stopped.
 const MAX_LINE: usize = 500;
 
-pub const TOO_LONG: u64 = 1;
+pub const TOO_LONG: u32 = 1;
 
 /// The code with which a session is closed whose member does not take its lines.
 const TOO_SLOW: u32 = 2;
@@ -248,8 +248,8 @@ impl Room {
             return Ok(());
         }
         self.lines.remove(&place);
-        on.stop_sending(place.stream, TOO_LONG)?;
-        on.reset(place.stream, TOO_LONG)?;
+        on.stop_sending(place.stream, TOO_LONG.into())?;
+        on.reset(place.stream, TOO_LONG.into())?;
         Ok(())
     }
 

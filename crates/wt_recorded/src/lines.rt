@@ -1,104 +1,109 @@
-//! The lines of events.
+//! The lines of what a connection tells and does.
 use std::alloc::{AllocError, Global};
-use wtp_connection::connection::datagrams::DatagramFor;
-use wtp_connection::settings::PeerSettings;
-use wtp_connection::stream::Purpose;
-use wtp_core::error::ErrorScope;
-use wtp_fields::fields::FieldList;
-use wtp_streams::streams::sessions::Datagram;
-use wtp_webtransport::event::{Event, HeadersKind, Waits};
-use wtp_webtransport::fault::Fault;
+use vesgrauf::code::StreamCode;
+use vesgrauf::event::{EventKind, Tunnel, Why};
+use vesgrauf::output::Output;
+use vesgrauf::{FieldList, PeerSettings};
 
-/// The lines of the events so far.
+/// The lines so far.
 #[derive(Drop)]
 pub struct Lines {
     alloc: Global,
     pub text: String,
+    /// How many commands the connection has run.
+    pub count: u64,
 }
 
 impl Lines {
-    /// Creates the lines of no events.
+    /// Creates the lines of nothing.
     pub fn new(alloc: Global) -> Self {
         Lines {
             alloc,
             text: String::new(alloc),
+            count: 0,
         }
     }
 
-    /// Appends the line of an event of a stream, after which this is the offset in the stream. `Skipped`, `Inserted`,
-    /// `Waits` and `More` have none.
-    pub fn add(&mut self, id: u64, at: u64, event: &Event<'_>) -> Result<(), AllocError> {
-        if matches!(
-            event,
-            Event::Skipped | Event::Inserted(_) | Event::Waits(_) | Event::More
-        ) {
-            return Ok(());
+    /// Begins the lines of a connection.
+    pub fn begin(&mut self) -> Result<(), AllocError> {
+        self.count = 0;
+        self.text.clear();
+        self.text.push_str("connection\n")
+    }
+
+    /// Appends the line of an event of the stream with this name, which belongs to this session.
+    pub fn add(
+        &mut self,
+        name: u64,
+        session: Option<u64>,
+        kind: &EventKind<'_>,
+    ) -> Result<(), AllocError> {
+        write!(self.text, "{} ", self.count)?;
+        match kind {
+            EventKind::Ready(_) | EventKind::GoAway(_) | EventKind::ConnectionClosed(_, _) => {
+                write!(self.text, "- ")?;
+            }
+            _ => write!(self.text, "{name} ")?,
         }
-        write!(self.text, "{id} {at} ")?;
-        match event {
-            Event::Headers(HeadersKind::Request, list) => self.fields("request", None, list)?,
-            Event::Headers(HeadersKind::Interim(status), list) => {
-                self.fields("interim", Some(*status), list)?;
+        match kind {
+            EventKind::Request(list) | EventKind::Connect(Tunnel::Other, list) => {
+                self.fields("request", list)?;
             }
-            Event::Headers(HeadersKind::Response(status), list) => {
-                self.fields("response", Some(*status), list)?;
+            EventKind::Connect(Tunnel::Session, list) => self.fields("asked", list)?,
+            EventKind::Interim(status, list) => {
+                write!(self.text, "interim {status}")?;
+                self.fields("", list)?;
             }
-            Event::Headers(HeadersKind::Trailers, list) => self.fields("trailers", None, list)?,
-            Event::SessionRequested(list) => self.fields("asked", None, list)?,
-            Event::SessionReady(status, list) => self.fields("ready", Some(*status), list)?,
-            Event::Rejected(status, list) => self.fields("rejected", Some(*status), list)?,
-            Event::Data(bytes) => self.bytes("data", bytes)?,
-            Event::StreamData(bytes) => self.bytes("bytes", bytes)?,
-            Event::Datagram(bytes) => self.bytes("datagram", bytes.as_slice())?,
-            _ => self.words(event)?,
+            EventKind::Response(status, list) => {
+                write!(self.text, "response {status}")?;
+                self.fields("", list)?;
+            }
+            EventKind::Trailers(list) => self.fields("trailers", list)?,
+            EventKind::Data(bytes) => self.bytes("data", bytes.as_slice())?,
+            EventKind::Datagram(bytes) => self.bytes("datagram", bytes.as_slice())?,
+            EventKind::NewStream(_) => write!(self.text, "joined {}", session.unwrap_or(name))?,
+            _ => self.words(kind)?,
         }
         writeln!(self.text, "")
     }
 
-    /// Appends the words of an event without fields, whose bytes are few.
-    fn words(&mut self, event: &Event<'_>) -> Result<(), AllocError> {
-        match event {
-            Event::Opened(purpose) => write!(self.text, "opened {}", purpose_name(*purpose)),
-            Event::Joined(session) => write!(self.text, "joined {session}"),
-            Event::Settings(settings, payload) => {
-                self.bytes("settings", payload)?;
-                self.values(*settings)
+    /// Appends the words of an event without fields and bytes.
+    fn words(&mut self, kind: &EventKind<'_>) -> Result<(), AllocError> {
+        match kind {
+            EventKind::Ready(settings) => self.values(*settings),
+            EventKind::GoAway(first) => write!(self.text, "goaway {first}"),
+            EventKind::ConnectionClosed(code, by_peer) => {
+                write!(self.text, "over {code} {}", u32::from(*by_peer))
             }
-            Event::GoAway(first) => write!(self.text, "goaway {first}"),
-            Event::Frame(kind, payload) => {
-                write!(self.text, "frame {kind:?}")?;
-                self.bytes("", payload)
-            }
-            Event::SessionClosed(close) => {
-                write!(self.text, "closed {}", close.code())?;
-                self.bytes("", close.reason())
-            }
-            Event::SessionLost => write!(self.text, "lost"),
-            Event::Draining => write!(self.text, "draining"),
-            Event::TooLarge(Some(size)) => write!(self.text, "large {size}"),
-            Event::TooLarge(None) => write!(self.text, "large -"),
-            Event::Malformed(rule) => write!(self.text, "malformed {rule}"),
-            Event::StreamError(fault) | Event::ConnectionError(fault) => self.fault(*fault),
-            Event::Reset(Some(fault)) => {
-                write!(self.text, "reset {}", fault.code().number().into_inner())
-            }
-            Event::Reset(None) => write!(self.text, "reset"),
-            Event::End => write!(self.text, "end"),
+            EventKind::End => write!(self.text, "end"),
+            EventKind::Draining => write!(self.text, "draining"),
+            EventKind::Reset(code) => write!(self.text, "reset {}", shown(*code)),
+            EventKind::Stopped(code) => write!(self.text, "stopped {}", shown(*code)),
+            EventKind::Closed(why) => self.closed(why),
             _ => write!(self.text, "unexpected"),
         }
     }
 
-    /// Appends the name of a field section, its status and its fields.
-    fn fields(
-        &mut self,
-        name: &str,
-        status: Option<u32>,
-        list: &FieldList,
-    ) -> Result<(), AllocError> {
-        write!(self.text, "{name}")?;
-        if let Some(status) = status {
-            write!(self.text, " {status}")?;
+    /// Appends why a stream is over.
+    fn closed(&mut self, why: &Why) -> Result<(), AllocError> {
+        match why {
+            Why::Done => write!(self.text, "done"),
+            Why::Session(close) => {
+                write!(self.text, "closed {}", close.code())?;
+                self.bytes("", close.reason())
+            }
+            Why::SessionGone => write!(self.text, "gone"),
+            Why::Malformed(rule) => write!(self.text, "malformed {rule}"),
+            Why::TooLarge => write!(self.text, "large"),
+            Why::Fault(fault) => write!(self.text, "fault {}", fault.code().number().into_inner()),
+            Why::Unprocessed => write!(self.text, "unprocessed"),
+            Why::ConnectionClosed => write!(self.text, "broken"),
         }
+    }
+
+    /// Appends a name and fields.
+    fn fields(&mut self, name: &str, list: &FieldList) -> Result<(), AllocError> {
+        self.text.push_str(name)?;
         for field in list.iter() {
             let name = hex::encode(self.alloc, field.name)?;
             let value = hex::encode(self.alloc, field.value)?;
@@ -118,7 +123,7 @@ impl Lines {
 
     /// Appends the values of SETTINGS.
     fn values(&mut self, settings: PeerSettings) -> Result<(), AllocError> {
-        write!(self.text, " {}", settings.qpack_max_table_capacity)?;
+        write!(self.text, "settings {}", settings.qpack_max_table_capacity)?;
         match settings.max_field_section_size {
             Some(size) => write!(self.text, " {size}")?,
             None => write!(self.text, " none")?,
@@ -135,74 +140,40 @@ impl Lines {
         write!(self.text, " {}", settings.wt_max_sessions)
     }
 
-    /// Appends an error.
-    pub fn fault(&mut self, fault: Fault) -> Result<(), AllocError> {
-        let scope = match fault.scope() {
-            ErrorScope::Stream => "stream",
-            ErrorScope::Connection => "connection",
-            ErrorScope::Either => "either",
-        };
-        let code = fault.code().number().into_inner();
-        write!(self.text, "fault {code} {scope}")
+    /// Appends the line of what QUIC is to do, for the stream with this name.
+    pub fn output(&mut self, name: u64, output: Output) -> Result<(), AllocError> {
+        match output {
+            Output::Open { .. } => Ok(()),
+            Output::Reset(_, code) => self.number(name, "resets", code),
+            Output::StopSending(_, code) => self.number(name, "stops", code),
+            Output::Credit(_, len) => self.number(name, "credit", len as u64),
+            Output::Read(_, _) | Output::Prioritize(_, _) => Ok(()),
+            Output::Close(code) => writeln!(self.text, "{} - closes {code}", self.count),
+        }
     }
 
-    /// Appends the line of what is sent on the decoder stream, if it is anything, and clears it.
-    pub fn decoder(&mut self, told: &mut Vec<u8>) -> Result<(), AllocError> {
-        if told.is_empty() {
-            return Ok(());
-        }
-        self.bytes("decoder", told.as_slice())?;
-        writeln!(self.text, "")?;
-        told.clear();
-        Ok(())
-    }
-
-    /// Appends the line of a datagram.
-    pub fn datagram(
-        &mut self,
-        came: Result<Option<Datagram<'_>>, Fault>,
-    ) -> Result<(), AllocError> {
-        write!(self.text, "datagram ")?;
-        match came {
-            Ok(Some(datagram)) => {
-                let action = match datagram.action {
-                    DatagramFor::Deliver => "deliver",
-                    DatagramFor::Early => "early",
-                    DatagramFor::Discard => "drop",
-                    DatagramFor::EndStream => "end",
-                };
-                write!(self.text, "{} {action}", datagram.session)?;
-                self.bytes("", datagram.payload)?;
-            }
-            Ok(None) => write!(self.text, "drop")?,
-            Err(fault) => self.fault(fault)?,
-        }
+    /// Appends the line of bytes that are sent on the decoder stream.
+    pub fn decoder(&mut self, bytes: &[u8]) -> Result<(), AllocError> {
+        write!(self.text, "{} - ", self.count)?;
+        self.bytes("decoder", bytes)?;
         writeln!(self.text, "")
     }
-}
 
-/// Returns why a stream is read no further.
-pub fn wait_name(waits: Option<Waits>) -> &'static str {
-    match waits {
-        Some(Waits::Settings) => "settings",
-        Some(Waits::Answer) => "answer",
-        Some(Waits::Session(_)) => "session",
-        Some(Waits::Table(_)) => "table",
-        None => "bytes",
+    /// Appends the line of how many bytes wait at the end.
+    pub fn held(&mut self, len: usize) -> Result<(), AllocError> {
+        writeln!(self.text, "{} - held {len}", self.count)
+    }
+
+    /// Appends a line of a word and a number.
+    pub fn number(&mut self, name: u64, word: &str, number: u64) -> Result<(), AllocError> {
+        writeln!(self.text, "{} {name} {word} {number}", self.count)
     }
 }
 
-/// Returns the name of what a stream is for.
-fn purpose_name(purpose: Purpose) -> &'static str {
-    match purpose {
-        Purpose::Control => "control",
-        Purpose::Push => "push",
-        Purpose::Encoder => "encoder",
-        Purpose::Decoder => "decoder",
-        Purpose::Session(_) => "session",
-        Purpose::InvalidSession => "invalid-session",
-        Purpose::Message => "message",
-        Purpose::Foreign => "foreign",
-        Purpose::Ignored => "ignored",
+/// Returns a code as its side says it: HTTP/3's, or the application's.
+fn shown(code: StreamCode) -> u64 {
+    match code {
+        StreamCode::Http(code) => code.number().into_inner(),
+        StreamCode::Application(code) => u64::from(code),
     }
 }

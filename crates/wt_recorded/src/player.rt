@@ -1,391 +1,289 @@
 //! An end that a recorded peer sends to.
-use crate::command::Command;
-use crate::lines::{Lines, wait_name};
+use crate::command::{Command, Supports};
+use crate::lines::Lines;
+use crate::plan::{Piece, Plan};
+use anyhow::{Result, bail};
 use std::alloc::Global;
-use std::collections::{BTreeMap, VecDeque};
-use wtp_core::error::Code;
-use wtp_core::ids::StatusCode;
-use wtp_fields::fields::FieldList;
-use wtp_frames::endpoint::{Endpoint, Side};
-use wtp_sending::error::SendError;
-use wtp_streams::error::Error;
-use wtp_streams::h3::H3Connection;
-use wtp_streams::h3::refused::Refused;
-use wtp_streams::limits::Limits;
-use wtp_webtransport::event::{Event, HeadersKind, Waits};
-use wtp_wire::settings::Settings;
+use vesgrauf::config::Config;
+use vesgrauf::connection::Connection;
+use vesgrauf::event::{Event, EventKind};
+use vesgrauf::input::Input;
+use vesgrauf::output::{Output, StreamKind};
+use vesgrauf::refused::Refused;
+use vesgrauf::{Code, FieldList, Side};
+
+/// The name of a stream of which nothing comes.
+const OTHER: u64 = 1 << 62;
 
 /// The most turns of a loop.
 const TURNS: u32 = 10_000_000;
 
-/// What is to be done before a stream is read.
-#[derive(Drop)]
-enum Before {
-    Nothing,
-    /// A request is to be sent on it.
-    Request(FieldList),
-    /// It is to be opened for this session.
-    Open(u64),
-}
-
-/// A stream, of which bytes came.
-#[derive(Drop)]
-struct Stream {
-    before: Before,
-    bytes: Vec<u8>,
-    /// How many of these are consumed, and how many bytes of the stream.
-    consumed: usize,
-    at: u64,
-    fin: bool,
-    /// What it waits for.
-    waits: Option<Waits>,
-    /// Whether its last event came.
-    is_over: bool,
-    /// The request that came on it and has no answer, and whether it is a CONNECT.
-    unanswered: Option<bool>,
-}
-
-impl Stream {
-    /// Creates a stream of which nothing came.
-    fn new(alloc: Global, before: Before) -> Self {
-        Stream {
-            before,
-            bytes: Vec::new(alloc),
-            consumed: 0,
-            at: 0,
-            fin: false,
-            waits: None,
-            is_over: false,
-            unanswered: None,
-        }
-    }
-
-    /// Returns how many bytes are not consumed.
-    fn left(&self) -> usize {
-        self.bytes.len().saturating_sub(self.consumed)
-    }
-
-    /// Consumes bytes.
-    fn consume(&mut self, len: usize) {
-        self.at = self.at.saturating_add(len as u64);
-        self.consumed = self.consumed.saturating_add(len);
-        if self.left() == 0 {
-            self.bytes.clear();
-            self.consumed = 0;
-        }
+/// Returns what an end of this side announces, with a dynamic table of this capacity. Whatever comes may wait.
+pub fn config(side: Side, table: u32, supports: Supports) -> Config {
+    let config = match side {
+        Side::Client => Config::client(),
+        Side::Server => Config::server(),
+    };
+    Config {
+        webtransport: supports == Supports::Sessions,
+        datagrams: supports == Supports::Sessions,
+        extended_connect: supports != Supports::Nothing,
+        qpack_max_table_capacity: table,
+        qpack_blocked_streams: u16::MAX,
+        encoder_table_capacity: 0,
+        max_resets: u64::MAX,
+        max_streams: u64::MAX,
+        max_unopened: u64::MAX,
+        receive_buffer: usize::MAX,
+        receive_buffer_all: usize::MAX,
+        ..config
     }
 }
 
-/// An end of a connection that is played.
+/// What plays a script to a connection.
 #[derive(Drop)]
 pub struct Player {
     alloc: Global,
-    connection: H3Connection,
-    /// What it sends, of which nothing is compared.
-    out: Vec<u8>,
-    /// What it sends on its decoder stream, of which there is no line yet.
-    told: Vec<u8>,
-    streams: BTreeMap<u64, Stream>,
-    answers: BTreeMap<u64, StatusCode>,
-    /// The streams that are to be read.
-    ready: VecDeque<u64>,
+    plan: Plan,
     pub lines: Lines,
 }
 
 impl Player {
-    /// Creates an end, which sends its SETTINGS.
-    pub fn new(alloc: Global, side: Side, table: u32, lines: Lines) -> Result<Self, Error> {
-        let mut endpoint = Endpoint::new(side);
-        endpoint.webtransport = true;
-        endpoint.datagrams = true;
-        let mut limits = Limits::new();
-        limits.max_table = table;
-        limits.max_blocked = u32::MAX;
-        let mut connection = H3Connection::new(alloc, endpoint, true, limits);
-        let settings = Settings::builder(alloc)
-            .enable_connect_protocol()?
-            .enable_h3_datagrams()?
-            .enable_webtransport()?
-            .build();
-        let mut out = Vec::new(alloc);
-        connection.settings(&settings, &mut out)?;
-        Ok(Player {
+    /// Creates a player for an end of this side.
+    pub fn new(alloc: Global, side: Side, lines: Lines) -> Self {
+        Player {
             alloc,
-            connection,
-            out,
-            told: Vec::new(alloc),
-            streams: BTreeMap::new(alloc),
-            answers: BTreeMap::new(alloc),
-            ready: VecDeque::new(alloc),
+            plan: Plan::new(alloc, side),
             lines,
-        })
+        }
     }
 
-    /// Runs a command, and appends the lines of its events.
-    pub fn run(&mut self, command: Command) -> Result<(), Error> {
+    /// Runs a command, and appends the lines of what came of it.
+    pub fn run(&mut self, on: &mut Connection, command: Command) -> Result<()> {
         match command {
-            Command::Begin(_, _) => {}
-            Command::Request(id, list) => self.insert(id, Before::Request(list))?,
-            Command::Open(id, session) => self.insert(id, Before::Open(session))?,
-            Command::Bytes(id, bytes, fin) => self.receive(id, bytes.as_slice(), fin)?,
-            Command::Reset(id) => self.reset(id)?,
+            Command::Begin(_, _, _) => {}
+            Command::Request(id, list) => self.plan.requests.push_back((id, list))?,
+            Command::Open(name, session) => self.plan.streams.push_back((name, session))?,
+            Command::Bytes(name, bytes, fin) => self.plan.arrive(Piece { name, bytes, fin })?,
+            Command::Reset(name, code) => {
+                let id = self.plan.id(name);
+                self.hear(on, Input::stream_reset(id, code))?;
+            }
             Command::Answer(id, status) => {
-                self.answers.insert(id, status)?;
-                self.answer(id)?;
+                self.plan.answers.insert(id, status)?;
+                self.answer(on, id)?;
             }
             Command::Datagram(bytes) => {
-                let came = self.connection.datagram(bytes.as_slice());
-                self.lines.datagram(came)?;
+                self.hear(on, Input::datagram(bytes.as_slice()))?;
+            }
+            Command::Stop(name, code) => {
+                let id = self.plan.id(name);
+                self.hear(on, Input::stop_sending(id, code))?;
+            }
+            Command::Abandon(name) => {
+                let code = Code::H3_REQUEST_CANCELLED.into();
+                let id = self.plan.id(name);
+                accept(on.stop_sending(id, code))?;
             }
         }
-        self.open_some()?;
-        self.update()?;
-        self.read_ready()
-    }
-
-    /// Adds a stream that is to be opened here.
-    fn insert(&mut self, id: u64, before: Before) -> Result<(), Error> {
-        self.streams.insert(id, Stream::new(self.alloc, before))?;
+        self.open(on)?;
+        self.play_pieces(on)?;
+        self.hear(on, Input::none())?;
+        self.lines.count = self.lines.count.saturating_add(1);
         Ok(())
     }
 
-    /// Takes the next bytes of a stream.
-    fn receive(&mut self, id: u64, bytes: &[u8], fin: bool) -> Result<(), Error> {
-        if !self.streams.contains_key(&id) {
-            self.connection.accept(id)?;
-            self.insert(id, Before::Nothing)?;
-        }
-        if let Some(stream) = self.streams.get_mut(&id) {
-            stream.bytes.extend_from_slice(bytes)?;
-            stream.fin |= fin;
-        }
-        self.ready.push_back(id)?;
-        Ok(())
-    }
-
-    /// Takes that the peer reset a stream.
-    fn reset(&mut self, id: u64) -> Result<(), Error> {
-        if let (Some(event), Some(stream)) = (
-            self.connection.reset(id),
-            self.streams.get_mut(&id),
-        ) {
-            self.connection.cancel(id, &mut self.told)?;
-            stream.waits = None;
-            stream.is_over = true;
-            self.lines.add(id, stream.at, &event)?;
-            self.lines.decoder(&mut self.told)?;
-        }
-        self.ready.push_back(id)?;
-        self.update()
-    }
-
-    /// Reads the streams that are to be read.
-    fn read_ready(&mut self) -> Result<(), Error> {
-        for _stream in 0..TURNS {
-            let Some(id) = self.ready.pop_front() else {
-                return Ok(());
+    /// Plays the pieces that may come now.
+    fn play_pieces(&mut self, on: &mut Connection) -> Result<()> {
+        for _piece in 0..TURNS {
+            let Some(piece) = self.plan.pieces.pop_front() else {
+                break;
             };
-            for _event in 0..TURNS {
-                if !self.next(id)? {
-                    break;
-                }
-                self.update()?;
+            let id = self.plan.id(piece.name);
+            let bytes = piece.bytes.as_slice();
+            let credit = self.hear(on, Input::stream(id, bytes, piece.fin))?;
+            if credit != bytes.len() {
+                self.lines.number(piece.name, "credit", credit as u64)?;
             }
         }
         Ok(())
     }
 
-    /// Takes the next event of a stream. Returns whether others may follow.
-    fn next(&mut self, id: u64) -> Result<bool, Error> {
-        let Some(stream) = self.streams.get_mut(&id) else {
-            return Ok(false);
+    /// Takes in what QUIC reports. Returns by how much its windows are extended.
+    fn hear(&mut self, on: &mut Connection, mut input: Input<'_>) -> Result<usize> {
+        for _event in 0..TURNS {
+            if let Some(event) = on.next_event(&mut input)? {
+                let name = self.plan.name(event.stream);
+                self.lines.add(name, event.session, &event.kind)?;
+                self.follow(on, event)?;
+                self.open(on)?;
+                self.settle(on)?;
+            } else if !self.settle(on)? {
+                return Ok(input.credit());
+            }
+        }
+        bail!("the events do not end");
+    }
+
+    /// Does what follows from an event: answers a request, and ends the own half of a stream that ended.
+    fn follow(&mut self, on: &mut Connection, event: Event<'_>) -> Result<()> {
+        let id = event.stream;
+        match event.kind {
+            EventKind::Request(list) | EventKind::Connect(_, list) => {
+                let connects = list.first(b":method") == Some(b"CONNECT");
+                self.plan.unanswered.insert(id, connects)?;
+                self.answer(on, id)
+            }
+            EventKind::End => accept(on.finish(id)),
+            EventKind::Reset(code) => accept(on.reset(id, code)),
+            _ => Ok(()),
+        }
+    }
+
+    /// Answers the request on a stream, if it came and its answer is known.
+    fn answer(&mut self, on: &mut Connection, id: u64) -> Result<()> {
+        let Some(status) = self.plan.answers.get(&id).copied() else {
+            return Ok(());
         };
-        let bytes = stream.bytes.get(stream.consumed..).unwrap_or(&[]);
-        let Some(received) = self.connection.receive(id, bytes, stream.fin) else {
-            return Ok(false);
+        let Some(connects) = self.plan.unanswered.remove(&id) else {
+            return Ok(());
         };
-        let at = stream.at.saturating_add(received.consumed as u64);
-        if let Some(session) = joins(stream.waits, &received.event) {
-            writeln!(self.lines.text, "{id} {at} joins {session}")?;
-        }
-        stream.waits = wait_in(&received.event);
-        stream.is_over |= matches!(received.event, Event::End | Event::StreamError(_));
-        stream.unanswered = request_after(stream.unanswered, &received.event);
-        self.lines.add(id, at, &received.event)?;
-        let is_last = matches!(
-            received.event,
-            Event::More | Event::Waits(_) | Event::NoMemory
-        );
-        let ends_early = ends_early(&received.event);
-        let consumed = received.consumed;
-        drop(received);
-        stream.consume(consumed);
-        self.tell(id, ends_early)?;
-        self.lines.decoder(&mut self.told)?;
-        if is_last {
-            return Ok(false);
-        }
-        self.answer(id)?;
-        self.open_some()?;
-        Ok(true)
-    }
-
-    /// Tells the encoder of the peer what the last call read of a stream, and whether its reading ends early.
-    fn tell(&mut self, id: u64, ends_early: bool) -> Result<(), Error> {
-        self.connection.acknowledge(id, &mut self.told)?;
-        self.connection.increment(&mut self.told)?;
-        if ends_early {
-            self.connection.cancel(id, &mut self.told)?;
-        }
-        Ok(())
-    }
-
-    /// Tells the streams that wait, and those whose session is over, what an event means for them.
-    fn update(&mut self) -> Result<(), Error> {
-        for _stream in 0..TURNS {
-            if let Some(id) = self.connection.next_to_reset() {
-                self.gone(id)?;
-            } else if let Some(id) = self.connection.next_to_read() {
-                self.next(id)?;
-                self.ready.push_back(id)?;
-            } else {
-                return Ok(());
-            }
-        }
-        Ok(())
-    }
-}
-
-impl Player {
-    /// Takes that the session of a stream is over.
-    fn gone(&mut self, id: u64) -> Result<(), Error> {
-        let code = Code::WEBTRANSPORT_SESSION_GONE.number().into_inner();
-        if let Some(stream) = self.streams.get_mut(&id) {
-            if !stream.is_over {
-                let at = stream.at;
-                writeln!(self.lines.text, "{id} {at} fault {code} stream")?;
-            }
-            stream.is_over = true;
-            stream.waits = None;
+        let list = FieldList::response(self.alloc, status)?;
+        let number = status.into_inner();
+        accept(on.respond(id, &list, !connects || number >= 300))?;
+        if connects {
+            self.lines.number(id, "answered", u64::from(number))?;
         }
         Ok(())
     }
 
     /// Sends the requests and opens the streams that are allowed now.
-    fn open_some(&mut self) -> Result<(), Error> {
-        let mut ids = Vec::new(self.alloc);
-        for (id, stream) in &self.streams {
-            if !matches!(stream.before, Before::Nothing) {
-                ids.push(*id)?;
+    fn open(&mut self, on: &mut Connection) -> Result<()> {
+        for _request in 0..self.plan.requests.len() {
+            let Some((id, list)) = self.plan.requests.pop_front() else {
+                break;
+            };
+            if !self.request(on, id, &list)? {
+                self.plan.requests.push_front((id, list))?;
+                break;
             }
         }
-        for id in ids.iter() {
-            self.open(*id)?;
-        }
-        Ok(())
-    }
-
-    /// Sends the request of a stream, or opens it, if that is allowed now.
-    fn open(&mut self, id: u64) -> Result<(), Error> {
-        let Some(stream) = self.streams.get_mut(&id) else {
-            return Ok(());
-        };
-        let opened = match &stream.before {
-            Before::Nothing => return Ok(()),
-            Before::Request(list) => self.connection.request(id, list, &mut self.out),
-            Before::Open(session) => {
-                self.connection
-                    .open_bidirectional(id, *session, &mut self.out)
-            }
-        };
-        match opened {
-            Ok(()) => {}
-            Err(refused) if is_early(refused) => return Ok(()),
-            Err(refused) => writeln!(self.lines.text, "{id} 0 refused {refused}")?,
-        }
-        stream.before = Before::Nothing;
-        self.ready.push_back(id)?;
-        Ok(())
-    }
-
-    /// Answers the request on a stream, if it came and its answer is known.
-    fn answer(&mut self, id: u64) -> Result<(), Error> {
-        let (Some(stream), Some(status)) = (self.streams.get_mut(&id), self.answers.get(&id)) else {
-            return Ok(());
-        };
-        let Some(connects) = stream.unanswered.take() else {
-            return Ok(());
-        };
-        let list = FieldList::response(self.alloc, *status)?;
-        let at = stream.at;
-        match self.connection.respond(id, &list, &mut self.out) {
-            Ok(()) | Err(Refused::Over) => {}
-            Err(refused) => writeln!(self.lines.text, "{id} {at} refused {refused}")?,
-        }
-        if connects {
-            let number = status.into_inner();
-            writeln!(self.lines.text, "{id} {at} answered {number}")?;
-        }
-        Ok(())
-    }
-
-    /// Appends what is left of the streams.
-    pub fn finish(&mut self) -> Result<(), Error> {
-        for (id, stream) in &self.streams {
-            let left = stream.left();
-            if left > 0 || stream.waits.is_some() {
-                let why = wait_name(stream.waits);
-                let at = stream.at;
-                writeln!(self.lines.text, "{id} {at} left {left} {why}")?;
+        for _stream in 0..self.plan.streams.len() {
+            let Some((name, session)) = self.plan.streams.pop_front() else {
+                break;
+            };
+            match on.open_stream(session, StreamKind::Bidirectional) {
+                Ok(id) => self.plan.opened(name, id)?,
+                Err(Refused::NotOpen | Refused::Closed) => {
+                    self.plan.streams.push_back((name, session))?;
+                }
+                Err(refused) => bail!("a stream of session {session} is refused: {refused}"),
             }
         }
         Ok(())
     }
-}
 
-/// Returns whether nothing is noted of a call: SETTINGS of the peer or the session are still to come, or these do
-/// not allow the request.
-fn is_early(refused: Refused) -> bool {
-    match refused {
-        Refused::SettingsMissing | Refused::SessionNotOpen | Refused::Over => true,
-        Refused::Send(error) => error == SendError::Unsupported,
-        _ => false,
+    /// Sends a request on the stream with this ID. Returns whether it is sent: one for a session is not before SETTINGS
+    /// came.
+    fn request(&mut self, on: &mut Connection, id: u64, list: &FieldList) -> Result<bool> {
+        self.fill(on, id)?;
+        let content = content_of(self.alloc, list)?;
+        let fin = content.is_empty() && list.first(b":method") != Some(b"CONNECT");
+        match on.request(list, fin) {
+            Ok(sent) if sent == id => {
+                if !content.is_empty() {
+                    on.send(id, content.as_slice(), true)?;
+                }
+                self.plan.next = id.saturating_add(4);
+                self.plan.opened(id, id)?;
+                Ok(true)
+            }
+            Err(Refused::NotReady | Refused::Closed) => Ok(false),
+            Ok(sent) => bail!("request {id} is sent on stream {sent}"),
+            Err(refused) => bail!("request {id} is refused: {refused}"),
+        }
+    }
+
+    /// Sends other requests on the streams before this one whose IDs streams of sessions had.
+    fn fill(&mut self, on: &mut Connection, id: u64) -> Result<()> {
+        let list = FieldList::from_fields(
+            self.alloc,
+            &[
+                (b":method", b"GET"),
+                (b":scheme", b"https"),
+                (b":authority", b"a"),
+                (b":path", b"/"),
+            ],
+        )?;
+        for _other in 0..TURNS {
+            if self.plan.next >= id {
+                break;
+            }
+            match on.request(&list, true) {
+                Ok(sent) => {
+                    self.plan.opened(OTHER, sent)?;
+                    self.plan.next = sent.saturating_add(4);
+                }
+                Err(Refused::Closed) => break,
+                Err(refused) => bail!("a request before {id} is refused: {refused}"),
+            }
+        }
+        Ok(())
+    }
+
+    /// Does what QUIC is to do. Returns whether there was anything.
+    fn settle(&mut self, on: &mut Connection) -> Result<bool> {
+        for turn in 0..TURNS {
+            if let Some(output) = on.output() {
+                self.do_output(on, output)?;
+            } else if let Some(next) = on.next_send() {
+                let (id, len) = (next.id, next.bytes.len().saturating_add(next.more.len()));
+                if id % 4 > 1 && id > 3 {
+                    self.lines.decoder(next.bytes)?;
+                }
+                on.sent(id, len)?;
+            } else {
+                return Ok(turn > 0);
+            }
+        }
+        bail!("what QUIC is to do does not end");
+    }
+
+    /// Does one thing that QUIC is to do.
+    fn do_output(&mut self, on: &mut Connection, output: Output) -> Result<()> {
+        match output {
+            Output::Open { id, .. } => return Ok(on.opened(id)?),
+            Output::Reset(id, _) | Output::StopSending(id, _) | Output::Credit(id, _) => {
+                self.lines.output(self.plan.name(id), output)?;
+            }
+            Output::Read(_, _) | Output::Prioritize(_, _) => {}
+            Output::Close(_) => self.lines.output(0, output)?,
+        }
+        Ok(on.output_taken()?)
+    }
+
+    /// Appends how many bytes wait, if a connection was begun.
+    pub fn finish(&mut self, on: &Connection) -> Result<()> {
+        if self.lines.text.is_empty() {
+            return Ok(());
+        }
+        Ok(self.lines.held(on.stats().held)?)
     }
 }
 
-/// Returns the session that a stream is found to belong to by an event.
-fn joins(waits: Option<Waits>, event: &Event<'_>) -> Option<u64> {
-    match (waits, event) {
-        (Some(Waits::Session(_)), _) => None,
-        (_, Event::Joined(session) | Event::Waits(Waits::Session(session))) => Some(*session),
-        _ => None,
+/// Returns content of the length that a request announces.
+fn content_of(alloc: Global, list: &FieldList) -> Result<Vec<u8>> {
+    let mut content = Vec::new(alloc);
+    if let Some(length) = list.first(b"content-length") {
+        content.resize(str::from_utf8(length)?.parse::<usize>()?, 0)?;
     }
+    Ok(content)
 }
 
-/// Returns whether the reading of a message ends with an event, before its end.
-fn ends_early(event: &Event<'_>) -> bool {
-    matches!(
-        event,
-        Event::Malformed(_) | Event::TooLarge(_) | Event::StreamError(_)
-    )
-}
-
-/// Returns what a stream waits for after an event.
-fn wait_in(event: &Event<'_>) -> Option<Waits> {
-    match event {
-        Event::Waits(waits) => Some(*waits),
-        _ => None,
-    }
-}
-
-/// Returns whether the request that came on a stream, and has no answer, is a CONNECT.
-fn request_after(before: Option<bool>, event: &Event<'_>) -> Option<bool> {
-    match event {
-        Event::Headers(HeadersKind::Request, list) => Some(
-            list.first(b":method") == Some(b"CONNECT"),
-        ),
-        Event::SessionRequested(_) => Some(true),
-        Event::Malformed(_) | Event::StreamError(_) | Event::ConnectionError(_) => None,
-        _ => before,
+/// Accepts that a call comes too late, or that a message may not end.
+fn accept(result_of: Result<(), Refused>) -> Result<()> {
+    match result_of {
+        Err(Refused::Memory) => bail!("no memory"),
+        _ => Ok(()),
     }
 }

@@ -5,7 +5,7 @@ use anyhow::{Result, bail};
 use vesgrauf::connection::Connection;
 use vesgrauf::output::{Shutdown, StreamKind};
 use vesgrauf::refused::Refused;
-use vesgrauf::{FieldList, StatusCode};
+use vesgrauf::{Code, FieldList, StatusCode};
 
 /// Some of the values that fields may have, so that tables are used.
 static VALUES: [&str; 4] = [
@@ -44,8 +44,9 @@ impl Actor {
             return Ok(());
         }
         if job.left == 0 && !job.ends {
-            self.journal.reset(job.id, 5)?;
-            return accept(on.reset(job.id, 5));
+            let code = self.journal.code(job.id);
+            self.journal.reset(job.id, code)?;
+            return accept(on.reset(job.id, code));
         }
         self.say(on, job)
     }
@@ -255,7 +256,7 @@ impl Actor {
                 self.journal.closes_said.insert(session, 7)?;
                 Ok(on.close_session(session, 7, "good bye")?)
             }
-            2 => Ok(on.abort(session, 0x10c)?),
+            2 => Ok(on.abort(session, Code::H3_REQUEST_CANCELLED.into())?),
             _ => {
                 self.journal.closes_said.insert(session, 9)?;
                 Ok(on.close_session(session, 9, "")?)
@@ -267,11 +268,12 @@ impl Actor {
     pub fn stop(&mut self, on: &mut Connection, id: u64) -> Result<()> {
         self.disturb(id)?;
         self.paused.remove(&id);
+        let code = self.journal.code(id);
         if self.random.one_in(2) {
-            return Ok(on.stop_sending(id, 6)?);
+            return Ok(on.stop_sending(id, code)?);
         }
         self.drop_job(id);
-        Ok(on.abort(id, 6)?)
+        Ok(on.abort(id, code)?)
     }
 
     /// Wants nothing of a stream for a while.

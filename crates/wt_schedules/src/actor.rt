@@ -76,11 +76,13 @@ impl Handler for Actor {
             EventKind::Closed(why) => self.hear_closed(stream, &why),
             EventKind::Idle => self.hear_idle(),
             EventKind::ConnectionClosed(code, _) => self.hear_end(code),
+            EventKind::Failed(_) => bail!("a failure that was not asked for"),
             EventKind::Interim(_, _)
             | EventKind::Trailers(_)
             | EventKind::Draining
             | EventKind::GoAway(_)
-            | EventKind::DatagramsWritable => Ok(()),
+            | EventKind::DatagramsWritable
+            | EventKind::Openable(_) => Ok(()),
         }
     }
 
@@ -153,6 +155,7 @@ impl Actor {
     /// Hears of a stream of a session. One in both directions is used.
     fn hear_stream(&mut self, on: &mut Connection, id: u64, kind: StreamKind) -> Result<()> {
         self.journal.know(id)?;
+        self.journal.in_session.insert(id)?;
         if kind == StreamKind::Bidirectional {
             self.begin_job(id)?;
         }

@@ -2,6 +2,8 @@
 use anyhow::{Result, bail};
 use std::alloc::Global;
 use std::collections::{BTreeMap, BTreeSet};
+use vesgrauf::Code;
+use vesgrauf::code::StreamCode;
 
 /// How a half of a stream is over.
 #[derive(Clone, Copy, Debug, PartialEq, Eq)]
@@ -11,7 +13,7 @@ pub enum Over {
     /// By its end.
     End,
     /// By a reset with this code.
-    Reset(u64),
+    Reset(StreamCode),
 }
 
 /// A half of a stream: how many bytes were said or heard, and how it is over.
@@ -38,7 +40,7 @@ pub struct Journal {
     pub disturbed: BTreeSet<u64>,
     /// The own streams of sessions.
     pub sessions: BTreeSet<u64>,
-    /// The streams of sessions that were opened here.
+    /// The streams of sessions.
     pub in_session: BTreeSet<u64>,
     /// The numbers of the datagrams.
     pub datagrams_said: BTreeSet<u64>,
@@ -113,8 +115,17 @@ impl Journal {
         Ok(())
     }
 
+    /// Returns the code with which a half of a stream is given up.
+    pub fn code(&self, id: u64) -> StreamCode {
+        if self.in_session.contains(&id) {
+            StreamCode::Application(5)
+        } else {
+            Code::H3_REQUEST_CANCELLED.into()
+        }
+    }
+
     /// Notes that the own half was reset.
-    pub fn reset(&mut self, id: u64, code: u64) -> Result<()> {
+    pub fn reset(&mut self, id: u64, code: StreamCode) -> Result<()> {
         let mut half = self.said(id);
         if half.over == Over::Not {
             half.over = Over::Reset(code);

@@ -1,24 +1,30 @@
 //! Calls on one stream.
 ghost use Rattle.std.specs.Prelude.{◌≡◌, Some, None, OnOk, OnErr, IfErr};
-ghost use Rattle.vesgrauf.specs.State.{stream_at, Becomes, IsStill, IsWhy};
+ghost use Rattle.vesgrauf.specs.State.{stream_at, code_on, Becomes, Pauses, Prioritizes, IsStill, IsWhy};
 ghost use Rattle.vesgrauf.specs.declared.refused.Refused.TheVariants as refused;
+ghost use Rattle.vesgrauf.specs.Own.{Untouched};
 
+use crate::code::StreamCode;
 use crate::connection::Connection;
+use crate::output::Output;
 use crate::refused::Refused;
 use vesgrauf_ready::rank::{Kind, Priority};
-use wtp_core::error::application_codes;
 
 impl Connection {
     /// Resets the own half of a stream, with a code of HTTP/3 or, on a stream of a session, of the application. What is
-    /// queued is dropped. That of a session's own stream ends the session, also of one that is still to come.
+    /// queued is dropped. One that was finished is reset too, unless all of it is acknowledged. That of a session's own stream ends the session, also of one that is still to come.
     ///
     /// # Errors
     ///
-    /// Nothing changes. `Closed`; `NoStream`; `TooLarge` if the application's code is 2^32 or more; and `Memory`.
-    pub fn reset(&mut self, id: u64, code: u64) -> Result<(), Refused> {
+    /// Nothing changes. `Closed`; `NoStream`; `WrongCode`; and `Memory`.
+    pub fn reset(&mut self, id: u64, code: StreamCode) -> Result<(), Refused>
+        ensures own { Untouched self.old.streams.entries self.new.streams.entries }
+        ensures config { self.new.config ≡ self.old.config }
+    {
         let code = self.code_for(id, code)?;
         self.reserve()?;
         self.reset_own(id, code)?;
+        self.reset_ended(id, code)?;
         self.end_if_session(id, code, true)?;
         Ok(self.remove_if_done(id)?)
     }
@@ -30,7 +36,10 @@ impl Connection {
     /// # Errors
     ///
     /// As of [`reset`](Self::reset).
-    pub fn stop_sending(&mut self, id: u64, code: u64) -> Result<(), Refused> {
+    pub fn stop_sending(&mut self, id: u64, code: StreamCode) -> Result<(), Refused>
+        ensures own { Untouched self.old.streams.entries self.new.streams.entries }
+        ensures config { self.new.config ≡ self.old.config }
+    {
         let code = self.code_for(id, code)?;
         self.reserve()?;
         self.cancel(id)?;
@@ -45,19 +54,26 @@ impl Connection {
     /// # Errors
     ///
     /// As of [`reset`](Self::reset).
-    pub fn abort(&mut self, id: u64, code: u64) -> Result<(), Refused> {
+    pub fn abort(&mut self, id: u64, code: StreamCode) -> Result<(), Refused>
+        ensures own { Untouched self.old.streams.entries self.new.streams.entries }
+        ensures config { self.new.config ≡ self.old.config }
+    {
         let code = self.code_for(id, code)?;
         self.reserve()?;
         self.cancel(id)?;
         self.end_if_session(id, code, true)?;
         self.reset_own(id, code)?;
+        self.reset_ended(id, code)?;
         self.stop_peer(id, code)?;
         Ok(self.remove_if_done(id)?)
     }
 
     // Ends the session whose own stream this is, if it is one that is open or, with `always`, to come; and both halves of
     // the stream.
-    fn end_if_session(&mut self, id: u64, code: u64, always: bool) -> Result<(), Refused> {
+    fn end_if_session(&mut self, id: u64, code: u64, always: bool) -> Result<(), Refused>
+        ensures own { Untouched self.old.streams.entries self.new.streams.entries }
+        ensures config { self.new.config ≡ self.old.config }
+    {
         let has_session = match self.streams.get(&id) {
             Some(entry) => entry.has_session,
             None => false,
@@ -71,41 +87,42 @@ impl Connection {
     }
 
     // Returns the code of QUIC for one of the program's on a stream.
-    fn code_for(&self, id: u64, code: u64) -> Result<u64, Refused> {
+    fn code_for(&self, id: u64, code: StreamCode) -> Result<u64, Refused>
+        ensures { result ≡ code_on self.now id code }
+    {
         if self.ended.is_some() {
             return Err(Refused::Closed);
         }
         let Some(entry) = self.streams.get(&id) else {
             return Err(Refused::NoStream);
         };
-        if entry.session.is_none() {
-            return if code < 1 << 62 {
-                Ok(code)
-            } else {
-                Err(Refused::TooLarge)
-            };
+        if entry.is_quiet {
+            return Err(Refused::NoStream);
         }
-        if code > u64::from(u32::MAX) {
-            return Err(Refused::TooLarge);
+        let is_of_application = matches!(code, StreamCode::Application(_));
+        if entry.session.is_some() != is_of_application {
+            return Err(Refused::WrongCode);
         }
-        Ok(application_codes::to_http3(code as u32).into_inner())
+        Ok(code.number())
     }
 
     /// Says whether the program wants no events of a stream for now. Bytes that come meanwhile are kept, and QUIC's
-    /// windows are not extended by them.
+    /// windows are not extended by them. Where it changes, QUIC is told so by
+    /// [`Output::Read`](crate::output::Output), once it has opened the stream.
     ///
     /// # Errors
     ///
     /// Nothing changes. `Closed`; `NoStream`; and `Memory`.
     #[tactic(auto, using(std::proofs::lemmas::Map::Steps::set_value_same))]
     pub fn pause(&mut self, id: u64, paused: bool) -> Result<(), Refused>
-        ensures ok { OnOk result (Becomes id (λ e. record e { is_paused = paused }) self.old self.new) }
+        ensures ok { OnOk result (Pauses id paused self.old self.new) }
         ensures why { IfErr result (λ e. IsWhy (λ _ _. ⊥) self.old id e) }
         ensures kept { OnErr result (IsStill self.old self.new) }
     {
         if self.ended.is_some() {
             return Err(Refused::Closed);
         }
+        self.reserve()?;
         if self.waiting.insert(id).is_err() {
             return Err(Refused::Memory);
         }
@@ -113,15 +130,13 @@ impl Connection {
             self.waiting.remove(&id);
             return Err(Refused::NoStream);
         };
-        let len = entry.reading.len();
-        let was = entry.is_paused;
+        if entry.is_opened && entry.is_paused != paused {
+            let read = Output::Read(id, !paused);
+            if self.outputs.push_back(read).is_err() {
+                return Err(Refused::Memory);
+            }
+        }
         entry.is_paused = paused;
-        if was && !paused {
-            self.count_held(0, len);
-        }
-        if !was && paused {
-            self.count_held(len, 0);
-        }
         if !paused {
             self.wake();
         }
@@ -129,26 +144,34 @@ impl Connection {
     }
 
     /// Sets the priority of a stream (RFC 9218, section 4). A stream of a session has urgency 3 and is incremental, and
-    /// any other has urgency 3 and is not.
+    /// any other has urgency 3 and is not. QUIC is told so by [`Output::Prioritize`](crate::output::Output), once it has
+    /// opened the stream.
     ///
     /// # Errors
     ///
     /// Nothing changes. `Closed`; `NoStream`; and `Memory`.
     #[tactic(auto, using(std::proofs::lemmas::Map::Steps::set_value_same))]
     pub fn prioritize(&mut self, id: u64, priority: Priority) -> Result<(), Refused>
-        ensures ok { OnOk result (Becomes id (λ e. record e { priority = priority }) self.old self.new) }
+        ensures ok { OnOk result (Prioritizes id priority self.old self.new) }
         ensures why { IfErr result (λ e. IsWhy (λ _ _. ⊥) self.old id e) }
         ensures kept { OnErr result (IsStill self.old self.new) }
     {
         if self.ended.is_some() {
             return Err(Refused::Closed);
         }
+        self.reserve()?;
         let Some(entry) = self.streams.get_mut(&id) else {
             return Err(Refused::NoStream);
         };
         let from = entry.kind();
         let to = Kind::Message(priority);
         self.ready.change(id, from, to)?;
+        if entry.is_opened {
+            let output = Output::Prioritize(id, priority);
+            if self.outputs.push_back(output).is_err() {
+                return Err(Refused::Memory);
+            }
+        }
         entry.priority = priority;
         Ok(())
     }

@@ -1,4 +1,8 @@
 //! Streams that are closed, and sessions that end.
+ghost use Rattle.std.specs.Prelude.{◌≡◌};
+ghost use Rattle.vesgrauf.specs.Own.{Untouched};
+
+use crate::code::StreamCode;
 use crate::connection::{Connection, Step, Stop};
 use crate::entry::{Member, Peer};
 use crate::event::{EventKind, Why};
@@ -10,18 +14,26 @@ const REFUSED: u32 = 500;
 
 impl Connection {
     // Closes both halves of a stream at once.
-    pub(super) fn shut(&mut self, id: u64, code: Code, why: Why) -> Result<(), Stop> {
+    pub(super) fn shut(&mut self, id: u64, code: Code, why: Why) -> Result<(), Stop>
+        ensures own { Untouched self.old.streams.entries self.new.streams.entries }
+        ensures config { self.new.config ≡ self.old.config }
+    {
         let code = code.number().into_inner();
         self.cancel(id)?;
         self.reset_own(id, code)?;
         self.stop_peer(id, code)?;
         self.end_session(id)?;
+        self.tell_failure(id, &why)?;
         self.closed(id, why)?;
         self.remove_if_done(id)
     }
 
     // Resets the own half.
-    pub(super) fn reset_own(&mut self, id: u64, code: u64) -> Result<(), Stop> {
+    #[tactic(auto, using(crate::proofs::OwnLemmas::untouched_set))]
+    pub(super) fn reset_own(&mut self, id: u64, code: u64) -> Result<(), Stop>
+        ensures own { Untouched self.old.streams.entries self.new.streams.entries }
+        ensures config { self.new.config ≡ self.old.config }
+    {
         let Some(entry) = self.streams.get_mut(&id) else {
             return Ok(());
         };
@@ -38,8 +50,33 @@ impl Connection {
         Ok(())
     }
 
+    // Resets an own half of which QUIC took the end, unless all of it is acknowledged: QUIC may still send some of it (RFC
+    // 9000, section 3.5). Returns whether it is reset.
+    #[tactic(auto, using(crate::proofs::OwnLemmas::untouched_set))]
+    pub(super) fn reset_ended(&mut self, id: u64, code: u64) -> Result<bool, Stop>
+        ensures own { Untouched self.old.streams.entries self.new.streams.entries }
+        ensures config { self.new.config ≡ self.old.config }
+    {
+        let Some(entry) = self.streams.get_mut(&id) else {
+            return Ok(false);
+        };
+        let is_acked = self.config.keep_until_acked || self.config.bound_by_acked;
+        if is_acked || !entry.writing.is_done() || !entry.writing.is_finished() {
+            return Ok(false);
+        }
+        let is_reset = entry.writing.reset(&mut self.tools.spares, code, 0);
+        if is_reset {
+            self.outputs.push_back(Output::Reset(id, code))?;
+        }
+        Ok(is_reset)
+    }
+
     // Asks the peer to stop its half, which is read no further.
-    pub(super) fn stop_peer(&mut self, id: u64, code: u64) -> Result<(), Stop> {
+    #[tactic(auto, using(crate::proofs::OwnLemmas::untouched_set))]
+    pub(super) fn stop_peer(&mut self, id: u64, code: u64) -> Result<(), Stop>
+        ensures own { Untouched self.old.streams.entries self.new.streams.entries }
+        ensures config { self.new.config ≡ self.old.config }
+    {
         let Some(entry) = self.streams.get_mut(&id) else {
             return Ok(());
         };
@@ -59,12 +96,19 @@ impl Connection {
     }
 
     // There is nothing left to stop: the end of the peer's half came, or a reset.
-    pub(super) fn forget_stop(&mut self, id: u64) {
+    pub(super) fn forget_stop(&mut self, id: u64)
+        ensures own { Untouched self.old.streams.entries self.new.streams.entries }
+        ensures config { self.new.config ≡ self.old.config }
+    {
         self.outputs.retain(|output| !is_stop(output, id));
     }
 
     // Reads the peer's half no further, whose end is still to come.
-    pub(super) fn drop_peer(&mut self, id: u64) -> Result<(), Stop> {
+    #[tactic(auto, using(crate::proofs::OwnLemmas::untouched_set))]
+    pub(super) fn drop_peer(&mut self, id: u64) -> Result<(), Stop>
+        ensures own { Untouched self.old.streams.entries self.new.streams.entries }
+        ensures config { self.new.config ≡ self.old.config }
+    {
         let Some(entry) = self.streams.get_mut(&id) else {
             return Ok(());
         };
@@ -81,22 +125,29 @@ impl Connection {
     }
 
     // Drops what is kept of a stream.
-    pub(super) fn drop_kept(&mut self, id: u64) -> Result<(), Stop> {
+    #[tactic(auto, using(crate::proofs::OwnLemmas::untouched_set))]
+    pub(super) fn drop_kept(&mut self, id: u64) -> Result<(), Stop>
+        ensures own { Untouched self.old.streams.entries self.new.streams.entries }
+        ensures config { self.new.config ≡ self.old.config }
+    {
         self.waiting.remove(&id);
         let Some(entry) = self.streams.get_mut(&id) else {
             return Ok(());
         };
-        let len = entry.reading.drop_kept();
+        let before = entry.credited();
+        entry.reading.drop_kept();
         let owed = entry.withheld;
         entry.withheld = 0;
-        if !entry.is_paused {
-            self.count_held(len, 0);
-        }
+        self.count_held(before, 0);
         self.credit(id, owed)
     }
 
     // The peer's half is over.
-    pub(super) fn peer_is_over(&mut self, id: u64) -> Result<(), Stop> {
+    #[tactic(auto, using(crate::proofs::OwnLemmas::untouched_set))]
+    pub(super) fn peer_is_over(&mut self, id: u64) -> Result<(), Stop>
+        ensures own { Untouched self.old.streams.entries self.new.streams.entries }
+        ensures config { self.new.config ≡ self.old.config }
+    {
         if let Some(entry) = self.streams.get_mut(&id) {
             entry.peer = Peer::Over;
         }
@@ -105,7 +156,11 @@ impl Connection {
     }
 
     // Ends the own half after what is queued, if a message may end there.
-    pub(super) fn end_own(&mut self, id: u64) -> Result<(), Stop> {
+    #[tactic(auto, using(crate::proofs::OwnLemmas::untouched_set))]
+    pub(super) fn end_own(&mut self, id: u64) -> Result<(), Stop>
+        ensures own { Untouched self.old.streams.entries self.new.streams.entries }
+        ensures config { self.new.config ≡ self.old.config }
+    {
         let Some(entry) = self.streams.get_mut(&id) else {
             return Ok(());
         };
@@ -120,13 +175,18 @@ impl Connection {
 
     // Ends the session whose own stream this is, if it is one: its streams are closed (draft-ietf-webtrans-http3-02,
     // section 5).
-    pub(super) fn end_session(&mut self, session: u64) -> Result<(), Stop> {
+    #[tactic(auto, using(crate::proofs::OwnLemmas::untouched_set))]
+    pub(super) fn end_session(&mut self, session: u64) -> Result<(), Stop>
+        ensures own { Untouched self.old.streams.entries self.new.streams.entries }
+        ensures config { self.new.config ≡ self.old.config }
+    {
         let Some(entry) = self.streams.get_mut(&session) else {
             return Ok(());
         };
         if entry.has_session {
             entry.has_session = false;
             self.sessions = self.sessions.saturating_sub(1);
+            self.datagrams.opened.push_back(session)?;
         }
         for _stream in 0..self.members.len() {
             let Some(member) = self.first_member(session) else {
@@ -148,23 +208,53 @@ impl Connection {
         }
     }
 
-    // Closes a stream whose session is over. One whose end came is read to its end.
-    fn cut(&mut self, id: u64) -> Result<(), Stop> {
-        let code = Code::WEBTRANSPORT_SESSION_GONE.number().into_inner();
+    // Closes a stream whose session is over. One whose end came is read to its end; the program is told that the own half is
+    // reset.
+    fn cut(&mut self, id: u64) -> Result<(), Stop>
+        ensures own { Untouched self.old.streams.entries self.new.streams.entries }
+        ensures config { self.new.config ≡ self.old.config }
+    {
+        let gone = Code::WEBTRANSPORT_SESSION_GONE;
+        let code = gone.number().into_inner();
+        let is_reset = self.is_to_reset(id);
         self.reset_own(id, code)?;
-        let Some(entry) = self.streams.get(&id) else {
-            return Ok(());
-        };
-        if entry.peer == Peer::Reads && entry.is_ended {
-            return Ok(());
+        if self.is_read_out(id) {
+            return if is_reset {
+                self.queue_event(id, EventKind::Stopped(StreamCode::Http(gone)))
+            } else {
+                Ok(())
+            };
         }
         self.stop_peer(id, code)?;
         self.closed(id, Why::SessionGone)?;
         self.remove_if_done(id)
     }
 
+    // Returns whether the own half of a stream is still to be sent, or its end to be taken.
+    fn is_to_reset(&self, id: u64) -> bool {
+        match self.streams.get(&id) {
+            Some(entry) => {
+                let was_reset = entry.writing.is_ended() && !entry.writing.is_finished();
+                !was_reset && !entry.writing.is_done()
+            }
+            None => false,
+        }
+    }
+
+    // Returns whether the end of a stream came that is still read.
+    fn is_read_out(&self, id: u64) -> bool {
+        match self.streams.get(&id) {
+            Some(entry) => entry.peer == Peer::Reads && entry.is_ended,
+            None => false,
+        }
+    }
+
     // Tells the program that a stream is over, if it knows of the stream.
-    pub(super) fn closed(&mut self, id: u64, why: Why) -> Result<(), Stop> {
+    #[tactic(auto, using(crate::proofs::OwnLemmas::untouched_set))]
+    pub(super) fn closed(&mut self, id: u64, why: Why) -> Result<(), Stop>
+        ensures own { Untouched self.old.streams.entries self.new.streams.entries }
+        ensures config { self.new.config ≡ self.old.config }
+    {
         if let Step::Told(event) = self.tell(id, EventKind::Closed(why)) {
             self.events.push_back(event)?;
         }
@@ -175,7 +265,10 @@ impl Connection {
     }
 
     // Forgets a stream of which both halves are over.
-    pub(super) fn remove_if_done(&mut self, id: u64) -> Result<(), Stop> {
+    pub(super) fn remove_if_done(&mut self, id: u64) -> Result<(), Stop>
+        ensures own { Untouched self.old.streams.entries self.new.streams.entries }
+        ensures config { self.new.config ≡ self.old.config }
+    {
         let Some(entry) = self.streams.get(&id) else {
             return Ok(());
         };
@@ -188,7 +281,10 @@ impl Connection {
     }
 
     // Forgets a stream.
-    pub(super) fn remove(&mut self, id: u64) {
+    pub(super) fn remove(&mut self, id: u64)
+        ensures own { Untouched self.old.streams.entries self.new.streams.entries }
+        ensures config { self.new.config ≡ self.old.config }
+    {
         let Some(entry) = self.streams.remove(&id) else {
             return;
         };

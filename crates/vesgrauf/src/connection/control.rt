@@ -2,6 +2,7 @@
 ghost use Rattle.std.specs.Prelude.{◌≡◌, false, Some, length, OnOk, OnErr, IfErr};
 ghost use Rattle.vesgrauf.specs.State.{is_over, next_output, EndsUnless, IsStill, ShutsDown, RefusesGoaway, goaway_for as goaway_is};
 ghost use Rattle.vesgrauf.specs.declared.output.Output.TheVariants as output;
+ghost use Rattle.vesgrauf.specs.Own.{Untouched};
 
 use crate::connection::{Connection, Ended, Step, Stop};
 use crate::event::{Event, EventKind};
@@ -115,7 +116,8 @@ impl Connection {
         }
     }
 
-    /// Closes the connection at once, with a code of HTTP/3. What is queued is dropped. Nothing changes if it ended before.
+    /// Closes the connection at once, with a code of HTTP/3. What is queued is dropped, and each stream that is not closed
+    /// is told to be. Nothing changes if it ended before.
     pub fn close(&mut self, code: Code)
         ensures end { EndsUnless (is_over self.old) code self.old self.new }
         ensures output { is_over self.old ≡ false → next_output self.new ≡ Some (output.Close code) }
@@ -145,11 +147,16 @@ impl Connection {
             && self.decoder.is_idle()
             && self.encoder.is_idle()
             && self.outputs.is_empty()
+            && self.datagrams.queue.is_empty()
     }
 
     // Closes the connection, of which nothing is left.
-    pub(super) fn shut_down<'a>(&mut self) -> Step<'a> {
+    pub(super) fn shut_down<'a>(&mut self) -> Step<'a>
+        ensures own { Untouched self.old.streams.entries self.new.streams.entries }
+        ensures config { self.new.config ≡ self.old.config }
+    {
         let code = Code::H3_NO_ERROR.number().into_inner();
+        self.datagrams.queue.clear();
         self.ended = Some(Ended {
             code,
             by_peer: false,

@@ -1,16 +1,24 @@
 //! Datagrams (RFC 9297).
 ghost use Rattle.std.specs.Prelude.{◌≡◌, ◌-◌, ◌++◌, [], Ok, Some, MatchOption, OnOk, IfOk, IfSome, OnErr, List, ℕ, length, option_map};
 ghost use Rattle.vesgrauf.specs.State.{Adds, head, open_session, HeadOf, IsStill, KeepsDatagrams, SendsDatagram};
+ghost use Rattle.vesgrauf.specs.Own.{Untouched};
 
 use crate::connection::{Connection, DatagramQueue, Step, Stop};
 use crate::event::{Event, EventKind, Why};
 use crate::input::{Input, Report};
 use crate::refused::Refused;
+use std::alloc::{AllocError, Global};
+use std::mem;
 use vesgrauf_stream::bytes::Bytes;
+use vesgrauf_stream::early::EarlyDatagrams;
+use wtp_connection::connection::Known;
 use wtp_connection::connection::datagrams::DatagramFor;
 use wtp_connection::fault::Fault as StreamsFault;
 use wtp_core::error::Code;
 use wtp_webtransport::fault::Fault;
+
+/// How many datagrams are kept whose sessions are to come.
+const MAX_EARLY: usize = 16;
 
 impl DatagramQueue {
     // Queues a datagram: its first bytes, and the payload.
@@ -23,11 +31,40 @@ impl DatagramQueue {
         self.queue.push_back(datagram)?;
         Ok(())
     }
+
+    // Keeps a datagram whose session is to come, unless as many are kept as may.
+    fn keep_early(&mut self, session: u64, payload: &[u8]) -> Result<(), AllocError> {
+        if self.early.len() + self.aged.len() < MAX_EARLY {
+            self.early.keep(session, payload)?;
+        }
+        Ok(())
+    }
+
+    // Takes the first of those of a session.
+    fn take_early(&mut self, session: u64) -> Option<Vec<u8>> {
+        match self.aged.take(session) {
+            Some(payload) => Some(payload),
+            None => self.early.take(session),
+        }
+    }
+
+    // Drops those that came before the last tick, unless some are to be given.
+    pub(super) fn age(&mut self, alloc: Global)
+        ensures queue { self.new.queue ≡ self.old.queue }
+        ensures owed { self.new.is_owed ≡ self.old.is_owed }
+    {
+        if self.opened.is_empty() {
+            self.aged = mem::replace(&mut self.early, EarlyDatagrams::new(alloc));
+        }
+    }
 }
 
 impl Connection {
     // Takes in a datagram.
-    pub(super) fn datagram_came<'a>(&mut self, input: &mut Input<'a>) -> Result<Step<'a>, Stop> {
+    pub(super) fn datagram_came<'a>(&mut self, input: &mut Input<'a>) -> Result<Step<'a>, Stop>
+        ensures own { Untouched self.old.streams.entries self.new.streams.entries }
+        ensures config { self.new.config ≡ self.old.config }
+    {
         let found = match self.shared.datagram(input.chunk.all()) {
             Ok(found) => found,
             Err(fault) => return Err(Stop::from(fault)),
@@ -39,7 +76,7 @@ impl Connection {
         let step = match self.known(session).datagram_for() {
             DatagramFor::Deliver => self.tell(session, EventKind::Datagram(Bytes::Input(payload))),
             DatagramFor::Early => {
-                self.datagrams.early.keep(session, payload)?;
+                self.datagrams.keep_early(session, payload)?;
                 Step::More
             }
             DatagramFor::Discard => Step::More,
@@ -53,18 +90,22 @@ impl Connection {
         Ok(step)
     }
 
-    // Gives a datagram that came before its session was open.
-    pub(super) fn give_early<'a>(&mut self) -> Option<Step<'a>> {
-        let Some(session) = self.datagrams.opened.front().copied() else {
-            return None;
-        };
-        match self.datagrams.early.take(session) {
-            Some(payload) => Some(self.tell(session, EventKind::Datagram(Bytes::Kept(payload)))),
-            None => {
-                self.datagrams.opened.pop_front();
-                Some(Step::More)
-            }
+    // Takes a datagram that came before its session was open: it is dropped if the session is refused.
+    pub(super) fn early_of<'a>(&mut self, session: u64) -> Option<Step<'a>>
+        ensures own { Untouched self.old.streams.entries self.new.streams.entries }
+        ensures config { self.new.config ≡ self.old.config }
+    {
+        let payload = self.datagrams.take_early(session)?;
+        if self.is_open(session) {
+            Some(self.tell(session, EventKind::Datagram(Bytes::Kept(payload))))
+        } else {
+            Some(Step::More)
         }
+    }
+
+    // Returns whether a session is open.
+    fn is_open(&self, session: u64) -> bool {
+        matches!(self.known(session), Known::Open)
     }
 
     /// Sends a datagram of a session. Returns false if as many wait as
@@ -137,9 +178,15 @@ impl Connection {
     /// # Errors
     ///
     /// `Memory`: nothing changes, and the call is to be made again.
-    pub fn datagram_sent(&mut self) -> Result<(), Refused> {
+    pub fn datagram_sent(&mut self) -> Result<(), Refused>
+        ensures own { Untouched self.old.streams.entries self.new.streams.entries }
+        ensures config { self.new.config ≡ self.old.config }
+    {
         self.reserve()?;
         self.datagrams.queue.pop_front();
+        if self.ended.is_some() {
+            return Ok(());
+        }
         if self.datagrams.is_owed && self.datagrams.queue.len() <= self.config.datagram_queue / 2 {
             self.datagrams.is_owed = false;
             let event = Event::of_connection(EventKind::DatagramsWritable);

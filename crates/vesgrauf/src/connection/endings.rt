@@ -1,20 +1,30 @@
 //! Streams that the peer resets, or asks to stop.
 ghost use Rattle.std.specs.Prelude.{◌≡◌};
-ghost use Rattle.vesgrauf.specs.State.{head, is_over, EndsUnless};
+ghost use Rattle.std.specs.List.{filter};
+ghost use Rattle.vesgrauf.specs.State.{head, is_over, EndsUnless, closes_stream};
+ghost use Rattle.vesgrauf.specs.Own.{Untouched};
 
-use crate::connection::{Connection, Ended, Step, Stop};
+use crate::code::StreamCode;
+use crate::connection::failing::EXCESSIVE_LOAD;
+use crate::connection::{Connection, Ended, Step, Stop, internal};
 use crate::entry::Peer;
 use crate::event::{Event, EventKind, Why};
 use crate::input::{Input, Report};
 use crate::output::Output;
+use std::collections::VecDeque;
 use vesgrauf_stream::writing::Writing;
 use wtp_connection::stream::Purpose;
 use wtp_core::error::Code;
+use wtp_core::varint::VarInt;
 use wtp_webtransport::event::Event as Said;
 
 impl Connection {
     // The peer reset a stream.
-    pub(super) fn reset_came(&mut self, id: u64, code: u64) -> Result<(), Stop> {
+    #[tactic(auto, using(crate::proofs::OwnLemmas::untouched_set))]
+    pub(super) fn reset_came(&mut self, id: u64, code: u64) -> Result<(), Stop>
+        ensures own { Untouched self.old.streams.entries self.new.streams.entries }
+        ensures config { self.new.config ≡ self.old.config }
+    {
         self.accept(id)?;
         match self.peer_of(id) {
             Peer::Over => return Ok(self.forget_stop(id)),
@@ -22,7 +32,7 @@ impl Connection {
             Peer::Reads => {}
         }
         self.give_up(id)?;
-        let shown = self.shown_code(id, code);
+        let shown = self.shown_code(id, code)?;
         let Some(entry) = self.streams.get_mut(&id) else {
             return Ok(());
         };
@@ -31,6 +41,14 @@ impl Connection {
             return Err(Stop::from(fault));
         }
         entry.is_ended = true;
+        self.half_reset(id, shown, event)
+    }
+
+    // Handles what the reset of the peer's half says of the stream.
+    fn half_reset(&mut self, id: u64, shown: StreamCode, event: Said<'static>) -> Result<(), Stop>
+        ensures own { Untouched self.old.streams.entries self.new.streams.entries }
+        ensures config { self.new.config ≡ self.old.config }
+    {
         self.cancel(id)?;
         self.queue_event(id, EventKind::Reset(shown))?;
         self.half_ended(id, event)?;
@@ -39,8 +57,11 @@ impl Connection {
         self.peer_is_over(id)
     }
 
-    // The peer reset the own stream of a session that is still to come, or stopped its answer: it does not come.
-    fn lose_session(&mut self, id: u64) -> Result<(), Stop> {
+    // The peer reset the own stream of a session that is still to come, or one side stopped it: it does not come.
+    pub(super) fn lose_session(&mut self, id: u64) -> Result<(), Stop>
+        ensures own { Untouched self.old.streams.entries self.new.streams.entries }
+        ensures config { self.new.config ≡ self.old.config }
+    {
         let has_session = match self.streams.get(&id) {
             Some(entry) => entry.has_session,
             None => false,
@@ -52,7 +73,10 @@ impl Connection {
     }
 
     // Resets the own half of a stream that the peer reset before the program was told of it: nothing will be sent on it.
-    fn leave_untold(&mut self, id: u64) -> Result<(), Stop> {
+    fn leave_untold(&mut self, id: u64) -> Result<(), Stop>
+        ensures own { Untouched self.old.streams.entries self.new.streams.entries }
+        ensures config { self.new.config ≡ self.old.config }
+    {
         let Some(entry) = self.streams.get(&id) else {
             return Ok(());
         };
@@ -64,7 +88,11 @@ impl Connection {
     }
 
     // The peer asked to stop the own half of a stream.
-    pub(super) fn stop_came(&mut self, id: u64, code: u64) -> Result<(), Stop> {
+    #[tactic(auto, using(crate::proofs::OwnLemmas::untouched_set))]
+    pub(super) fn stop_came(&mut self, id: u64, code: u64) -> Result<(), Stop>
+        ensures own { Untouched self.old.streams.entries self.new.streams.entries }
+        ensures config { self.new.config ≡ self.old.config }
+    {
         if let Some(own) = self.own_purpose(id) {
             return match self.shared.stopped(own) {
                 Some(fault) => Err(Stop::from(fault)),
@@ -72,16 +100,28 @@ impl Connection {
             };
         }
         self.accept(id)?;
-        let shown = self.shown_code(id, code);
+        let shown = self.shown_code(id, code)?;
         let Some(entry) = self.streams.get_mut(&id) else {
             return Ok(());
         };
         let is_reset = entry.writing.is_ended() && !entry.writing.is_finished();
         if is_reset || entry.writing.is_done() {
+            if self.reset_ended(id, code)? {
+                self.queue_event(id, EventKind::Stopped(shown))?;
+            }
             return Ok(());
         }
         self.give_up(id)?;
         self.reset_own(id, code)?;
+        self.half_stopped(id, code, shown)
+    }
+
+    // Handles what the stop of the own half says of the stream.
+    #[tactic(auto, using(crate::proofs::OwnLemmas::untouched_set))]
+    fn half_stopped(&mut self, id: u64, code: u64, shown: StreamCode) -> Result<(), Stop>
+        ensures own { Untouched self.old.streams.entries self.new.streams.entries }
+        ensures config { self.new.config ≡ self.old.config }
+    {
         let Some(entry) = self.streams.get_mut(&id) else {
             return Ok(());
         };
@@ -97,20 +137,28 @@ impl Connection {
         self.remove_if_done(id)
     }
 
-    // Tells the program of a stop that came before it knew of the stream.
-    pub(super) fn tell_stop(&mut self, id: u64) -> Result<(), Stop> {
+    // Tells the program of a stop that came before it knew of the stream. A session that was stopped does not come to be.
+    #[tactic(auto, using(crate::proofs::OwnLemmas::untouched_set))]
+    pub(super) fn tell_stop(&mut self, id: u64) -> Result<(), Stop>
+        ensures own { Untouched self.old.streams.entries self.new.streams.entries }
+        ensures config { self.new.config ≡ self.old.config }
+    {
         let Some(entry) = self.streams.get_mut(&id) else {
             return Ok(());
         };
         let Some(code) = entry.stopped.take() else {
             return Ok(());
         };
-        let shown = self.shown_code(id, code);
-        self.queue_event(id, EventKind::Stopped(shown))
+        let shown = self.shown_code(id, code)?;
+        self.queue_event(id, EventKind::Stopped(shown))?;
+        self.lose_session(id)
     }
 
     // Handles what the end of one half says of the stream.
-    fn half_ended(&mut self, id: u64, event: Said<'static>) -> Result<(), Stop> {
+    fn half_ended(&mut self, id: u64, event: Said<'static>) -> Result<(), Stop>
+        ensures own { Untouched self.old.streams.entries self.new.streams.entries }
+        ensures config { self.new.config ≡ self.old.config }
+    {
         match event {
             Said::Reset(Some(fault)) | Said::StreamError(fault) => {
                 self.shut(id, fault.code(), Why::Fault(fault))
@@ -122,7 +170,11 @@ impl Connection {
     }
 
     // Counts a request that its client gives up before its answer (RFC 9114, section 10.5).
-    fn give_up(&mut self, id: u64) -> Result<(), Stop> {
+    #[tactic(auto, using(crate::proofs::OwnLemmas::untouched_set))]
+    fn give_up(&mut self, id: u64) -> Result<(), Stop>
+        ensures own { Untouched self.old.streams.entries self.new.streams.entries }
+        ensures config { self.new.config ≡ self.old.config }
+    {
         let Some(entry) = self.streams.get_mut(&id) else {
             return Ok(());
         };
@@ -133,27 +185,33 @@ impl Connection {
         }
         entry.is_awaited = false;
         match self.budget.reset_unanswered() {
-            Some(code) => Err(Stop::Broken(code.number().into_inner())),
+            Some(_code) => Err(Stop::from(EXCESSIVE_LOAD)),
             None => Ok(()),
         }
     }
 
     // Queues an event of a stream, if the program knows of the stream.
-    pub(super) fn queue_event(&mut self, id: u64, kind: EventKind<'static>) -> Result<(), Stop> {
+    pub(super) fn queue_event(&mut self, id: u64, kind: EventKind<'static>) -> Result<(), Stop>
+        ensures own { Untouched self.old.streams.entries self.new.streams.entries }
+        ensures config { self.new.config ≡ self.old.config }
+    {
         if let Step::Told(event) = self.tell(id, kind) {
             self.events.push_back(event)?;
         }
         Ok(())
     }
 
-    // Returns the code as the program sees it: the application's, on a stream of a session.
-    fn shown_code(&self, id: u64, code: u64) -> u64 {
-        let Some(entry) = self.streams.get(&id) else {
-            return code;
-        };
-        match entry.reading.application_code(code) {
-            Some(shown) => u64::from(shown),
-            None => code,
+    // Returns the code as the program sees it: the application's, on a stream of a session. One that cannot be is an error
+    // of QUIC.
+    fn shown_code(&self, id: u64, code: u64) -> Result<StreamCode, Stop> {
+        if let Some(entry) = self.streams.get(&id) {
+            if let Some(shown) = entry.reading.application_code(code) {
+                return Ok(StreamCode::from(shown));
+            }
+        }
+        match VarInt::try_from_u64(code) {
+            Ok(number) => Ok(StreamCode::Http(Code::new(number))),
+            Err(_) => Err(internal()),
         }
     }
 
@@ -172,7 +230,11 @@ impl Connection {
     }
 
     // QUIC has closed a stream: what is kept of the own half is freed. What the peer sent is still read.
-    pub(super) fn stream_closed(&mut self, id: u64) -> Result<(), Stop> {
+    #[tactic(auto, using(crate::proofs::OwnLemmas::untouched_set))]
+    pub(super) fn stream_closed(&mut self, id: u64) -> Result<(), Stop>
+        ensures own { Untouched self.old.streams.entries self.new.streams.entries }
+        ensures config { self.new.config ≡ self.old.config }
+    {
         let Some(entry) = self.streams.get_mut(&id) else {
             return Ok(());
         };
@@ -183,7 +245,10 @@ impl Connection {
     }
 
     // Leaves a request that the server does not process.
-    pub(super) fn leave_unprocessed<'a>(&mut self, first: u64) -> Result<Step<'a>, Stop> {
+    pub(super) fn leave_unprocessed<'a>(&mut self, first: u64) -> Result<Step<'a>, Stop>
+        ensures own { Untouched self.old.streams.entries self.new.streams.entries }
+        ensures config { self.new.config ≡ self.old.config }
+    {
         let Some(id) = self.first_request(first) else {
             self.pending.unprocessed = None;
             return Ok(Step::More);
@@ -212,7 +277,7 @@ impl Connection {
             return;
         }
         self.shared.stopped(Purpose::Control);
-        self.events.clear();
+        keep_closed(&mut self.events);
         self.outputs.clear();
         self.datagrams.queue.clear();
         self.ended = Some(Ended {
@@ -226,7 +291,11 @@ impl Connection {
 
     // Takes a step after the end of the connection: what comes is dropped, and each stream that the program knows of is
     // told to be over.
-    pub(super) fn step_after_end<'a>(&mut self, ended: Ended, input: &mut Input<'a>) -> Step<'a> {
+    #[tactic(auto, using(crate::proofs::OwnLemmas::untouched_set))]
+    pub(super) fn step_after_end<'a>(&mut self, ended: Ended, input: &mut Input<'a>) -> Step<'a>
+        ensures own { Untouched self.old.streams.entries self.new.streams.entries }
+        ensures config { self.new.config ≡ self.old.config }
+    {
         if matches!(input.report, Report::ConnectionClosed(_)) {
             self.closes = None;
         }
@@ -268,4 +337,11 @@ impl Connection {
     {
         self.outputs.front().copied()
     }
+}
+
+// Keeps the last events of streams: each stream that the program knows of has one.
+fn keep_closed(events: &mut VecDeque<Event<'static>>)
+    ensures { events.new.items ≡ filter closes_stream events.old.items }
+{
+    events.retain(|event| matches!(event.kind, EventKind::Closed(_)));
 }

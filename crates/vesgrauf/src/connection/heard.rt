@@ -1,4 +1,8 @@
 //! What is heard on a stream, and what follows from it.
+ghost use Rattle.std.specs.Prelude.{◌≡◌};
+ghost use Rattle.vesgrauf.specs.Own.{Untouched};
+ghost use Rattle.vesgrauf.specs.declared.config.OnMalformed.TheVariants as chosen;
+
 use crate::connection::{Connection, Step, Stop};
 use crate::event::{Event, EventKind, Tunnel, Why};
 use crate::output::StreamKind;
@@ -38,7 +42,10 @@ fn joining_of(event: &Said<'_>) -> Joining {
 
 impl Connection {
     // Handles what was heard on a stream.
-    pub(super) fn heard<'a>(&mut self, id: u64, heard: Heard<'a>) -> Result<Step<'a>, Stop> {
+    pub(super) fn heard<'a>(&mut self, id: u64, heard: Heard<'a>) -> Result<Step<'a>, Stop>
+        ensures own { self.old.config.on_malformed ≡ chosen.Reset → Untouched self.old.streams.entries self.new.streams.entries }
+        ensures config { self.new.config ≡ self.old.config }
+    {
         match heard {
             Heard::Data(bytes) | Heard::StreamData(bytes) => {
                 Ok(self.tell(id, EventKind::Data(bytes)))
@@ -65,7 +72,10 @@ impl Connection {
     }
 
     // Handles what a stream says.
-    pub(super) fn said(&mut self, id: u64, event: Said<'static>) -> Result<Step<'static>, Stop> {
+    pub(super) fn said(&mut self, id: u64, event: Said<'static>) -> Result<Step<'static>, Stop>
+        ensures own { self.old.config.on_malformed ≡ chosen.Reset → Untouched self.old.streams.entries self.new.streams.entries }
+        ensures config { self.new.config ≡ self.old.config }
+    {
         match event {
             Said::Settings(settings, _) => Ok(self.settings_came(settings)),
             Said::GoAway(first) => Ok(self.goaway_came(first)),
@@ -75,10 +85,7 @@ impl Connection {
                 Ok(Step::More)
             }
             Said::Opened(purpose) => self.purpose_came(id, purpose),
-            Said::Joins(session) => {
-                let event = self.join(id, session)?;
-                self.join_came(id, joining_of(&event))
-            }
+            Said::Joins(session) => self.session_named(id, session),
             Said::Headers(kind, list) => self.headers_came(id, kind, list),
             Said::SessionRequested(list) => self.session_came(id, list),
             Said::SessionReady(status, list) => self.session_ready(id, status, list),
@@ -88,14 +95,8 @@ impl Connection {
             Said::Datagram(payload) => Ok(self.capsule_came(id, payload)),
             Said::Draining => Ok(self.draining_came(id)),
             Said::End => self.end_came(id),
-            Said::TooLarge(_) => {
-                self.shut(id, Code::H3_EXCESSIVE_LOAD, Why::TooLarge)?;
-                Ok(Step::More)
-            }
-            Said::Malformed(rule) => {
-                self.shut(id, Code::H3_MESSAGE_ERROR, Why::Malformed(rule))?;
-                Ok(Step::More)
-            }
+            Said::TooLarge(_) => self.too_large_came(id),
+            Said::Malformed(rule) => self.malformed_came(id, rule),
             Said::StreamError(fault) | Said::Reset(Some(fault)) => {
                 self.shut(id, fault.code(), Why::Fault(fault))?;
                 Ok(Step::More)
@@ -106,8 +107,24 @@ impl Connection {
         }
     }
 
+    // A stream names its session.
+    #[tactic(auto, using(crate::proofs::OwnLemmas::untouched_set))]
+    fn session_named(&mut self, id: u64, session: u64) -> Result<Step<'static>, Stop>
+        ensures own { Untouched self.old.streams.entries self.new.streams.entries }
+        ensures config { self.new.config ≡ self.old.config }
+    {
+        if let Some(entry) = self.streams.get_mut(&id) {
+            entry.since = self.ticks;
+        }
+        let event = self.join(id, session)?;
+        self.join_came(id, joining_of(&event))
+    }
+
     // Handles what became of a stream that is to join its session.
-    fn join_came(&mut self, id: u64, joining: Joining) -> Result<Step<'static>, Stop> {
+    fn join_came(&mut self, id: u64, joining: Joining) -> Result<Step<'static>, Stop>
+        ensures own { Untouched self.old.streams.entries self.new.streams.entries }
+        ensures config { self.new.config ≡ self.old.config }
+    {
         match joining {
             Joining::Joined(session) => {
                 self.joined(id, session);
@@ -134,7 +151,10 @@ impl Connection {
     }
 
     // SETTINGS of the peer came.
-    fn settings_came(&mut self, settings: PeerSettings) -> Step<'static> {
+    fn settings_came(&mut self, settings: PeerSettings) -> Step<'static>
+        ensures own { Untouched self.old.streams.entries self.new.streams.entries }
+        ensures config { self.new.config ≡ self.old.config }
+    {
         self.is_configured = true;
         self.pending.begins_table = true;
         self.wake();
@@ -142,7 +162,10 @@ impl Connection {
     }
 
     // GOAWAY of the peer came.
-    fn goaway_came(&mut self, first: u64) -> Step<'static> {
+    fn goaway_came(&mut self, first: u64) -> Step<'static>
+        ensures own { Untouched self.old.streams.entries self.new.streams.entries }
+        ensures config { self.new.config ≡ self.old.config }
+    {
         if !self.is_server() {
             self.pending.unprocessed = Some(first);
         }
@@ -150,7 +173,10 @@ impl Connection {
     }
 
     // The stream is for this.
-    fn purpose_came(&mut self, id: u64, purpose: Purpose) -> Result<Step<'static>, Stop> {
+    fn purpose_came(&mut self, id: u64, purpose: Purpose) -> Result<Step<'static>, Stop>
+        ensures own { Untouched self.old.streams.entries self.new.streams.entries }
+        ensures config { self.new.config ≡ self.old.config }
+    {
         match purpose {
             Purpose::Message => {
                 let goaway = self.first_rejected();
@@ -166,7 +192,11 @@ impl Connection {
     }
 
     // The stream is one that is open as long as the connection, or ignored.
-    fn note_quiet(&mut self, id: u64) {
+    #[tactic(auto, using(crate::proofs::OwnLemmas::untouched_set))]
+    fn note_quiet(&mut self, id: u64)
+        ensures own { Untouched self.old.streams.entries self.new.streams.entries }
+        ensures config { self.new.config ≡ self.old.config }
+    {
         if let Some(entry) = self.streams.get_mut(&id) {
             if !entry.is_quiet {
                 entry.is_quiet = true;
@@ -185,7 +215,11 @@ impl Connection {
 
     // Rejects the request on a stream if its ID is this one or above it: that of the own GOAWAY, or its own where there are
     // too many sessions.
-    pub(super) fn reject(&mut self, id: u64, first: Option<u64>) -> Result<Step<'static>, Stop> {
+    #[tactic(auto, using(crate::proofs::OwnLemmas::untouched_set))]
+    pub(super) fn reject(&mut self, id: u64, first: Option<u64>) -> Result<Step<'static>, Stop>
+        ensures own { Untouched self.old.streams.entries self.new.streams.entries }
+        ensures config { self.new.config ≡ self.old.config }
+    {
         let Some(entry) = self.streams.get_mut(&id) else {
             return Ok(Step::More);
         };
@@ -204,7 +238,10 @@ impl Connection {
         id: u64,
         kind: HeadersKind,
         list: FieldList,
-    ) -> Result<Step<'static>, Stop> {
+    ) -> Result<Step<'static>, Stop>
+        ensures own { Untouched self.old.streams.entries self.new.streams.entries }
+        ensures config { self.new.config ≡ self.old.config }
+    {
         match kind {
             HeadersKind::Request => {
                 let step = self.request_came(id, list);
@@ -221,7 +258,10 @@ impl Connection {
     }
 
     // A request came that asks for no session.
-    fn request_came(&mut self, id: u64, list: FieldList) -> Step<'static> {
+    fn request_came(&mut self, id: u64, list: FieldList) -> Step<'static>
+        ensures own { Untouched self.old.streams.entries self.new.streams.entries }
+        ensures config { self.new.config ≡ self.old.config }
+    {
         let connects = list.first(b":method") == Some(b"CONNECT");
         let asked = if connects {
             Asked::Connect
@@ -239,7 +279,11 @@ impl Connection {
     }
 
     // A request came that asks for this.
-    pub(super) fn note_request(&mut self, id: u64, asked: Asked) {
+    #[tactic(auto, using(crate::proofs::OwnLemmas::untouched_set))]
+    pub(super) fn note_request(&mut self, id: u64, asked: Asked)
+        ensures own { Untouched self.old.streams.entries self.new.streams.entries }
+        ensures config { self.new.config ≡ self.old.config }
+    {
         if let Some(entry) = self.streams.get_mut(&id) {
             entry.writing.ask(asked);
             entry.is_told = true;
@@ -248,7 +292,11 @@ impl Connection {
     }
 
     // The final response to a request that asked for no session came.
-    fn response_came(&mut self, id: u64, status: u32) -> Result<(), Stop> {
+    #[tactic(auto, using(crate::proofs::OwnLemmas::untouched_set))]
+    fn response_came(&mut self, id: u64, status: u32) -> Result<(), Stop>
+        ensures own { Untouched self.old.streams.entries self.new.streams.entries }
+        ensures config { self.new.config ≡ self.old.config }
+    {
         let Some(entry) = self.streams.get_mut(&id) else {
             return Ok(());
         };
@@ -263,7 +311,11 @@ impl Connection {
     }
 
     // The peer's half ended.
-    fn end_came(&mut self, id: u64) -> Result<Step<'static>, Stop> {
+    #[tactic(auto, using(crate::proofs::OwnLemmas::untouched_set))]
+    fn end_came(&mut self, id: u64) -> Result<Step<'static>, Stop>
+        ensures own { Untouched self.old.streams.entries self.new.streams.entries }
+        ensures config { self.new.config ≡ self.old.config }
+    {
         let step = self.tell(id, EventKind::End);
         if let Some(entry) = self.streams.get_mut(&id) {
             entry.may_cancel = false;
@@ -274,7 +326,10 @@ impl Connection {
 
     // The peer closed a session, on its own stream. The stream is read to its end: more content is an error
     // (draft-ietf-webtrans-http3-02, section 5).
-    fn session_closed(&mut self, id: u64, close: Close) -> Result<Step<'static>, Stop> {
+    fn session_closed(&mut self, id: u64, close: Close) -> Result<Step<'static>, Stop>
+        ensures own { Untouched self.old.streams.entries self.new.streams.entries }
+        ensures config { self.new.config ≡ self.old.config }
+    {
         self.cancel(id)?;
         self.end_own(id)?;
         self.end_session(id)?;
@@ -283,7 +338,10 @@ impl Connection {
     }
 
     // A session ended otherwise.
-    fn session_lost(&mut self, id: u64) -> Result<Step<'static>, Stop> {
+    fn session_lost(&mut self, id: u64) -> Result<Step<'static>, Stop>
+        ensures own { Untouched self.old.streams.entries self.new.streams.entries }
+        ensures config { self.new.config ≡ self.old.config }
+    {
         self.shut(id, Code::H3_REQUEST_CANCELLED, Why::SessionGone)?;
         Ok(Step::More)
     }

@@ -25,7 +25,7 @@ pub(crate) struct Ids {
 
 impl Ids {
     ghost use Rattle.std.specs.Prelude.{◌≡◌, ◌<◌, ◌≤◌, ◌^◌, ◌%◌, ◌==◌, ◌&&◌, nat_lt, min, true, false, MatchOption, if◌then◌else◌};
-    ghost use Rattle.vesgrauf.specs.Ids.{IsFirst, own_bit, kind_of, next_own, unopened, next_peer, to_open, taken, opened, seen, was as was_is, blocked as blocked_is};
+    ghost use Rattle.vesgrauf.specs.Ids.{IsFirst, own_bit, kind_of, next_own, unopened, next_peer, to_open, taken, opened, seen, was as was_is, blocked as blocked_is, count_unopened as count_unopened_is};
 
     // Creates those of a connection without streams.
     pub(crate) fn new(side: Side) -> Self
@@ -135,6 +135,21 @@ impl Ids {
                 id == self.unopened_unidirectional && id < self.unidirectional
             }
         }
+    }
+
+    // Returns how many own streams of a kind QUIC is to open.
+    pub(crate) fn count_unopened(&self, kind: StreamKind) -> u64
+        ensures { result ≡ count_unopened_is self.now kind }
+    {
+        let left = match kind {
+            StreamKind::Bidirectional => self
+                .bidirectional
+                .saturating_sub(self.unopened_bidirectional),
+            StreamKind::Unidirectional => self
+                .unidirectional
+                .saturating_sub(self.unopened_unidirectional),
+        };
+        left / 4
     }
 
     // QUIC has opened the next stream of a kind, which was taken.

@@ -2,7 +2,8 @@
 ghost use Rattle.std.specs.Prelude.{◌≡◌, ◌⊎◌, false, true, is_some, None, Some, OnOk, OnErr, IfOk, IfErr, length};
 ghost use Rattle.vesgrauf_stream.specs.Writing.{Sends};
 ghost use Rattle.vesgrauf_stream.specs.Headers.{SendsTrailers, RefusesTrailers};
-ghost use Rattle.vesgrauf.specs.State.{stream_at, Changes, IsFor, IsStill, IsStillBut, SaysOrWaits, StaysFor, IsWhy, IsWhyOf, RefusesBytes, RefusesEnd, FinishesUnless, was_finished, is_over};
+ghost use Rattle.vesgrauf.specs.Own.{Untouched, UntouchedBut};
+ghost use Rattle.vesgrauf.specs.State.{stream_at, Changes, IsFor, IsStill, IsStillBut, SaysOrWaits, StaysFor, IsWhy, IsWhyOf, RefusesBytes, RefusesEnd, FinishesUnless, was_finished, was_told_full, is_over};
 ghost use Rattle.vesgrauf.specs.declared.refused.Refused.TheVariants as refused;
 
 use crate::connection::{Connection, Stop};
@@ -26,8 +27,13 @@ impl Connection {
     ///
     /// Nothing changes. `Closed`; `WrongSide` at a server; `GoAway`; for an extended CONNECT, such as a request for a
     /// session, `NotReady` until SETTINGS of the peer came; `TooManySessions` if as many sessions are open as the peer
-    /// allows; `NoMoreIds`; `Send` if it would be malformed or the peer does not support it; and `Memory`.
-    pub fn request(&mut self, list: &FieldList, fin: bool) -> Result<u64, Refused> {
+    /// allows; `Full` if as many requests wait for QUIC as [`max_unopened`](crate::config::Config) says: an event
+    /// [`Openable`](crate::event::EventKind) follows; `NoMoreIds`; `Send` if it would be malformed or the peer does not
+    /// support it; and `Memory`.
+    pub fn request(&mut self, list: &FieldList, fin: bool) -> Result<u64, Refused>
+        ensures id { IfOk result (λ id. id ≡ self.old.ids.bidirectional) }
+        ensures own { IfOk result (λ id. UntouchedBut id self.old.streams.entries self.new.streams.entries) }
+    {
         if self.ended.is_some() {
             return Err(Refused::Closed);
         }
@@ -39,6 +45,7 @@ impl Connection {
         }
         let asked = asked_of(list);
         self.check_asked(asked, list)?;
+        self.check_room(StreamKind::Bidirectional)?;
         let Some(id) = self.ids.next(StreamKind::Bidirectional) else {
             return Err(Refused::NoMoreIds);
         };
@@ -85,7 +92,10 @@ impl Connection {
         asked: Asked,
         list: &FieldList,
         fin: bool,
-    ) -> Result<(), Refused> {
+    ) -> Result<(), Refused>
+        ensures own { OnOk result (UntouchedBut id self.old.streams.entries self.new.streams.entries) }
+        ensures ids { self.new.ids ≡ self.old.ids }
+    {
         let session = session_id(id)?;
         let allows = self.allows();
         let place = match self.streams.entry(id) {
@@ -94,9 +104,6 @@ impl Connection {
         };
         let mut writing = Writing::idle(self.alloc, self.config.queue());
         writing.request(&mut self.tools, session, allows, list, fin)?;
-        if asked == Asked::Session && self.asked.insert(id).is_err() {
-            return Err(Refused::Memory);
-        }
         let stream = self.shared.open(asked);
         let mut entry = Entry::new(Reading::new(self.alloc, stream), Peer::Reads, writing);
         entry.is_told = true;
@@ -129,9 +136,18 @@ impl Connection {
     ///
     /// Nothing changes. `Closed`; `NoStream` if no request came on the stream; `Over`; `Send` if it would be malformed;
     /// and `Memory`.
-    pub fn respond(&mut self, id: u64, list: &FieldList, fin: bool) -> Result<(), Refused> {
+    pub fn respond(&mut self, id: u64, list: &FieldList, fin: bool) -> Result<(), Refused>
+        ensures own { UntouchedBut id self.old.streams.entries self.new.streams.entries }
+        ensures config { self.new.config ≡ self.old.config }
+    {
         self.begin_send(id)?;
-        let session = session_id(id)?;
+        let session = match session_id(id) {
+            Ok(session) => session,
+            Err(refused) => {
+                self.end_send(id);
+                return Err(refused);
+            }
+        };
         let allows = self.allows();
         self.choose_policy();
         let Some(entry) = self.streams.get_mut(&id) else {
@@ -149,12 +165,18 @@ impl Connection {
         if fin && matches!(self.known(id), Known::Open) {
             self.end_session(id)?;
             self.drop_peer(id)?;
+        } else if accepts(list) && self.peer_of(id) == Peer::Over {
+            // (a session whose own stream was stopped here before its answer does not come to be)
+            self.lose_session(id)?;
         }
         Ok(())
     }
 
     // A response with this status was sent.
-    fn answered(&mut self, id: u64, status: u32) {
+    fn answered(&mut self, id: u64, status: u32)
+        ensures own { Untouched self.old.streams.entries self.new.streams.entries }
+        ensures config { self.new.config ≡ self.old.config }
+    {
         if status < 200 {
             return;
         }
@@ -167,9 +189,8 @@ impl Connection {
             self.budget.answered();
         }
         if entry.has_session {
-            if status < 300 {
-                let _opened = self.datagrams.opened.push_back(id);
-            } else {
+            let _decided = self.datagrams.opened.push_back(id);
+            if status >= 300 {
                 entry.has_session = false;
                 self.sessions = self.sessions.saturating_sub(1);
             }
@@ -178,19 +199,21 @@ impl Connection {
     }
 
     /// Sends content of a message, in one DATA frame, or bytes of a stream of a session; and with `fin` the end. Returns
-    /// false if as many bytes are queued as [`send_buffer`](crate::config::Config) says: an event
-    /// [`Writable`](crate::event::EventKind) follows when half of them are sent.
+    /// false if as many bytes are queued as [`send_buffer`](crate::config::Config) says: unless the end is among them, an
+    /// event [`Writable`](crate::event::EventKind) follows when half of them are sent.
     ///
     /// # Errors
     ///
-    /// Nothing is queued. `Full` if as many bytes were queued before: a `Writable` follows then. `Closed`; `NoStream`;
-    /// `Over`; `Send`; and `Memory`.
+    /// Nothing is queued. `Full` if a call returned false, and as many bytes are queued still: the `Writable` is to come.
+    /// `Closed`; `NoStream`; `Over`; `Send`; and `Memory`.
     #[tactic(auto, using(std::proofs::lemmas::Map::Steps::set_value_same))]
     pub fn send(&mut self, id: u64, bytes: &[u8], fin: bool) -> Result<bool, Refused>
         ensures ok { IfOk result (λ room. Changes id (Sends bytes.now fin room) self.old self.new) }
         ensures why { IfErr result (λ e. IsWhy (RefusesBytes (length bytes.now) fin) self.old id e) }
+        ensures told { IfErr result (λ e. e ≡ refused.Full → was_told_full self.old id ≡ true) }
         ensures kept { IfErr result (λ e. StaysFor e id self.old self.new) }
     {
+        let was_full = self.full.contains(&id);
         self.begin_send(id)?;
         if self.full.insert(id).is_err() {
             self.end_send(id);
@@ -199,9 +222,9 @@ impl Connection {
         let Some(entry) = self.streams.get_mut(&id) else {
             return Err(Refused::NoStream);
         };
-        let result = entry.send(&mut self.tools.spares, bytes, fin);
+        let result = entry.send(&mut self.tools.spares, bytes, fin, was_full);
         self.end_send(id);
-        self.note_full(id);
+        self.note_full(id, was_full || matches!(result, Ok(false)));
         result
     }
 
@@ -214,9 +237,11 @@ impl Connection {
     pub fn send_owned(&mut self, id: u64, bytes: Vec<u8>, fin: bool) -> Result<bool, NotSent>
         ensures ok { IfOk result (λ room. Changes id (Sends bytes.items fin room) self.old self.new) }
         ensures why { IfErr result (λ e. IsWhy (RefusesBytes (length bytes.items) fin) self.old id e.why) }
+        ensures told { IfErr result (λ e. e.why ≡ refused.Full → was_told_full self.old id ≡ true) }
         ensures kept { IfErr result (λ e. StaysFor e.why id self.old self.new) }
         ensures bytes { IfErr result (λ e. e.bytes ≡ bytes) }
     {
+        let was_full = self.full.contains(&id);
         if let Err(why) = self.begin_send(id) {
             return Err(NotSent { why, bytes });
         }
@@ -233,21 +258,22 @@ impl Connection {
                 bytes,
             });
         };
-        let result = entry.send_owned(&mut self.tools.spares, bytes, fin);
+        let result = entry.send_owned(&mut self.tools.spares, bytes, fin, was_full);
         self.end_send(id);
-        self.note_full(id);
+        self.note_full(id, was_full || matches!(result, Ok(false)));
         result
     }
 
-    // Keeps a stream among those that are full only if it is.
-    fn note_full(&mut self, id: u64)
+    // Keeps a stream among those of which a `Writable` is owed only if the program was told that it is full, and may send
+    // more.
+    fn note_full(&mut self, id: u64, is_told: bool)
         ensures { IsStill self.old self.new }
     {
-        let is_full = match self.streams.get(&id) {
-            Some(entry) => entry.writing.is_full(),
+        let has_more = match self.streams.get(&id) {
+            Some(entry) => !entry.writing.is_ended(),
             None => false,
         };
-        if !is_full {
+        if !is_told || !has_more {
             self.full.remove(&id);
         }
     }
@@ -406,11 +432,19 @@ fn status_of(list: &FieldList) -> Option<u32> {
     }
 }
 
+// Returns whether a response opens a session, if its request asked for one.
+fn accepts(list: &FieldList) -> bool {
+    match status_of(list) {
+        Some(status) => status > 199 && status < 300,
+        None => false,
+    }
+}
+
 impl From<Stop> for Refused {
     fn from(stop: Stop) -> Refused {
         match stop {
             Stop::Memory => Refused::Memory,
-            Stop::Broken(_) => Refused::Closed,
+            Stop::Broken(_, _) => Refused::Closed,
         }
     }
 }

@@ -1,12 +1,17 @@
 //! Streams that are opened.
-ghost use Rattle.std.specs.Prelude.{◌≡◌, MatchBool};
+ghost use Rattle.std.specs.Prelude.{◌≡◌, [], MatchBool, OnOk, OnErr, IfOk};
 ghost use Rattle.wtp_frames.specs.declared.endpoint.Side.TheVariants as side;
-ghost use Rattle.vesgrauf.specs.State.{open_session};
+ghost use Rattle.vesgrauf.specs.State.{open_session, room_for, may_wait, IsStill};
+ghost use Rattle.vesgrauf.specs.Own.{Sends, own_of, Untouched, UntouchedBut};
+ghost use Rattle.vesgrauf.specs.Ids.{next_own};
 
 use crate::connection::{Connection, Stop};
 use crate::entry::{Entry, Member, Peer, SHARED};
+use crate::event::{Event, EventKind};
 use crate::output::{Output, StreamKind};
 use crate::refused::Refused;
+use std::alloc::Global;
+use vesgrauf_queue::config::QueueConfig;
 use vesgrauf_stream::reading::Reading;
 use vesgrauf_stream::writing::Writing;
 use wtp_connection::connection::Known;
@@ -16,26 +21,27 @@ use wtp_webtransport::stream::Stream;
 
 impl Connection {
     // Registers the next stream of the peer, of the kind of this one.
-    pub(super) fn accept_next(&mut self, id: u64) -> Result<(), Stop> {
+    pub(super) fn accept_next(&mut self, id: u64) -> Result<(), Stop>
+        ensures own { Untouched self.old.streams.entries self.new.streams.entries }
+        ensures config { self.new.config ≡ self.old.config }
+    {
         let next = self.ids.next_of_peer(id);
-        let place = self.streams.entry(next)?;
         let stream = self.shared.accept(next);
-        let queue = self.config.queue();
-        let writing = if next % 4 < 2 {
-            Writing::idle(self.alloc, queue)
-        } else {
-            Writing::none(self.alloc, queue)
-        };
+        let writing = half_beside_peer(self.alloc, self.config.queue(), next);
         let mut entry = Entry::new(Reading::new(self.alloc, stream), Peer::Reads, writing);
         entry.may_cancel = next % 4 == 0;
-        place.or_insert(entry);
+        self.streams.insert(next, entry)?;
         self.ids.see_next(StreamKind::of(id));
         Ok(())
     }
 
     // Joins a stream with its session, by what is known of that.
-    pub(super) fn join(&mut self, id: u64, session: u64) -> Result<Said<'static>, Stop> {
-        let known = self.known(session);
+    #[tactic(auto, using(crate::proofs::OwnLemmas::untouched_set))]
+    pub(super) fn join(&mut self, id: u64, session: u64) -> Result<Said<'static>, Stop>
+        ensures own { Untouched self.old.streams.entries self.new.streams.entries }
+        ensures config { self.new.config ≡ self.old.config }
+    {
+        let known = self.known_to(id, session);
         if matches!(known, Known::Open) {
             self.members.insert(Member { session, id })?;
         }
@@ -46,7 +52,11 @@ impl Connection {
     }
 
     // A stream of the peer joined its session.
-    pub(super) fn joined(&mut self, id: u64, session: u64) {
+    #[tactic(auto, using(crate::proofs::OwnLemmas::untouched_set))]
+    pub(super) fn joined(&mut self, id: u64, session: u64)
+        ensures own { Untouched self.old.streams.entries self.new.streams.entries }
+        ensures config { self.new.config ≡ self.old.config }
+    {
         if let Some(entry) = self.streams.get_mut(&id) {
             entry.session = Some(session);
             entry.priority = SHARED;
@@ -61,9 +71,15 @@ impl Connection {
     ///
     /// # Errors
     ///
-    /// Nothing changes. `Closed`; `NoStream` if there is no such session; `NotOpen`; `NoMoreIds`; and `Memory`.
-    pub fn open_stream(&mut self, session: u64, kind: StreamKind) -> Result<u64, Refused> {
+    /// Nothing changes. `Closed`; `NoStream` if there is no such session; `NotOpen`; `Full` if as many own streams of this
+    /// kind wait for QUIC as [`max_unopened`](crate::config::Config) says: an event
+    /// [`Openable`](crate::event::EventKind) follows; `NoMoreIds`; and `Memory`.
+    pub fn open_stream(&mut self, session: u64, kind: StreamKind) -> Result<u64, Refused>
+        ensures id { IfOk result (λ id. id ≡ next_own self.old.ids kind) }
+        ensures own { IfOk result (λ id. UntouchedBut id self.old.streams.entries self.new.streams.entries) }
+    {
         self.check_session(session)?;
+        self.check_room(kind)?;
         let Some(id) = self.ids.next(kind) else {
             return Err(Refused::NoMoreIds);
         };
@@ -90,8 +106,57 @@ impl Connection {
         Ok(id)
     }
 
+    // Refuses one more own stream of a kind while as many wait for QUIC as may: an `Openable` is owed then.
+    pub(super) fn check_room(&mut self, kind: StreamKind) -> Result<(), Refused>
+        ensures room { result ≡ room_for self.old kind }
+        ensures still { IsStill self.old self.new }
+    {
+        if self.has_place(kind) {
+            return Ok(());
+        }
+        self.owe_openable(kind, true);
+        Err(Refused::Full)
+    }
+
+    // Returns whether fewer own streams of a kind wait for QUIC than may.
+    fn has_place(&self, kind: StreamKind) -> bool
+        ensures { result ≡ may_wait self.now kind }
+    {
+        self.ids.count_unopened(kind) < self.config.max_unopened.max(1)
+    }
+
+    // Tells that there is room again for own streams of a kind, if that is owed.
+    fn tell_openable(&mut self, kind: StreamKind) -> Result<(), Refused>
+        ensures own { Untouched self.old.streams.entries self.new.streams.entries }
+        ensures config { self.new.config ≡ self.old.config }
+    {
+        let is_owed = match kind {
+            StreamKind::Bidirectional => self.pending.owes_bidirectional,
+            StreamKind::Unidirectional => self.pending.owes_unidirectional,
+        };
+        if is_owed && self.ended.is_none() && self.has_place(kind) {
+            self.events
+                .push_back(Event::of_connection(EventKind::Openable(kind)))?;
+            self.owe_openable(kind, false);
+        }
+        Ok(())
+    }
+
+    // Notes whether an `Openable` is owed.
+    fn owe_openable(&mut self, kind: StreamKind, is_owed: bool)
+        ensures { IsStill self.old self.new }
+    {
+        match kind {
+            StreamKind::Bidirectional => self.pending.owes_bidirectional = is_owed,
+            StreamKind::Unidirectional => self.pending.owes_unidirectional = is_owed,
+        }
+    }
+
     // Adds an own stream of a session.
-    fn add_member(&mut self, session: u64, id: u64, entry: Entry) -> Result<(), Refused> {
+    fn add_member(&mut self, session: u64, id: u64, entry: Entry) -> Result<(), Refused>
+        ensures own { OnOk result (UntouchedBut id self.old.streams.entries self.new.streams.entries) }
+        ensures ids { self.new.ids ≡ self.old.ids }
+    {
         let place = match self.streams.entry(id) {
             Ok(place) => place,
             Err(_) => return Err(Refused::Memory),
@@ -129,7 +194,10 @@ impl Connection {
     ///
     /// `NotAsked` if another stream was to be opened: nothing changes, and QUIC's connection has streams that are not of
     /// this one. `Memory`: nothing changes, and the call is to be made again.
-    pub fn opened(&mut self, id: u64) -> Result<(), Refused> {
+    pub fn opened(&mut self, id: u64) -> Result<(), Refused>
+        ensures own { Untouched self.old.streams.entries self.new.streams.entries }
+        ensures config { self.new.config ≡ self.old.config }
+    {
         if !self.ids.opens(id) {
             return Err(Refused::NotAsked);
         }
@@ -143,12 +211,17 @@ impl Connection {
         } else {
             self.opened_message(id)?;
         }
-        self.ids.was_opened(StreamKind::of(id));
-        Ok(())
+        let kind = StreamKind::of(id);
+        self.ids.was_opened(kind);
+        self.tell_openable(kind)
     }
 
     // QUIC has opened an own stream that is not critical.
-    fn opened_message(&mut self, id: u64) -> Result<(), Refused> {
+    #[tactic(auto, using(crate::proofs::OwnLemmas::untouched_set))]
+    fn opened_message(&mut self, id: u64) -> Result<(), Refused>
+        ensures own { Untouched self.old.streams.entries self.new.streams.entries }
+        ensures config { self.new.config ≡ self.old.config }
+    {
         let Some(entry) = self.streams.get_mut(&id) else {
             return Ok(());
         };
@@ -156,6 +229,13 @@ impl Connection {
             self.ready.insert(id, entry.kind())?;
         }
         entry.is_opened = true;
+        if entry.is_paused {
+            self.outputs.push_back(Output::Read(id, false))?;
+        }
+        if entry.is_prioritized() {
+            self.outputs
+                .push_back(Output::Prioritize(id, entry.priority))?;
+        }
         if let Some(reset) = entry.writing.next_reset() {
             self.outputs.push_back(Output::Reset(id, reset.code))?;
         }
@@ -163,5 +243,16 @@ impl Connection {
             self.outputs.push_back(Output::StopSending(id, code))?;
         }
         Ok(())
+    }
+}
+
+// Returns the own half of a stream of the peer, on which nothing was said: none of a unidirectional one.
+fn half_beside_peer(alloc: Global, queue: QueueConfig, id: u64) -> Writing
+    ensures { own_of result ≡ Sends 0 [] }
+{
+    if id % 4 < 2 {
+        Writing::idle(alloc, queue)
+    } else {
+        Writing::none(alloc, queue)
     }
 }

@@ -1,7 +1,10 @@
 //! Bytes of streams that came, and those that wait.
 ghost use Rattle.std.specs.Prelude.{◌≡◌};
 ghost use Rattle.vesgrauf.specs.State.{IsStill, known_in};
+ghost use Rattle.vesgrauf.specs.Own.{Untouched};
+ghost use Rattle.vesgrauf.specs.declared.config.OnMalformed.TheVariants as chosen;
 
+use crate::connection::failing::{EXCESSIVE_LOAD, is_failure};
 use crate::connection::{Connection, Step, Stop, internal};
 use crate::entry::Peer;
 use crate::input::{Input, Report};
@@ -10,9 +13,10 @@ use vesgrauf_stream::bytes::Chunk;
 use vesgrauf_stream::heard::Heard;
 use vesgrauf_stream::reading::Found;
 use wtp_connection::connection::Known;
-use wtp_core::error::Code;
+use wtp_connection::fault::Fault as StreamsFault;
 use wtp_frames::endpoint::Side;
 use wtp_webtransport::event::{Event as Said, Waits};
+use wtp_webtransport::fault::Fault;
 
 impl Connection {
     // Takes in bytes of a stream, or the first of them.
@@ -20,10 +24,13 @@ impl Connection {
         &mut self,
         id: u64,
         input: &mut Input<'a>,
-    ) -> Result<Step<'a>, Stop> {
+    ) -> Result<Step<'a>, Stop>
+        ensures own { self.old.config.on_malformed ≡ chosen.Reset → Untouched self.old.streams.entries self.new.streams.entries }
+        ensures config { self.new.config ≡ self.old.config }
+    {
         self.accept(id)?;
         if self.peer_decoder == Some(id) {
-            self.read_decoder_stream(input)?;
+            self.read_decoder_stream(id, input)?;
         }
         if input.chunk.is_last() {
             self.note_end(id);
@@ -34,21 +41,28 @@ impl Connection {
         }
         if self.is_paused(id) {
             self.wait(id)?;
-            self.keep(id, input)?;
+            self.keep(id, input, 0)?;
             return Ok(Step::More);
         }
         self.read_input(id, input)
     }
 
     // The end of the peer's half of a stream came.
-    fn note_end(&mut self, id: u64) {
+    #[tactic(auto, using(crate::proofs::OwnLemmas::untouched_set))]
+    fn note_end(&mut self, id: u64)
+        ensures own { Untouched self.old.streams.entries self.new.streams.entries }
+        ensures config { self.new.config ≡ self.old.config }
+    {
         if let Some(entry) = self.streams.get_mut(&id) {
             entry.is_ended = true;
         }
     }
 
     // Drops bytes of a stream that is not read.
-    fn drop_input<'a>(&mut self, id: u64, input: &mut Input<'a>) -> Result<(), Stop> {
+    fn drop_input<'a>(&mut self, id: u64, input: &mut Input<'a>) -> Result<(), Stop>
+        ensures own { Untouched self.old.streams.entries self.new.streams.entries }
+        ensures config { self.new.config ≡ self.old.config }
+    {
         if input.chunk.is_last() {
             self.forget_stop(id);
             if self.peer_of(id) == Peer::Drops {
@@ -61,29 +75,50 @@ impl Connection {
     }
 
     // Reads what is next in bytes of a stream.
-    fn read_input<'a>(&mut self, id: u64, input: &mut Input<'a>) -> Result<Step<'a>, Stop> {
+    fn read_input<'a>(&mut self, id: u64, input: &mut Input<'a>) -> Result<Step<'a>, Stop>
+        ensures own { self.old.config.on_malformed ≡ chosen.Reset → Untouched self.old.streams.entries self.new.streams.entries }
+        ensures config { self.new.config ≡ self.old.config }
+    {
         let len = input.chunk.len();
         let heard = self.read(id, &mut input.chunk)?;
-        input.credit = input
-            .credit
-            .saturating_add(len.saturating_sub(input.chunk.len()));
+        input.count(len);
         match heard {
             None => Ok(Step::More),
-            Some(Heard::Event(Said::More)) => {
-                self.keep(id, input)?;
+            Some(heard) => self.heard_in_input(id, heard, input),
+        }
+    }
+
+    // Handles what was heard in bytes of a stream.
+    pub(super) fn heard_in_input<'a>(
+        &mut self,
+        id: u64,
+        heard: Heard<'a>,
+        input: &mut Input<'a>,
+    ) -> Result<Step<'a>, Stop>
+        ensures own { self.old.config.on_malformed ≡ chosen.Reset → Untouched self.old.streams.entries self.new.streams.entries }
+        ensures config { self.new.config ≡ self.old.config }
+    {
+        match heard {
+            Heard::Event(Said::More) => {
+                self.keep(id, input, usize::MAX)?;
+                self.credit_kept(id)?;
                 Ok(Step::More)
             }
-            Some(Heard::Event(Said::Waits(wait))) => {
+            Heard::Event(Said::Waits(wait)) => {
                 self.wait_for(id, wait)?;
-                self.keep(id, input)?;
+                let room = self.room_to_wait(id);
+                self.keep(id, input, room)?;
                 Ok(Step::More)
             }
-            Some(heard) => self.heard(id, heard),
+            heard => self.heard(id, heard),
         }
     }
 
     // Reads what is kept of a stream.
-    pub(super) fn read_kept<'a>(&mut self, id: u64) -> Result<Step<'a>, Stop> {
+    pub(super) fn read_kept<'a>(&mut self, id: u64) -> Result<Step<'a>, Stop>
+        ensures own { self.old.config.on_malformed ≡ chosen.Reset → Untouched self.old.streams.entries self.new.streams.entries }
+        ensures config { self.new.config ≡ self.old.config }
+    {
         if self.peer_of(id) != Peer::Reads || self.is_paused(id) {
             self.pending.resumed = None;
             return Ok(Step::More);
@@ -94,6 +129,7 @@ impl Connection {
             Some(Heard::Event(Said::More)) => {
                 self.pending.resumed = None;
                 self.waiting.remove(&id);
+                self.credit_kept(id)?;
                 Ok(Step::More)
             }
             Some(Heard::Event(Said::Waits(wait))) => {
@@ -106,7 +142,11 @@ impl Connection {
     }
 
     // Returns what is heard next on a stream: nothing yet, if more of its bytes are to be looked at.
-    fn read<'a>(&mut self, id: u64, chunk: &mut Chunk<'a>) -> Result<Option<Heard<'a>>, Stop> {
+    #[tactic(auto, using(crate::proofs::OwnLemmas::untouched_set))]
+    fn read<'a>(&mut self, id: u64, chunk: &mut Chunk<'a>) -> Result<Option<Heard<'a>>, Stop>
+        ensures own { Untouched self.old.streams.entries self.new.streams.entries }
+        ensures config { self.new.config ≡ self.old.config }
+    {
         if let Some(session) = self.session_awaited(id) {
             let event = self.join(id, session)?;
             return Ok(Some(Heard::Event(event)));
@@ -114,13 +154,22 @@ impl Connection {
         let Some(entry) = self.streams.get_mut(&id) else {
             return Ok(None);
         };
-        let before = entry.reading.len();
+        let before = entry.credited();
+        let kept = entry.reading.len();
+        let len = chunk.len();
         let found = entry
             .reading
             .next(self.alloc, &mut self.shared, &mut self.fields, chunk)?;
-        let after = entry.reading.len();
-        let owed = entry.withheld.min(before.saturating_sub(after));
+        let left = entry.reading.len();
+        if !is_failure(&found) {
+            let read = kept
+                .saturating_add(len)
+                .saturating_sub(left.saturating_add(chunk.len()));
+            entry.offset = entry.offset.saturating_add(read as u64);
+        }
+        let owed = entry.withheld.min(kept.saturating_sub(left));
         entry.withheld = entry.withheld.saturating_sub(owed);
+        let after = entry.credited();
         self.count_held(before, after);
         self.credit(id, owed)?;
         self.shared.acknowledge(id, &mut self.told)?;
@@ -131,7 +180,10 @@ impl Connection {
     }
 
     // Extends QUIC's windows by bytes that had waited.
-    pub(super) fn credit(&mut self, id: u64, len: usize) -> Result<(), Stop> {
+    pub(super) fn credit(&mut self, id: u64, len: usize) -> Result<(), Stop>
+        ensures own { Untouched self.old.streams.entries self.new.streams.entries }
+        ensures config { self.new.config ≡ self.old.config }
+    {
         if len > 0 {
             self.outputs.push_back(Output::Credit(id, len))?;
         }
@@ -139,7 +191,7 @@ impl Connection {
     }
 
     // Returns the session that a stream waits for.
-    fn session_awaited(&self, id: u64) -> Option<u64> {
+    pub(super) fn session_awaited(&self, id: u64) -> Option<u64> {
         match self.streams.get(&id) {
             Some(entry) => match entry.reading.waits() {
                 Some(Waits::Session(session)) => Some(session),
@@ -149,37 +201,81 @@ impl Connection {
         }
     }
 
-    // Keeps the bytes of the input, whose stream needs more, waits or is paused.
-    fn keep<'a>(&mut self, id: u64, input: &mut Input<'a>) -> Result<(), Stop> {
+    // Returns how many more bytes of a stream that waits QUIC's windows are extended by. Half of `receive_buffer_all` is
+    // left to frames that are cut.
+    fn room_to_wait(&self, id: u64) -> usize {
+        let Some(entry) = self.streams.get(&id) else {
+            return 0;
+        };
+        let all = (self.config.receive_buffer_all / 2).saturating_sub(self.held);
+        let own = self
+            .config
+            .receive_buffer
+            .saturating_sub(entry.reading.len());
+        all.min(own)
+    }
+
+    // Keeps the bytes of the input, whose stream needs more, waits or is paused. QUIC's windows are extended by at most
+    // `most` of them.
+    #[tactic(auto, using(crate::proofs::OwnLemmas::untouched_set))]
+    fn keep<'a>(&mut self, id: u64, input: &mut Input<'a>, most: usize) -> Result<(), Stop>
+        ensures own { self.old.config.on_malformed ≡ chosen.Reset
+            → Untouched self.old.streams.entries self.new.streams.entries }
+        ensures config { self.new.config ≡ self.old.config }
+    {
         let Some(entry) = self.streams.get_mut(&id) else {
             input.report = Report::Nothing;
             return Ok(());
         };
         let len = input.chunk.len();
-        let before = entry.reading.len();
+        let before = entry.credited();
         entry.reading.keep(&mut input.chunk)?;
-        let after = entry.reading.len();
         input.report = Report::Nothing;
-        if entry.is_paused {
-            entry.withheld = entry.withheld.saturating_add(len);
-            return self.check_kept(id, after, self.config.max_paused);
-        }
-        input.credit = input.credit.saturating_add(len);
+        let credit = len.min(most);
+        entry.withheld = entry.withheld.saturating_add(len - credit);
+        let after = entry.credited();
+        input.credit = input.credit.saturating_add(credit);
         self.count_held(before, after);
-        self.check_kept(id, after, self.config.receive_buffer)
+        self.check_kept(id)
     }
 
-    // Checks the bounds of what is kept.
-    fn check_kept(&mut self, id: u64, len: usize, most: usize) -> Result<(), Stop> {
-        if self.held > self.config.receive_buffer_all {
-            return Err(Stop::Broken(Code::H3_EXCESSIVE_LOAD.number().into_inner()));
-        }
-        if len <= most {
+    // Extends QUIC's windows by all that is kept of a stream: it is a frame that is cut, and the rest is to come.
+    #[tactic(auto, using(crate::proofs::OwnLemmas::untouched_set))]
+    fn credit_kept(&mut self, id: u64) -> Result<(), Stop>
+        ensures own { self.old.config.on_malformed ≡ chosen.Reset
+            → Untouched self.old.streams.entries self.new.streams.entries }
+        ensures config { self.new.config ≡ self.old.config }
+    {
+        let Some(entry) = self.streams.get_mut(&id) else {
             return Ok(());
+        };
+        let owed = entry.withheld;
+        if owed == 0 {
+            return Ok(());
+        }
+        entry.withheld = 0;
+        self.count_held(0, owed);
+        self.credit(id, owed)?;
+        self.check_kept(id)
+    }
+
+    // Checks the bounds of what is kept of a stream, and of all.
+    #[tactic(auto, using(crate::proofs::OwnLemmas::untouched_set))]
+    fn check_kept(&mut self, id: u64) -> Result<(), Stop>
+        ensures own { self.old.config.on_malformed ≡ chosen.Reset
+            → Untouched self.old.streams.entries self.new.streams.entries }
+        ensures config { self.new.config ≡ self.old.config }
+    {
+        if self.held > self.config.receive_buffer_all {
+            return Err(Stop::from(EXCESSIVE_LOAD));
         }
         let Some(entry) = self.streams.get_mut(&id) else {
             return Ok(());
         };
+        let fits = entry.credited() <= self.config.receive_buffer;
+        if fits && entry.withheld <= self.config.max_paused {
+            return Ok(());
+        }
         let event = entry.reading.overflow(&mut self.shared);
         match self.said(id, event)? {
             Step::Told(event) => {
@@ -190,7 +286,7 @@ impl Connection {
         }
     }
 
-    // Counts what is kept of a stream, which were so many bytes before.
+    // Counts the bytes that are kept of a stream and that QUIC's windows were extended by, which were so many before.
     pub(super) fn count_held(&mut self, before: usize, after: usize)
         ensures { IsStill self.old self.new }
     {
@@ -198,14 +294,20 @@ impl Connection {
     }
 
     // Notes that a stream is read again later.
-    pub(super) fn wait(&mut self, id: u64) -> Result<(), Stop> {
+    pub(super) fn wait(&mut self, id: u64) -> Result<(), Stop>
+        ensures own { Untouched self.old.streams.entries self.new.streams.entries }
+        ensures config { self.new.config ≡ self.old.config }
+    {
         self.waiting.insert(id)?;
         Ok(())
     }
 
     // Notes that a stream waits for this. Too many that wait for the dynamic table are an error (RFC 9204, section
     // 2.1.2).
-    fn wait_for(&mut self, id: u64, wait: Waits) -> Result<(), Stop> {
+    fn wait_for(&mut self, id: u64, wait: Waits) -> Result<(), Stop>
+        ensures own { Untouched self.old.streams.entries self.new.streams.entries }
+        ensures config { self.new.config ≡ self.old.config }
+    {
         self.wait(id)?;
         if matches!(wait, Waits::Table(_)) && self.has_too_many_blocked() {
             if let Said::ConnectionError(fault) = self.shared.too_many_blocked() {
@@ -241,7 +343,10 @@ impl Connection {
     }
 
     // Looks at the next of the streams that wait.
-    pub(super) fn wake_next<'a>(&mut self) -> Step<'a> {
+    pub(super) fn wake_next<'a>(&mut self) -> Step<'a>
+        ensures own { Untouched self.old.streams.entries self.new.streams.entries }
+        ensures config { self.new.config ≡ self.old.config }
+    {
         let Some(id) = self.next_waiting() else {
             self.pending.is_woken = false;
             self.pending.cursor = 0;
@@ -254,7 +359,7 @@ impl Connection {
         Step::More
     }
 
-    fn next_waiting(&self) -> Option<u64> {
+    pub(super) fn next_waiting(&self) -> Option<u64> {
         let cursor = self.pending.cursor;
         self.waiting.range(cursor..).next().copied()
     }
@@ -271,7 +376,7 @@ impl Connection {
             None => true,
             Some(Waits::Settings) => self.is_configured,
             Some(Waits::Answer) => false,
-            Some(Waits::Session(session)) => !matches!(self.known(session), Known::Coming),
+            Some(Waits::Session(session)) => !matches!(self.known_to(id, session), Known::Coming),
             Some(Waits::Table(required)) => required <= self.shared.insert_count(),
         }
     }
@@ -284,7 +389,8 @@ impl Connection {
         self.pending.cursor = 0;
     }
 
-    // Returns what is known of a session.
+    // Returns what is known of a session. At a client any of its requests is over that has no stream left, and was that of
+    // a session for all that is known.
     pub(super) fn known(&self, session: u64) -> Known
         ensures { result ≡ known_in self.now session }
     {
@@ -293,7 +399,7 @@ impl Connection {
             None => match self.config.side {
                 Side::Server => self.shared.known_without_stream(session),
                 Side::Client => {
-                    if self.asked.contains(&session) {
+                    if session % 4 == 0 && self.ids.was(session) {
                         Known::Over
                     } else {
                         Known::Impossible
@@ -304,18 +410,22 @@ impl Connection {
     }
 
     // Passes what came on the decoder stream of the peer to the own encoder.
-    fn read_decoder_stream<'a>(&mut self, input: &mut Input<'a>) -> Result<(), Stop> {
+    fn read_decoder_stream<'a>(&mut self, id: u64, input: &mut Input<'a>) -> Result<(), Stop>
+        ensures own { Untouched self.old.streams.entries self.new.streams.entries }
+        ensures config { self.new.config ≡ self.old.config }
+    {
         match self
             .tools
             .encoder
             .read_decoder_stream(input.chunk.as_slice())
         {
             Ok(()) => {
+                self.count_read(id, input.chunk.len());
                 input.drop_rest();
                 Ok(())
             }
             Err(error) => match error.code() {
-                Some(code) => Err(Stop::Broken(code.number().into_inner())),
+                Some(_code) => Err(Stop::from(Fault::Streams(StreamsFault::DecoderStream))),
                 None => Err(internal()),
             },
         }
@@ -337,7 +447,10 @@ impl Connection {
     }
 
     // Registers the streams of the peer up to this one. An ID that cannot be is an error of QUIC.
-    pub(super) fn accept(&mut self, id: u64) -> Result<(), Stop> {
+    pub(super) fn accept(&mut self, id: u64) -> Result<(), Stop>
+        ensures own { Untouched self.old.streams.entries self.new.streams.entries }
+        ensures config { self.new.config ≡ self.old.config }
+    {
         if self.ids.is_own(id) {
             return if self.ids.was_taken(id) {
                 Ok(())

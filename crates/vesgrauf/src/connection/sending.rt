@@ -1,7 +1,8 @@
 //! What QUIC is to send and to do.
-ghost use Rattle.std.specs.Prelude.{◌≡◌, true, None, IfErr, IfSome, OnOk, OnErr};
+ghost use Rattle.std.specs.Prelude.{◌≡◌, false, true, None, IfErr, IfSome, OnOk, OnErr};
 ghost use Rattle.vesgrauf.specs.State.{next_output, IsStill, ShowsNext, view_of, blocked_at, blocked_in, is_over};
 ghost use Rattle.vesgrauf.specs.declared.refused.Refused.TheVariants as refused;
+ghost use Rattle.vesgrauf.specs.Own.{Untouched, UntouchedBut};
 
 use crate::connection::{Connection, Step, Stop};
 use crate::event::EventKind;
@@ -34,7 +35,11 @@ impl Connection {
     /// # Errors
     ///
     /// `NotAsked` if there is none. `Memory`: nothing changes, and the call is to be made again.
-    pub fn output_taken(&mut self) -> Result<(), Refused> {
+    #[tactic(auto, using(crate::proofs::OwnLemmas::untouched_set))]
+    pub fn output_taken(&mut self) -> Result<(), Refused>
+        ensures own { Untouched self.old.streams.entries self.new.streams.entries }
+        ensures config { self.new.config ≡ self.old.config }
+    {
         if self.closes.is_some() {
             self.closes = None;
             return Ok(());
@@ -55,13 +60,14 @@ impl Connection {
         }
     }
 
-    /// Returns the bytes that QUIC is to send next, or `None` if no stream may be sent from. They are the same until
-    /// they are sent or the stream is blocked, and no call is made that sends or receives.
+    /// Returns the bytes that QUIC is to send next, or `None` if no stream may be sent from, or all are blocked. They are
+    /// the same until they are sent or the stream is blocked, and no call is made that sends or receives.
     pub fn next_send(&self) -> Option<Next<'_>>
         ensures next { IfSome result (λ n. ShowsNext self.now n.id n.bytes.now n.more.now n.fin) }
         ensures over { is_over self.now ≡ true → result ≡ None }
+        ensures blocked { self.now.is_blocked ≡ true → result ≡ None }
     {
-        if self.ended.is_some() {
+        if self.ended.is_some() || self.is_blocked {
             return None;
         }
         if self.control.is_due() {
@@ -97,7 +103,9 @@ impl Connection {
     ///
     /// `NoStream`; `NotAsked` if so many bytes were not returned; `Memory`: nothing changes, and the call is to be made
     /// again.
-    pub fn sent(&mut self, id: u64, len: usize) -> Result<(), Refused> {
+    pub fn sent(&mut self, id: u64, len: usize) -> Result<(), Refused>
+        ensures { UntouchedBut id self.old.streams.entries self.new.streams.entries }
+    {
         self.reserve()?;
         let spares = &mut self.tools.spares;
         if self.control.is(id) {
@@ -127,14 +135,26 @@ impl Connection {
     }
 
     // Notes that there may be room on a stream.
-    fn note_room(&mut self, id: u64) {
-        if !self.pending.has_room && self.full.contains(&id) {
+    fn note_room(&mut self, id: u64)
+        ensures own { Untouched self.old.streams.entries self.new.streams.entries }
+        ensures config { self.new.config ≡ self.old.config }
+    {
+        // (one that is passed over is looked at once more)
+        let is_passed = id < self.pending.cursor;
+        if (is_passed || !self.pending.has_room) && self.full.contains(&id) {
             self.pending.has_room = true;
+            if is_passed {
+                self.pending.cursor = 0;
+            }
         }
     }
 
     // Tells of the next stream that has room again.
-    pub(super) fn next_writable<'a>(&mut self) -> Step<'a> {
+    #[tactic(auto, using(crate::proofs::OwnLemmas::untouched_set))]
+    pub(super) fn next_writable<'a>(&mut self) -> Step<'a>
+        ensures own { Untouched self.old.streams.entries self.new.streams.entries }
+        ensures config { self.new.config ≡ self.old.config }
+    {
         for _stream in 0..self.full.len() {
             let Some(id) = self.next_full() else {
                 break;
@@ -165,7 +185,11 @@ impl Connection {
     ///
     /// `NotAsked` if QUIC did not take so many. `Memory`: nothing changes, and the call is to be made again. There is
     /// none if the stream is forgotten.
-    pub fn acked(&mut self, id: u64, len: u64) -> Result<(), Refused> {
+    #[tactic(auto, using(crate::proofs::OwnLemmas::untouched_set))]
+    pub fn acked(&mut self, id: u64, len: u64) -> Result<(), Refused>
+        ensures own { Untouched self.old.streams.entries self.new.streams.entries }
+        ensures config { self.new.config ≡ self.old.config }
+    {
         self.reserve()?;
         let spares = &mut self.tools.spares;
         if self.control.is(id) {
@@ -185,7 +209,8 @@ impl Connection {
         Ok(self.remove_if_done(id)?)
     }
 
-    /// QUIC takes nothing of this for now, or does again.
+    /// QUIC takes nothing of this for now, or does again. What is said of one scope does not change another: a stream
+    /// that is blocked stays so when all are free again.
     ///
     /// # Errors
     ///
@@ -201,6 +226,10 @@ impl Connection {
                 Ok(())
             }
             Scope::Stream(id) => self.block_stream(id, blocked),
+            Scope::All => {
+                self.is_blocked = blocked;
+                Ok(())
+            }
         }
     }
 
@@ -255,8 +284,8 @@ impl Connection {
     {
         let streams = self.members.len().saturating_add(4);
         self.events.reserve(streams)?;
-        self.outputs.reserve(streams.saturating_mul(2))?;
-        self.datagrams.opened.reserve(1)?;
+        self.outputs.reserve(streams.saturating_mul(3))?;
+        self.datagrams.opened.reserve(2)?;
         self.told.reserve(64)?;
         Ok(())
     }

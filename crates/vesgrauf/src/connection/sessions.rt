@@ -1,19 +1,25 @@
 //! Sessions.
-ghost use Rattle.std.specs.Prelude.{◌≡◌, ◌⊎◌, Ok, Err, OnOk, OnErr, IfErr};
+ghost use Rattle.std.specs.Prelude.{◌≡◌, ◌⊎◌, true, Ok, Err, OnOk, OnErr, IfErr};
 ghost use Rattle.vesgrauf_stream.specs.Writing.{Drains};
-ghost use Rattle.vesgrauf.specs.State.{IsStill, Changes, IsWhy, RefusesDrain, open_session};
+ghost use Rattle.vesgrauf.specs.State.{IsStill, Changes, IsWhy, RefusesDrain, is_over, open_session};
+ghost use Rattle.vesgrauf.specs.Own.{Untouched, UntouchedBut};
 
 use crate::connection::{Connection, Step, Stop};
 use crate::entry::SHARED;
 use crate::event::{EventKind, Tunnel, Why};
 use crate::refused::Refused;
+use wtp_connection::connection::Known;
 use wtp_core::error::Code;
 use wtp_fields::fields::FieldList;
 use wtp_messages::response::Asked;
 
 impl Connection {
     // A request for a session came. One above the limit is rejected.
-    pub(super) fn session_came(&mut self, id: u64, list: FieldList) -> Result<Step<'static>, Stop> {
+    #[tactic(auto, using(crate::proofs::OwnLemmas::untouched_set))]
+    pub(super) fn session_came(&mut self, id: u64, list: FieldList) -> Result<Step<'static>, Stop>
+        ensures own { Untouched self.old.streams.entries self.new.streams.entries }
+        ensures config { self.new.config ≡ self.old.config }
+    {
         if self.sessions >= self.config.max_sessions {
             return self.reject(id, Some(id));
         }
@@ -24,17 +30,22 @@ impl Connection {
             entry.has_session = true;
             entry.priority = SHARED;
         }
+        let step = self.tell(id, EventKind::Connect(Tunnel::Session, list));
         self.tell_stop(id)?;
-        Ok(self.tell(id, EventKind::Connect(Tunnel::Session, list)))
+        Ok(step)
     }
 
     // The server accepted a session. It is lost if the server stopped the own half before.
+    #[tactic(auto, using(crate::proofs::OwnLemmas::untouched_set))]
     pub(super) fn session_ready(
         &mut self,
         id: u64,
         status: u32,
         list: FieldList,
-    ) -> Result<Step<'static>, Stop> {
+    ) -> Result<Step<'static>, Stop>
+        ensures own { Untouched self.old.streams.entries self.new.streams.entries }
+        ensures config { self.new.config ≡ self.old.config }
+    {
         let Some(entry) = self.streams.get_mut(&id) else {
             return Ok(Step::More);
         };
@@ -55,10 +66,95 @@ impl Connection {
         id: u64,
         status: u32,
         list: FieldList,
-    ) -> Result<Step<'static>, Stop> {
+    ) -> Result<Step<'static>, Stop>
+        ensures own { Untouched self.old.streams.entries self.new.streams.entries }
+        ensures config { self.new.config ≡ self.old.config }
+    {
         self.end_own(id)?;
         self.end_session(id)?;
         Ok(self.tell(id, EventKind::Response(status, list)))
+    }
+
+    // Returns what is known of the session that a stream names: it is refused if the stream has waited for too long.
+    pub(super) fn known_to(&self, id: u64, session: u64) -> Known {
+        match self.known(session) {
+            Known::Coming if self.is_late(id, session) => Known::Refused,
+            known => known,
+        }
+    }
+
+    // Returns whether a stream has waited since before the last tick but one for a session that no request asks for.
+    fn is_late(&self, id: u64, session: u64) -> bool {
+        let is_asked = match self.streams.get(&session) {
+            Some(entry) => entry.is_told,
+            None => false,
+        };
+        match self.streams.get(&id) {
+            Some(entry) => !is_asked && self.ticks.saturating_sub(entry.since) > 1,
+            None => false,
+        }
+    }
+
+    // Returns a session that opened, if what came before it is to be told now: no stream of a session is being read. The
+    // sessions' own streams wait until then, since they may say that a session is over.
+    pub(super) fn session_opened(&mut self) -> Option<u64>
+        ensures own { Untouched self.old.streams.entries self.new.streams.entries }
+        ensures config { self.new.config ≡ self.old.config }
+    {
+        let session = self.datagrams.opened.front().copied()?;
+        if let Some(id) = self.pending.resumed {
+            if !self.is_session(id) {
+                return None;
+            }
+            self.pending.resumed = None;
+        }
+        Some(session)
+    }
+
+    // Returns whether this is the own stream of a session.
+    fn is_session(&self, id: u64) -> bool {
+        match self.streams.get(&id) {
+            Some(entry) => entry.is_session,
+            None => false,
+        }
+    }
+
+    /// Says that time has passed: about a round trip, or a second. A connection has no clock. A stream that came before the
+    /// last call of this, of a session that no request asks for yet, is rejected with
+    /// WEBTRANSPORT_BUFFERED_STREAM_REJECTED by the next [`next_event`](Self::next_event). A datagram that came before the
+    /// last call of this, and whose session is not open, is dropped (draft-ietf-webtrans-http3-02, section 4.5; RFC 9297,
+    /// section 2.1). So what comes too early waits for one to two of these times, and does not keep the place of another
+    /// for ever. After the end of the connection nothing changes.
+    pub fn tick(&mut self)
+        ensures over { is_over self.old ≡ true → self.new ≡ self.old }
+        ensures still { IsStill self.old self.new }
+    {
+        if self.ended.is_some() {
+            return;
+        }
+        self.ticks = self.ticks.saturating_add(1);
+        self.datagrams.age(self.alloc);
+        self.wake();
+    }
+
+    // Tells what came before a session was open.
+    pub(super) fn step_opened<'a>(&mut self, session: u64) -> Step<'a>
+        ensures own { Untouched self.old.streams.entries self.new.streams.entries }
+        ensures config { self.new.config ≡ self.old.config }
+    {
+        if let Some(step) = self.early_of(session) {
+            return step;
+        }
+        let Some(id) = self.next_waiting() else {
+            self.datagrams.opened.pop_front();
+            self.pending.cursor = 0;
+            return Step::More;
+        };
+        self.pending.cursor = id.saturating_add(1);
+        if self.session_awaited(id) == Some(session) {
+            self.pending.resumed = Some(id);
+        }
+        Step::More
     }
 
     /// Asks the peer to end a session soon (draft-ietf-webtrans-http3-07, section 4.6).
@@ -90,7 +186,9 @@ impl Connection {
     /// # Errors
     ///
     /// Nothing changes. `Closed`; `NotOpen`; `Send` if the reason has more than 1,024 bytes; and `Memory`.
-    pub fn close_session(&mut self, session: u64, code: u32, reason: &str) -> Result<(), Refused> {
+    pub fn close_session(&mut self, session: u64, code: u32, reason: &str) -> Result<(), Refused>
+        ensures { UntouchedBut session self.old.streams.entries self.new.streams.entries }
+    {
         self.check_session(session)?;
         self.begin_send(session)?;
         let Some(entry) = self.streams.get_mut(&session) else {

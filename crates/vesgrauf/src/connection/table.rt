@@ -2,6 +2,7 @@
 ghost use Rattle.std.specs.Prelude.{◌≡◌, OnOk, IfErr};
 ghost use Rattle.vesgrauf.specs.State.{IsStill, Instructs, SaysAll, SaysOrWaits};
 ghost use Rattle.vesgrauf.specs.declared.connection.Stop.TheVariants as stop;
+ghost use Rattle.vesgrauf.specs.Own.{Untouched};
 
 use crate::connection::{Connection, Stop};
 use crate::output::StreamKind;
@@ -29,7 +30,10 @@ impl Connection {
     }
 
     // Begins the own dynamic table, if the peer's SETTINGS came and allow one.
-    pub(super) fn begin_table(&mut self) -> Result<(), Stop> {
+    pub(super) fn begin_table(&mut self) -> Result<(), Stop>
+        ensures own { Untouched self.old.streams.entries self.new.streams.entries }
+        ensures config { self.new.config ≡ self.old.config }
+    {
         if !self.pending.begins_table {
             return Ok(());
         }
@@ -108,7 +112,11 @@ impl Connection {
     }
 
     // Tells the peer's encoder that a stream is left, once (RFC 9204, section 2.2.2.2).
-    pub(super) fn cancel(&mut self, id: u64) -> Result<(), Stop> {
+    #[tactic(auto, using(crate::proofs::OwnLemmas::untouched_set))]
+    pub(super) fn cancel(&mut self, id: u64) -> Result<(), Stop>
+        ensures own { Untouched self.old.streams.entries self.new.streams.entries }
+        ensures config { self.new.config ≡ self.old.config }
+    {
         let Some(entry) = self.streams.get_mut(&id) else {
             return Ok(());
         };

@@ -1,0 +1,74 @@
+//! Requests that are malformed, or whose fields are too large.
+ghost use Rattle.std.specs.Prelude.{◌≡◌};
+ghost use Rattle.vesgrauf.specs.Own.{Untouched};
+ghost use Rattle.vesgrauf.specs.declared.config.OnMalformed.TheVariants as chosen;
+
+use crate::config::OnMalformed;
+use crate::connection::{Connection, Step, Stop};
+use crate::event::Why;
+use wtp_core::error::Code;
+use wtp_core::ids::StatusCode;
+use wtp_fields::fields::FieldList;
+use wtp_messages::malformed::Malformed;
+use wtp_messages::response::Asked;
+
+impl Connection {
+    // A message is malformed: its stream is reset, after an answer or not (RFC 9114, section 4.1.2).
+    pub(super) fn malformed_came(&mut self, id: u64, rule: Malformed) -> Result<Step<'static>, Stop>
+        ensures own { self.old.config.on_malformed ≡ chosen.Reset → Untouched self.old.streams.entries self.new.streams.entries }
+        ensures config { self.new.config ≡ self.old.config }
+    {
+        let why = Why::Malformed(rule);
+        if self.answers(id, StatusCode::BAD_REQUEST) {
+            self.leave_answered(id, Code::H3_MESSAGE_ERROR, why)?;
+        } else {
+            self.shut(id, Code::H3_MESSAGE_ERROR, why)?;
+        }
+        Ok(Step::More)
+    }
+
+    // A field section is larger than the limits (RFC 9114, section 4.2.2).
+    pub(super) fn too_large_came(&mut self, id: u64) -> Result<Step<'static>, Stop>
+        ensures own { self.old.config.on_malformed ≡ chosen.Reset → Untouched self.old.streams.entries self.new.streams.entries }
+        ensures config { self.new.config ≡ self.old.config }
+    {
+        if self.answers(id, StatusCode::REQUEST_HEADER_FIELDS_TOO_LARGE) {
+            self.leave_answered(id, Code::H3_NO_ERROR, Why::TooLarge)?;
+        } else {
+            self.shut(id, Code::H3_EXCESSIVE_LOAD, Why::TooLarge)?;
+        }
+        Ok(Step::More)
+    }
+
+    // Answers a request with this status, if the configuration says so. Returns whether it did: without memory, and after
+    // another final response, it does not.
+    #[tactic(auto, using(crate::proofs::OwnLemmas::untouched_set))]
+    fn answers(&mut self, id: u64, status: StatusCode) -> bool
+        ensures own { self.old.config.on_malformed ≡ chosen.Reset → Untouched self.old.streams.entries self.new.streams.entries }
+        ensures config { self.new.config ≡ self.old.config }
+    {
+        if !self.is_server() || self.config.on_malformed == OnMalformed::Reset {
+            return false;
+        }
+        if let Some(entry) = self.streams.get_mut(&id) {
+            entry.writing.ask(Asked::Other);
+        }
+        match FieldList::response(self.alloc, status) {
+            Ok(list) => self.respond(id, &list, true).is_ok(),
+            Err(_) => false,
+        }
+    }
+
+    // Reads no further on a stream that was answered, whose own half ends after what is queued.
+    fn leave_answered(&mut self, id: u64, code: Code, why: Why) -> Result<(), Stop>
+        ensures own { Untouched self.old.streams.entries self.new.streams.entries }
+        ensures config { self.new.config ≡ self.old.config }
+    {
+        self.tell_failure(id, &why)?;
+        self.cancel(id)?;
+        self.stop_peer(id, code.number().into_inner())?;
+        self.end_session(id)?;
+        self.closed(id, why)?;
+        self.remove_if_done(id)
+    }
+}

@@ -1,4 +1,0 @@
-pub mod Holding
-pub mod Holdings
-pub mod Pieces
-pub mod Early
