@@ -24,6 +24,7 @@ default_of s = record {
   receive_buffer_all = 262144;
   max_paused = 1048576;
   send_buffer = 65536;
+  max_instructions = 65536;
   on_malformed = Reset;
   datagram_queue = 64;
   keep_until_acked = false;

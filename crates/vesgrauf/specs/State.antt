@@ -102,6 +102,14 @@ view_of c = record {
 abbrev pub stream_at : Connection → ℕ → Option Entry
 stream_at c id = lookup (is_at (nat_cmp id)) c.streams.entries
 
+-- one that a program may name: none that the peer keeps for the connection
+abbrev pub named : Option Entry → Option Entry
+named None = None
+named (Some e) = if e.is_quiet then None else Some e
+
+abbrev pub named_at : Connection → ℕ → Option Entry
+named_at c id = named (stream_at c id)
+
 abbrev pub with_stream : View → ℕ → Entry → View
 with_stream v id e = record v { streams = set_value (is_at (nat_cmp id)) v.streams e }
 
@@ -114,9 +122,9 @@ abbrev pub Of : Option Entry → (Entry → Type 0) → Type 0
 Of None P = ⊥
 Of (Some e) P = P e
 
--- there is such a stream, it becomes this, and no other stream and nothing else changes
+-- there is such a stream that a program may name, it becomes this, and no other stream and nothing else changes
 abbrev pub Becomes : ℕ → (Entry → Entry) → Connection → Connection → Type 0
-Becomes id f c d = Of (stream_at c id) (λ e. view_of d ≡ with_stream (view_of c) id (f e))
+Becomes id f c d = Of (named_at c id) (λ e. view_of d ≡ with_stream (view_of c) id (f e))
 
 -- there is such a stream, its own half changes in this way, and nothing else does
 abbrev pub Changes : ℕ → (Writing → Writing → Type 0) → Connection → Connection → Type 0
@@ -134,13 +142,13 @@ differs false b = b
 
 -- there is such a stream, and it is paused or not; QUIC is told so if that changes and it has opened the stream
 abbrev pub Pauses : ℕ → Bool → Connection → Connection → Type 0
-Pauses id p c d = Of (stream_at c id)
+Pauses id p c d = Of (named_at c id)
     (λ e. view_of d ≡ with_output (e.is_opened && differs e.is_paused p) (output.Read id (not p))
     (with_stream (view_of c) id (record e { is_paused = p })))
 
 -- there is such a stream, it has this priority, and QUIC is told so if it has opened the stream
 abbrev pub Prioritizes : ℕ → Priority → Connection → Connection → Type 0
-Prioritizes id p c d = Of (stream_at c id)
+Prioritizes id p c d = Of (named_at c id)
     (λ e. view_of d ≡ with_output e.is_opened (output.Prioritize id p)
     (with_stream (view_of c) id (record e { priority = p })))
 
@@ -290,8 +298,19 @@ abbrev pub IsWhyBy : Bool → Option Entry → (Writing → Refused → Type 0) 
 IsWhyBy true x How e = e ≡ refused.Closed
 IsWhyBy false x How e = (e ≡ refused.Memory) ⊎ IsWhyOf x How e
 
+-- The connection is over; or memory is refused; or there is no such stream that a program may name.
+abbrev pub IsWhyNamed : Connection → ℕ → Refused → Type 0
+IsWhyNamed c id e = IsWhyBy (is_over c) (named_at c id) (λ _ _. ⊥) e
+
 abbrev pub IsWhy : (Writing → Refused → Type 0) → Connection → ℕ → Refused → Type 0
 IsWhy How c id e = IsWhyBy (is_over c) (stream_at c id) How e
+
+-- the same call is refused ever after
+abbrev pub is_gone : Refused → Bool
+is_gone refused.Closed = true
+is_gone refused.NoStream = true
+is_gone refused.Over = true
+is_gone other = false
 
 -- the own half refuses it for this reason, as the program is told
 abbrev pub IsFor : (Writing → NotSent → Type 0) → Writing → Refused → Type 0

@@ -58,6 +58,10 @@ pub struct Config {
     /// How many bytes may be queued on one stream before [`send`](crate::connection::Connection::send) says that it is
     /// full.
     pub send_buffer: usize,
+    /// How many bytes of QPACK's own decoder stream may wait for QUIC. One more ends the connection with
+    /// H3_EXCESSIVE_LOAD: the peer sends requests, and does not extend the window of that stream (RFC 9114, section
+    /// 10.5).
+    pub max_instructions: u64,
     /// What a server does with a request that is malformed, or of which a field section is too large.
     pub on_malformed: OnMalformed,
     /// How many datagrams may be queued.
@@ -114,6 +118,7 @@ impl Config {
             receive_buffer_all: 262_144,
             max_paused: 1_048_576,
             send_buffer: 65_536,
+            max_instructions: 65_536,
             on_malformed: OnMalformed::Reset,
             datagram_queue: 64,
             keep_until_acked: false,

@@ -385,7 +385,8 @@ impl Connection {
     {
         self.reserve_all()?;
         self.begin_table()?;
-        self.queue_instructions()
+        self.queue_instructions()?;
+        self.check_instructions()
     }
 
     // Takes a step without an input.

@@ -10,7 +10,7 @@ use wtp_webtransport::close::Close;
 use wtp_webtransport::fault::Fault;
 
 /// What happened. It borrows from the input alone, so that it may be answered while it is handled.
-#[derive(Drop)]
+#[derive(Debug, Drop)]
 pub struct Event<'a> {
     /// The stream, or 0 for an event of the connection.
     pub stream: u64,
@@ -32,7 +32,7 @@ pub enum Tunnel {
 }
 
 /// What happened.
-#[derive(Drop)]
+#[derive(Debug, Drop)]
 pub enum EventKind<'a> {
     /// SETTINGS of the peer came.
     Ready(PeerSettings),
@@ -88,6 +88,7 @@ pub struct Failure {
     /// The stream, or `None` if it was a datagram.
     pub stream: Option<u64>,
     /// How many bytes of the stream were read before those that violate the rule: up to their frame, or their part of it.
+    /// SETTINGS that QUIC's transport parameters contradict are read first.
     pub offset: u64,
 }
 
@@ -104,7 +105,7 @@ pub enum Rule {
 }
 
 /// Why a stream is over.
-#[derive(Drop)]
+#[derive(Debug, Drop)]
 pub enum Why {
     /// Both halves ended, or were ended by calls, and QUIC took what was queued.
     Done,

@@ -65,6 +65,19 @@ pub struct NotSent {
     pub bytes: Vec<u8>,
 }
 
+impl Refused {
+    ghost use Rattle.std.specs.Prelude.{◌≡◌};
+    ghost use Rattle.vesgrauf.specs.State.{is_gone};
+
+    /// Returns whether what the call is about is over: the connection, the stream or its own half. The same call is
+    /// refused ever after.
+    pub fn is_gone(self) -> bool
+        ensures { result ≡ is_gone self }
+    {
+        matches!(self, Refused::Closed | Refused::NoStream | Refused::Over)
+    }
+}
+
 impl From<AllocError> for Refused {
     ghost use Rattle.std.specs.Prelude.{◌≡◌};
     ghost use Rattle.vesgrauf.specs.declared.refused.Refused.TheVariants.{Memory};

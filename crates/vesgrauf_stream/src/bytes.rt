@@ -3,7 +3,7 @@ ghost use Rattle.std.specs.Prelude.{◌≡◌, take, drop, length};
 ghost use Rattle.vesgrauf_stream.specs.Reading.{bytes_of};
 
 /// Bytes of an event: a part of the input, or bytes that were kept from earlier inputs.
-#[derive(Drop)]
+#[derive(Debug, Drop)]
 pub enum Bytes<'a> {
     /// A part of the input, which is not copied.
     Input(&'a [u8]),

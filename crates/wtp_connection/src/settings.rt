@@ -11,7 +11,7 @@ use wtp_frames::fault::Fault as StreamFault;
 use wtp_wire::settings::{SettingPair, SettingPairs};
 
 /// The settings of the peer: the value of each, which is its default until SETTINGS come.
-#[derive(Clone, Copy)]
+#[derive(Clone, Copy, Debug)]
 pub struct PeerSettings {
     /// SETTINGS_QPACK_MAX_TABLE_CAPACITY (0x01): the largest capacity of the peer's dynamic table,
     /// in bytes (RFC 9204, section 5). By default 0.

@@ -3,6 +3,7 @@ ghost use Rattle.std.specs.Prelude.{◌≡◌, [], None, Some, MatchOption};
 ghost use Rattle.wtp_wire.specs.CloseSession.{close_in};
 
 use crate::capsules::SessionCapsule;
+use std::fmt;
 use std::marker::Model;
 use wtp_wire::capsule::capsules::CloseWebTransportSession;
 
@@ -61,5 +62,14 @@ impl Close {
             Some(capsule) => capsule.value().get(4..).unwrap_or(&[]),
             None => &[],
         }
+    }
+}
+
+impl fmt::Debug for Close {
+    fn fmt<W: fmt::Write>(&self, f: &mut fmt::Formatter<W>) -> fmt::Result {
+        f.debug_struct("Close")
+            .field("code", &self.code())
+            .field("reason", &self.reason())
+            .finish()
     }
 }

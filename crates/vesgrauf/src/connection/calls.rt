@@ -1,6 +1,6 @@
 //! Calls on one stream.
-ghost use Rattle.std.specs.Prelude.{◌≡◌, Some, None, OnOk, OnErr, IfErr};
-ghost use Rattle.vesgrauf.specs.State.{stream_at, code_on, Becomes, Pauses, Prioritizes, IsStill, IsWhy};
+ghost use Rattle.std.specs.Prelude.{◌≡◌, is_some, Some, None, OnOk, OnErr, IfErr};
+ghost use Rattle.vesgrauf.specs.State.{code_on, named_at, Becomes, Pauses, Prioritizes, IsStill, IsWhyNamed};
 ghost use Rattle.vesgrauf.specs.declared.refused.Refused.TheVariants as refused;
 ghost use Rattle.vesgrauf.specs.Own.{Untouched};
 
@@ -106,6 +106,17 @@ impl Connection {
         Ok(code.number())
     }
 
+    // Returns whether there is a stream with this ID that a program may name: the peer's control stream, its streams of
+    // QPACK and those that are ignored are none.
+    fn is_named(&self, id: u64) -> bool
+        ensures { result ≡ is_some (named_at self.now id) }
+    {
+        match self.streams.get(&id) {
+            Some(entry) => !entry.is_quiet,
+            None => false,
+        }
+    }
+
     /// Says whether the program wants no events of a stream for now. Bytes that come meanwhile are kept, and QUIC's
     /// windows are not extended by them. Where it changes, QUIC is told so by
     /// [`Output::Read`](crate::output::Output), once it has opened the stream.
@@ -116,11 +127,14 @@ impl Connection {
     #[tactic(auto, using(std::proofs::lemmas::Map::Steps::set_value_same))]
     pub fn pause(&mut self, id: u64, paused: bool) -> Result<(), Refused>
         ensures ok { OnOk result (Pauses id paused self.old self.new) }
-        ensures why { IfErr result (λ e. IsWhy (λ _ _. ⊥) self.old id e) }
+        ensures why { IfErr result (λ e. IsWhyNamed self.old id e) }
         ensures kept { OnErr result (IsStill self.old self.new) }
     {
         if self.ended.is_some() {
             return Err(Refused::Closed);
+        }
+        if !self.is_named(id) {
+            return Err(Refused::NoStream);
         }
         self.reserve()?;
         if self.waiting.insert(id).is_err() {
@@ -153,11 +167,14 @@ impl Connection {
     #[tactic(auto, using(std::proofs::lemmas::Map::Steps::set_value_same))]
     pub fn prioritize(&mut self, id: u64, priority: Priority) -> Result<(), Refused>
         ensures ok { OnOk result (Prioritizes id priority self.old self.new) }
-        ensures why { IfErr result (λ e. IsWhy (λ _ _. ⊥) self.old id e) }
+        ensures why { IfErr result (λ e. IsWhyNamed self.old id e) }
         ensures kept { OnErr result (IsStill self.old self.new) }
     {
         if self.ended.is_some() {
             return Err(Refused::Closed);
+        }
+        if !self.is_named(id) {
+            return Err(Refused::NoStream);
         }
         self.reserve()?;
         let Some(entry) = self.streams.get_mut(&id) else {
@@ -184,9 +201,12 @@ impl Connection {
     #[tactic(auto, using(std::proofs::lemmas::Map::Steps::set_value_same))]
     pub fn set_user(&mut self, id: u64, user: u64) -> Result<(), Refused>
         ensures ok { OnOk result (Becomes id (λ e. record e { user = Some user }) self.old self.new) }
-        ensures err { IfErr result (λ e. (e ≡ refused.NoStream) × (stream_at self.old id ≡ None)) }
+        ensures err { IfErr result (λ e. (e ≡ refused.NoStream) × (named_at self.old id ≡ None)) }
         ensures kept { OnErr result (IsStill self.old self.new) }
     {
+        if !self.is_named(id) {
+            return Err(Refused::NoStream);
+        }
         let Some(entry) = self.streams.get_mut(&id) else {
             return Err(Refused::NoStream);
         };

@@ -1,7 +1,8 @@
 //! The own control stream, and the end of the connection.
-ghost use Rattle.std.specs.Prelude.{◌≡◌, false, Some, length, OnOk, OnErr, IfErr};
-ghost use Rattle.vesgrauf.specs.State.{is_over, next_output, EndsUnless, IsStill, ShutsDown, RefusesGoaway, goaway_for as goaway_is};
+ghost use Rattle.std.specs.Prelude.{◌≡◌, false, Some, length, option_map, OnOk, OnErr, IfErr};
+ghost use Rattle.vesgrauf.specs.State.{is_over, next_output, stream_at, EndsUnless, IsStill, ShutsDown, RefusesGoaway, goaway_for as goaway_is};
 ghost use Rattle.vesgrauf.specs.declared.output.Output.TheVariants as output;
+ghost use Rattle.vesgrauf_queue.specs.State.{counted};
 ghost use Rattle.vesgrauf.specs.Own.{Untouched};
 
 use crate::connection::{Connection, Ended, Step, Stop};
@@ -137,6 +138,17 @@ impl Connection {
             sessions: self.sessions,
             held: self.held,
             datagrams: self.datagrams.queue.len(),
+        }
+    }
+
+    /// Returns how many bytes of a stream count to [`send_buffer`](crate::config::Config): those that are queued and, with
+    /// [`bound_by_acked`](crate::config::Config), those that are not acknowledged. `None` if there is no such stream.
+    pub fn queued(&self, id: u64) -> Option<u64>
+        ensures { result ≡ option_map (λ e. counted e.writing.queue) (stream_at self.now id) }
+    {
+        match self.streams.get(&id) {
+            Some(entry) => Some(entry.writing.counted()),
+            None => None,
         }
     }
 

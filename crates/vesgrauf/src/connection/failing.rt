@@ -17,6 +17,9 @@ pub(super) const EXCESSIVE_LOAD: Fault = Fault::Streams(StreamsFault::Stream(
     StreamFault::ExcessiveLoad,
 ));
 
+/// SETTINGS announce datagrams, and QUIC's transport parameters do not (RFC 9297, section 2.1.1).
+pub(super) const NO_DATAGRAMS: Fault = Fault::Streams(StreamsFault::Settings);
+
 impl Connection {
     /// Returns the rule by whose violation the peer ended the connection, or `None` if it did not end so.
     pub fn failure(&self) -> Option<Failure>

@@ -3,6 +3,7 @@ ghost use Rattle.std.specs.Prelude.{◌≡◌};
 ghost use Rattle.vesgrauf.specs.Own.{Untouched};
 ghost use Rattle.vesgrauf.specs.declared.config.OnMalformed.TheVariants as chosen;
 
+use crate::connection::failing::NO_DATAGRAMS;
 use crate::connection::{Connection, Step, Stop};
 use crate::event::{Event, EventKind, Tunnel, Why};
 use crate::output::StreamKind;
@@ -77,7 +78,7 @@ impl Connection {
         ensures config { self.new.config ≡ self.old.config }
     {
         match event {
-            Said::Settings(settings, _) => Ok(self.settings_came(settings)),
+            Said::Settings(settings, _) => self.settings_came(settings),
             Said::GoAway(first) => Ok(self.goaway_came(first)),
             Said::Inserted(_) => {
                 self.shared.increment(&mut self.told)?;
@@ -151,14 +152,17 @@ impl Connection {
     }
 
     // SETTINGS of the peer came.
-    fn settings_came(&mut self, settings: PeerSettings) -> Step<'static>
+    fn settings_came(&mut self, settings: PeerSettings) -> Result<Step<'static>, Stop>
         ensures own { Untouched self.old.streams.entries self.new.streams.entries }
         ensures config { self.new.config ≡ self.old.config }
     {
+        if settings.h3_datagram && self.datagrams.limit == 0 {
+            return Err(Stop::from(NO_DATAGRAMS));
+        }
         self.is_configured = true;
         self.pending.begins_table = true;
         self.wake();
-        Step::Told(Event::of_connection(EventKind::Ready(settings)))
+        Ok(Step::Told(Event::of_connection(EventKind::Ready(settings))))
     }
 
     // GOAWAY of the peer came.

@@ -4,6 +4,7 @@ ghost use Rattle.vesgrauf.specs.State.{IsStill, Instructs, SaysAll, SaysOrWaits}
 ghost use Rattle.vesgrauf.specs.declared.connection.Stop.TheVariants as stop;
 ghost use Rattle.vesgrauf.specs.Own.{Untouched};
 
+use crate::connection::failing::EXCESSIVE_LOAD;
 use crate::connection::{Connection, Stop};
 use crate::output::StreamKind;
 use std::alloc::AllocError;
@@ -84,6 +85,14 @@ impl Connection {
                 return Err(Stop::Memory);
             }
             self.tools.instructions.clear();
+        }
+        Ok(())
+    }
+
+    // Checks the bound of what waits on the own decoder stream.
+    pub(super) fn check_instructions(&self) -> Result<(), Stop> {
+        if self.decoder.queue.counted() > self.config.max_instructions {
+            return Err(Stop::from(EXCESSIVE_LOAD));
         }
         Ok(())
     }
