@@ -19,6 +19,8 @@ ITEM = re.compile(
 )
 # Lines of documentation and attributes before an item.
 HEAD = re.compile(r"((?:^[ ]*(?:///[^\n]*|#\[[^\n]*)\n|^[ ]+[^\n]*\]\n)*)\Z", re.MULTILINE)
+# A variant of an enum, with its values or fields.
+VARIANT = re.compile(r"^ {4}([A-Z]\w*(?:\([^\n]*\)(?=,)|\s*\{[^{}]*\})?)", re.MULTILINE)
 SENTENCE = re.compile(r"(.*?\.)(?=\s+[A-Z`\[])")
 # Traits that say nothing of what a type is for, and are not named.
 COMMON = {
@@ -97,10 +99,11 @@ def without_blanks(text):
 
 
 def names_inside(code, kind, body):
-    """Returns what the signature of an enum or a struct has in braces: variants, public fields."""
+    """Returns what the signature of an enum or a struct has in braces: variants with their values,
+    public fields."""
     inside = code[slice(*body)]
     if kind == "enum":
-        names = re.findall(r"^ {4}([A-Z]\w*)", inside, re.MULTILINE)
+        names = [without_blanks(name).replace(", }", " }") for name in VARIANT.findall(inside)]
     else:
         names = [
             without_blanks(name) for name in re.findall(r"^ *pub (\w+: [^\n]+),", inside, re.M)

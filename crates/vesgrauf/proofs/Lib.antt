@@ -1,1 +1,2 @@
 pub mod OwnLemmas
+pub mod ToldLemmas

@@ -4,7 +4,7 @@ use Rattle.std.specs.Ordering.{nat_cmp}
 use Rattle.std.specs.Map.{lookup, set_value}
 use Rattle.std.specs.BTreeMap.{is_at}
 use Rattle.vesgrauf.specs.declared.entry.Entry.{Entry}
-use Rattle.vesgrauf.specs.Own.{Own, own_in, own_at, entry_at, is_blank, IsUntouched, Untouched}
+use Rattle.vesgrauf.specs.Own.{Own, own_in, own_at, entry_at, is_blank, IsUntouched, Took, TookAlone, Untouched, own_of}
 
 -- ---- steps
 
@@ -53,6 +53,34 @@ set_at ((key, e) ∷ es) id k f q =
     (λ h. set_at es id k f h)
     in rw (look_by (is_at (nat_cmp id) key) (is_at (nat_cmp k) key) key e f es
     (set_value (is_at (nat_cmp id)) es f) k refl) step
+
+own_set_by : (a : Bool) (x e f : Entry) (u v : Option Entry) → cond a (Some x) u ≡ Some e
+    → (u ≡ Some e → own_in v ≡ own_in (Some f))
+    → own_in (cond a (cond a (Some f) (Some x)) (cond a u v)) ≡ own_in (Some f)
+own_set_by true x e f u v p h = refl
+own_set_by false x e f u v p h = h p
+
+-- a stream that there is becomes this
+pub own_set : (es : List (ℕ × Entry)) (id : ℕ) (e f : Entry) → entry_at es id ≡ Some e
+    → own_at (set_value (is_at (nat_cmp id)) es f) id ≡ own_in (Some f)
+own_set [] id e f p = absurd (let bad : None ≡ Some e = p in cc)
+own_set ((key, x) ∷ es) id e f p =
+    let step : own_in (cond (is_at (nat_cmp id) key) (cond (is_at (nat_cmp id) key) (Some f) (Some x))
+    (cond (is_at (nat_cmp id) key) (lookup (is_at (nat_cmp id)) es)
+    (lookup (is_at (nat_cmp id)) (set_value (is_at (nat_cmp id)) es f)))) ≡ own_in (Some f)
+    = own_set_by (is_at (nat_cmp id) key) x e f (lookup (is_at (nat_cmp id)) es)
+    (lookup (is_at (nat_cmp id)) (set_value (is_at (nat_cmp id)) es f)) p (λ q. own_set es id e f q)
+    in rw (look_by (is_at (nat_cmp id) key) (is_at (nat_cmp id) key) key x f es
+    (set_value (is_at (nat_cmp id)) es f) id refl) step
+
+pub took_set : (es : List (ℕ × Entry)) (id len : ℕ) (e f : Entry) → entry_at es id ≡ Some e
+    → Took len (own_of e.writing) (own_of f.writing)
+    → Took len (own_at es id) (own_at (set_value (is_at (nat_cmp id)) es f) id)
+took_set es id len e f p q = rw (own_set es id e f p) (rw p q)
+
+pub took_alone : (a b c : List (ℕ × Entry)) (id len : ℕ) → Took len (own_at a id) (own_at b id) → Untouched b c
+    → TookAlone len (own_at a id) (own_at c id)
+took_alone a b c id len p q = record { between = own_at b id; took = p; kept = q.each id }
 
 pub untouched_set : (es : List (ℕ × Entry)) (id : ℕ) (f : Entry) → IsUntouched (own_at es id) (own_in (Some f))
     → Untouched es (set_value (is_at (nat_cmp id)) es f)

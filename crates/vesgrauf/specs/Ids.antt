@@ -1,5 +1,5 @@
 -- The IDs of streams (RFC 9000, section 2.1).
-use Rattle.std.specs.Prelude.{◌≡◌, ◌==◌, ℕ, ◌+◌, ◌-◌, ◌/◌, ◌%◌, ◌<◌, ◌^◌, nat_lt, Bool, true, false, if◌then◌else◌, Option, Some, None}
+use Rattle.std.specs.Prelude.{◌≡◌, ◌==◌, ◌&&◌, ℕ, ◌+◌, ◌-◌, ◌/◌, ◌%◌, ◌<◌, ◌^◌, nat_lt, Bool, true, false, if◌then◌else◌, Option, Some, None}
 use Rattle.wtp_frames.specs.declared.endpoint.Side.{Side}
 use Rattle.wtp_frames.specs.declared.endpoint.Side.TheVariants as side
 use Rattle.vesgrauf.specs.declared.output.StreamKind.{StreamKind}
@@ -33,6 +33,10 @@ next_own ids kind.Unidirectional = ids.unidirectional
 abbrev pub unopened : Ids → StreamKind → ℕ
 unopened ids kind.Bidirectional = ids.unopened_bidirectional
 unopened ids kind.Unidirectional = ids.unopened_unidirectional
+
+-- this is the next of its kind that QUIC is to open
+abbrev pub opens : Ids → ℕ → Bool
+opens ids id = id == unopened ids (kind_of id) && nat_lt id (next_own ids (kind_of id))
 
 -- how many of a kind QUIC is to open
 abbrev pub count_unopened : Ids → StreamKind → ℕ

@@ -1,5 +1,5 @@
 -- What is sent on the streams of a connection: the bytes that QUIC took and those that wait for it.
-use Rattle.std.specs.Prelude.{◌≡◌, ◌⊎◌, ◌==◌, ◌&&◌, ℕ, if◌then◌else◌, Bool, true, false, List, length, Option, None, Some}
+use Rattle.std.specs.Prelude.{◌≡◌, ◌⊎◌, ◌==◌, ◌&&◌, ◌+◌, ◌++◌, ℕ, if◌then◌else◌, Bool, true, false, List, length, take, Option, None, Some}
 use Rattle.std.specs.Ordering.{nat_cmp}
 use Rattle.std.specs.Map.{lookup}
 use Rattle.std.specs.BTreeMap.{is_at}
@@ -36,6 +36,18 @@ own_at streams id = own_in (entry_at streams id)
 -- it yet.
 abbrev pub IsUntouched : Own → Own → Type 0
 IsUntouched x y = (y ≡ x) ⊎ (is_blank y ≡ true)
+
+-- QUIC took the first `len` bytes that wait
+abbrev pub Took : ℕ → Own → Own → Type 0
+Took len Over y = y ≡ Over
+Took len (Sends put waits) y =
+    (rest : List ℕ) × (waits ≡ take len waits ++ rest) × (y ≡ Sends (put + length (take len waits)) rest)
+
+-- and then no byte is added or taken
+pub record TookAlone (len : ℕ) (x y : Own) : Type 0 where
+  pub between : Own
+  pub took : Took len x between
+  pub kept : IsUntouched between y
 
 -- that of all streams
 pub record Untouched (c d : List (ℕ × Entry)) : Type 0 where

@@ -1,5 +1,5 @@
 -- A connection as its contracts speak of it.
-use Rattle.std.specs.Prelude.{◌^◌, ◌≤◌, ◌+◌, ◌%◌, ◌==◌, ◌&&◌, ◌++◌, nat_lt, max, ◌≡◌, ◌⊎◌, ◌||◌, ℕ, if◌then◌else◌, Bool, true, false, not, is_some, List, [], ◌∷◌, length, Option, None, Some, Result, Ok, Err}
+use Rattle.std.specs.Prelude.{◌^◌, ◌≤◌, ◌+◌, ◌%◌, ◌==◌, ◌&&◌, ◌++◌, nat_lt, max, ◌≡◌, ◌⊎◌, ◌||◌, ℕ, if◌then◌else◌, Bool, true, false, not, is_some, IfOk, IfSome, List, [], ◌∷◌, length, Option, None, Some, Result, Ok, Err}
 use Rattle.std.specs.List.{filter, list_any}
 use Rattle.std.specs.declared.vec.Vec.{Vec}
 use Rattle.std.specs.declared.alloc.Global.{Global}
@@ -11,6 +11,8 @@ use Rattle.vesgrauf_stream.specs.declared.writing.Writing.{Writing}
 use Rattle.vesgrauf.specs.declared.connection.Connection.{Connection}
 use Rattle.vesgrauf.specs.declared.connection.DatagramQueue.{DatagramQueue}
 use Rattle.vesgrauf.specs.declared.connection.Ended.{Ended}
+use Rattle.vesgrauf.specs.declared.connection.Step.{Step}
+use Rattle.vesgrauf.specs.declared.connection.Step.TheVariants as step
 use Rattle.vesgrauf.specs.declared.connection.ids.Ids.{Ids}
 use Rattle.vesgrauf.specs.declared.config.Config.{Config}
 use Rattle.vesgrauf.specs.declared.critical.Critical.{Critical}
@@ -33,7 +35,7 @@ use Rattle.wtp_connection.specs.declared.connection.Known.TheVariants as known
 use Rattle.wtp_connection.specs.Streams.{known_alone}
 use Rattle.wtp_webtransport.specs.Sessions.{known_of}
 use Rattle.vesgrauf_queue.specs.State.{is_full, Shows}
-use Rattle.vesgrauf.specs.Streams.{IsDue, is_it, Says}
+use Rattle.vesgrauf.specs.Streams.{IsDue, is_it, Says, shown_session}
 use Rattle.vesgrauf.specs.Codes.{number_of}
 use Rattle.vesgrauf.specs.declared.code.StreamCode.{StreamCode}
 use Rattle.vesgrauf.specs.declared.code.StreamCode.TheVariants as codes
@@ -66,6 +68,7 @@ pub record View : Type 0 where
   pub ids : Ids
   pub events : List Event
   pub outputs : List Output
+  pub datagrams : List (Vec ℕ Global)
   pub budget : RequestBudget
   pub sessions : ℕ
   pub peer_decoder : Option ℕ
@@ -88,6 +91,7 @@ view_of c = record {
   ids = c.ids;
   events = c.events.items;
   outputs = c.outputs.items;
+  datagrams = c.datagrams.queue.items;
   budget = c.budget;
   sessions = c.sessions;
   peer_decoder = c.peer_decoder;
@@ -116,6 +120,18 @@ with_stream v id e = record v { streams = set_value (is_at (nat_cmp id)) v.strea
 -- nothing changed that the program or QUIC sees
 abbrev pub IsStill : Connection → Connection → Type 0
 IsStill c d = view_of d ≡ view_of c
+
+-- it is a value, and this is so of it
+abbrev pub IsSomeOk : {A E : Type 0} → Result (Option A) E → (A → Type 0) → Type 0
+IsSomeOk result P = IfOk result (λ r. IfSome r P)
+
+-- a call is refused: memory is refused, or nothing changed
+abbrev pub IsRefused : Refused → Connection → Connection → Type 0
+IsRefused e c d = (e ≡ refused.Memory) ⊎ IsStill c d
+
+-- it is refused for what this says, or memory is refused
+abbrev pub IsRefusedBy : {A : Type 0} → Result A Refused → Refused → Connection → Connection → Type 0
+IsRefusedBy why e c d = (e ≡ refused.Memory) ⊎ ((why ≡ Err e) × (d ≡ c))
 
 -- there is a stream, and this is so of it
 abbrev pub Of : Option Entry → (Entry → Type 0) → Type 0
@@ -155,6 +171,17 @@ Prioritizes id p c d = Of (named_at c id)
 -- the connection ended
 abbrev pub is_over : Connection → Bool
 is_over c = is_some c.ended
+
+-- what begins on the own critical streams is another connection's
+abbrev pub with_begun : Connection → View → View
+with_begun d v = record v {
+  control = d.control;
+  decoder = d.decoder;
+  encoder = d.encoder;
+  goaways = d.goaways;
+  told = d.told.items;
+  ids = d.ids;
+}
 
 -- ---- sessions
 
@@ -240,6 +267,10 @@ ShowsNext c id bytes more fin =
     ⊎ (ShowsOwn c.decoder id bytes more fin
     ⊎ (ShowsOwn c.encoder id bytes more fin
     ⊎ Of (stream_at c id) (λ e. Shows e.writing.queue bytes more fin)))
+
+-- this is an own critical stream
+abbrev pub is_own : Connection → ℕ → Bool
+is_own c id = is_it id c.control.id || (is_it id c.decoder.id || is_it id c.encoder.id)
 
 -- QUIC takes nothing of a stream for now, or does again
 abbrev pub with_block : Bool → Critical → Critical
@@ -361,6 +392,32 @@ is_closed other = false
 abbrev pub closes_stream : Event → Bool
 closes_stream e = is_closed e.kind
 
+-- what may be told after the end of the connection: the last events of streams, and its own
+abbrev pub is_last : EventKind → Bool
+is_last (event.Closed why) = true
+is_last (event.ConnectionClosed code by_peer) = true
+is_last other = false
+
+-- events of which one is not the last of its stream
+abbrev pub go_on : List Event → Bool
+go_on events = list_any (λ e. not (closes_stream e)) events
+
+-- it is over, and of what is still to be told there are only last events of streams
+pub record IsAfterEnd (c : Connection) : Type 0 where
+  pub over : is_over c ≡ true
+  pub events : go_on c.events.items ≡ false
+
+-- an event of the stream with this ID, if the program knows of it
+abbrev pub told_on : Option Entry → ℕ → EventKind → Step
+told_on None id k = step.More
+told_on (Some e) id k =
+    if e.is_told then step.Told (record { stream = id; session = shown_session id e; user = e.user; kind = k })
+    else step.More
+
+-- a step tells an event of which this is so, if it tells one
+abbrev pub IsTold : Step → (Event → Type 0) → Type 0
+IsTold s P = (e : Event) → s ≡ step.Told e → P e
+
 -- It ends with this code, which QUIC is to close it with: what was to be told or done is dropped, but for the last events of
 -- streams.
 abbrev pub with_end : ℕ → Shared → View → View
@@ -368,13 +425,13 @@ with_end code shared v = record v {
   shared = shared;
   events = filter closes_stream v.events;
   outputs = [];
+  datagrams = [];
   ended = Some (record { code = code; by_peer = false; is_told = false });
   closes = Some code;
 }
 
 pub record Ends (code : ℕ) (c d : Connection) : Type 0 where
   pub view : view_of d ≡ with_end code d.shared (view_of c)
-  pub datagrams : d.datagrams.queue.items ≡ []
   pub settings : d.shared.streams.peer ≡ c.shared.streams.peer
 
 -- it ends, or had ended: then nothing changes
@@ -458,6 +515,10 @@ has_place c = nat_lt (length c.datagrams.queue.items) c.config.datagram_queue
 -- the first bytes of a datagram of this session are these
 abbrev pub HeadOf : Connection → ℕ → List ℕ → Type 0
 HeadOf c session bytes = Of (stream_at c session) (λ e. IsHead e bytes)
+
+-- nothing else changes
+abbrev pub KeepsOthers : Connection → Connection → Type 0
+KeepsOthers c d = view_of d ≡ record (view_of c) { datagrams = d.datagrams.queue.items }
 
 -- the datagrams that wait stay, and what is owed
 abbrev pub KeepsDatagrams : Connection → Connection → Type 0

@@ -35,6 +35,7 @@ new_entry r p w = record {
   withheld = 0;
   since = 0;
   offset = 0;
+  is_reset = false;
   stops = None;
   stopped = None;
 }

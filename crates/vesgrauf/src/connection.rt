@@ -149,8 +149,12 @@ struct DatagramQueue {
 }
 
 impl DatagramQueue {
+    ghost use Rattle.std.specs.Prelude.{◌≡◌, []};
+
     // None is queued, and they may be as large as QUIC's.
-    fn new(alloc: Global) -> Self {
+    fn new(alloc: Global) -> Self
+        ensures { result.queue.items ≡ [] }
+    {
         DatagramQueue {
             queue: VecDeque::new(alloc),
             limit: 65_535,
@@ -216,15 +220,26 @@ enum Step<'a> {
 
 impl Connection {
     ghost use Rattle.vesgrauf.specs.Own.{Untouched};
+    ghost use Rattle.vesgrauf.specs.State.{IsAfterEnd, IsSomeOk, is_last};
+    ghost use Rattle.vesgrauf_queue.specs.State.{waiting};
+    ghost use Rattle.vesgrauf.specs.Config.{announced};
+    ghost use Rattle.wtp_sending.specs.Control.{settings_bytes};
     ghost use Rattle.vesgrauf.specs.declared.config.OnMalformed.TheVariants as chosen;
-    ghost use Rattle.std.specs.Prelude.{◌≡◌, if◌then◌else◌, Some, None};
+    ghost use Rattle.std.specs.Prelude.{◌≡◌, if◌then◌else◌, true, Some, None, [], IfOk};
 
     /// Creates a connection. Its first outputs open its control stream and, with a dynamic table, its decoder stream.
     ///
     /// # Errors
     ///
     /// If memory is refused.
-    pub fn new(alloc: Global, config: Config) -> Result<Self, AllocError> {
+    pub fn new(alloc: Global, config: Config) -> Result<Self, AllocError>
+        ensures of_config { IfOk result (λ c. c.config ≡ config) }
+        ensures streams { IfOk result (λ c. c.streams.entries ≡ []) }
+        ensures outputs { IfOk result (λ c. (c.events.items ≡ []) × (c.outputs.items ≡ [])) }
+        ensures datagrams { IfOk result (λ c. c.datagrams.queue.items ≡ []) }
+        ensures open { IfOk result (λ c. (c.sessions ≡ 0) × (c.ended ≡ None) × (c.closes ≡ None)) }
+        ensures starts { IfOk result (λ c. waiting c.control.queue ≡ settings_bytes (announced config)) }
+    {
         let queue = config.queue();
         let mut connection = Connection {
             alloc,
@@ -273,6 +288,8 @@ impl Connection {
     ///
     /// If memory is refused: nothing is lost, the input stays as it is, and the call is to be made again.
     pub fn next_event<'a>(&mut self, input: &mut Input<'a>) -> Result<Option<Event<'a>>, AllocError>
+        ensures last { IsAfterEnd self.old → IsSomeOk result (λ e. is_last e.kind ≡ true) }
+        ensures over { IsAfterEnd self.old → IsAfterEnd self.new }
         ensures own { self.old.config.on_malformed ≡ chosen.Reset → Untouched self.old.streams.entries self.new.streams.entries }
         ensures config { self.new.config ≡ self.old.config }
     {
@@ -292,6 +309,8 @@ impl Connection {
 
     // Returns the next event, as `next_event` does, by as many steps as it takes.
     fn next_by_steps<'a>(&mut self, input: &mut Input<'a>) -> Result<Option<Event<'a>>, AllocError>
+        ensures last { IsAfterEnd self.old → IsSomeOk result (λ e. is_last e.kind ≡ true) }
+        ensures over { IsAfterEnd self.old → IsAfterEnd self.new }
         ensures own { self.old.config.on_malformed ≡ chosen.Reset → Untouched self.old.streams.entries self.new.streams.entries }
         ensures config { self.new.config ≡ self.old.config }
     {
@@ -316,7 +335,9 @@ impl Connection {
     }
 
     // Returns an event that was queued, with the number that the program has given its stream since.
-    fn numbered<'a>(&self, event: Event<'a>) -> Event<'a> {
+    fn numbered<'a>(&self, event: Event<'a>) -> Event<'a>
+        ensures { result.kind ≡ event.entry.kind }
+    {
         let mut event = event;
         if let (EventKind::Stopped(_), Some(entry)) = (
             &event.kind,
@@ -360,7 +381,7 @@ impl Connection {
             Report::Nothing | Report::Stream(_) | Report::Datagram => Ok(()),
             Report::Reset(id, code) => self.reset_came(id, code),
             Report::Stopped(id, code) => self.stop_came(id, code),
-            Report::Closed(id) => self.stream_closed(id),
+            Report::Closed(id) => Ok(self.stream_closed(id)?),
             Report::DatagramLimit(len) => {
                 self.datagrams.limit = len;
                 Ok(())

@@ -1,5 +1,6 @@
 //! One stream of a connection.
 use crate::refused::{NotSent, Refused};
+use vesgrauf_queue::error::NotShown;
 use vesgrauf_queue::spares::Spares;
 use vesgrauf_ready::rank::{Kind, Priority};
 use vesgrauf_stream::reading::Reading;
@@ -65,6 +66,8 @@ pub(crate) struct Entry {
     pub(crate) since: u64,
     /// How many bytes of it were read, up to an error.
     pub(crate) offset: u64,
+    /// Whether the own half was reset.
+    pub(crate) is_reset: bool,
     /// What the peer is asked to stop it with, once QUIC has opened it.
     pub(crate) stops: Option<u64>,
     /// What the peer asked to stop the own half with, before the program knew of the stream.
@@ -72,9 +75,10 @@ pub(crate) struct Entry {
 }
 
 impl Entry {
-    ghost use Rattle.std.specs.Prelude.{◌≡◌, ◌-◌, ◌&&◌, ◌↔◌, true, not, if◌then◌else◌, Some, IsTrue, IfOk, IfErr, length};
+    ghost use Rattle.std.specs.Prelude.{◌≡◌, ◌-◌, ◌&&◌, ◌↔◌, true, not, if◌then◌else◌, Some, IsTrue, IfOk, IfErr, OnOk, OnErr, length};
     ghost use Rattle.vesgrauf_stream.specs.Reading.{kept_of};
     ghost use Rattle.vesgrauf_stream.specs.Writing.{Sends};
+    ghost use Rattle.vesgrauf.specs.Own.{own_of, Took};
     ghost use Rattle.vesgrauf.specs.State.{OwnHalf, RefusesBytes, StaysOf};
     ghost use Rattle.vesgrauf_queue.specs.State.{IsIdle};
     ghost use Rattle.vesgrauf.specs.declared.refused.Refused.TheVariants as refused;
@@ -105,6 +109,7 @@ impl Entry {
             withheld: 0,
             since: 0,
             offset: 0,
+            is_reset: false,
             stops: None,
             stopped: None,
         }
@@ -195,6 +200,14 @@ impl Entry {
                 bytes: refused.bytes,
             }),
         }
+    }
+
+    // QUIC took the first `len` bytes that wait.
+    pub(crate) fn sent(&mut self, spares: &mut Spares, len: usize) -> Result<(), NotShown>
+        ensures took { OnOk result (Took len (own_of self.old.writing) (own_of self.new.writing)) }
+        ensures kept { OnErr result (self.new ≡ self.old) }
+    {
+        self.writing.sent(spares, len)
     }
 
     // Returns how many of the bytes that are kept QUIC's windows were extended by.

@@ -1,7 +1,6 @@
 //! What happened.
 use crate::code::StreamCode;
 use crate::output::StreamKind;
-use vesgrauf_stream::bytes::Bytes as Piece;
 pub use vesgrauf_stream::bytes::Bytes;
 use wtp_connection::settings::PeerSettings;
 use wtp_fields::fields::FieldList;
@@ -52,7 +51,7 @@ pub enum EventKind<'a> {
     /// At a client, the final response, with its status. With 2xx to a CONNECT request, its session is open.
     Response(u32, FieldList),
     /// A piece of content, or of a stream of a session, of at least one byte.
-    Data(Piece<'a>),
+    Data(Bytes<'a>),
     /// The trailers of the message.
     Trailers(FieldList),
     /// The peer's half ended.
@@ -60,7 +59,7 @@ pub enum EventKind<'a> {
     /// The peer opened a stream of an open session, of this kind.
     NewStream(StreamKind),
     /// A datagram of a session.
-    Datagram(Piece<'a>),
+    Datagram(Bytes<'a>),
     /// The peer asks to end the session soon.
     Draining,
     /// The peer reset the stream, with this code.
@@ -107,8 +106,11 @@ pub enum Rule {
 /// Why a stream is over.
 #[derive(Debug, Drop)]
 pub enum Why {
-    /// Both halves ended, or were ended by calls, and QUIC took what was queued.
+    /// Both halves are over, and QUIC took all that was queued, and the end.
     Done,
+    /// Both halves are over. The own half was reset, by a call or since the peer stopped it: not all that was queued is
+    /// sent.
+    Reset,
     /// The peer closed the session of this stream, with a code and a reason.
     Session(Close),
     /// The session is over, of which this stream was one; or it was the session's own stream, and was lost.
@@ -126,8 +128,12 @@ pub enum Why {
 }
 
 impl<'a> Event<'a> {
+    ghost use Rattle.std.specs.Prelude.{◌≡◌, None};
+
     // Creates an event of the connection.
-    pub(crate) fn of_connection(kind: EventKind<'a>) -> Self {
+    pub(crate) fn of_connection(kind: EventKind<'a>) -> Self
+        ensures { result ≡ record { stream = 0; session = None; user = None; kind = kind.entry } }
+    {
         Event {
             stream: 0,
             session: None,

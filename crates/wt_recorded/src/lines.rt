@@ -87,7 +87,7 @@ impl Lines {
     /// Appends why a stream is over.
     fn closed(&mut self, why: &Why) -> Result<(), AllocError> {
         match why {
-            Why::Done => write!(self.text, "done"),
+            Why::Done | Why::Reset => write!(self.text, "done"),
             Why::Session(close) => {
                 write!(self.text, "closed {}", close.code())?;
                 self.bytes("", close.reason())

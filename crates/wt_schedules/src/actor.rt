@@ -207,7 +207,7 @@ impl Actor {
         self.sessions.remove(&id);
         self.paused.remove(&id);
         match why {
-            Why::Done => Ok(()),
+            Why::Done | Why::Reset => Ok(()),
             Why::Session(close) => {
                 self.journal.closes_heard.insert(id, close.code())?;
                 self.disturb(id)

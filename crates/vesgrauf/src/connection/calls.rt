@@ -1,6 +1,6 @@
 //! Calls on one stream.
-ghost use Rattle.std.specs.Prelude.{◌≡◌, is_some, Some, None, OnOk, OnErr, IfErr};
-ghost use Rattle.vesgrauf.specs.State.{code_on, named_at, Becomes, Pauses, Prioritizes, IsStill, IsWhyNamed};
+ghost use Rattle.std.specs.Prelude.{◌≡◌, is_some, is_ok, true, Some, None, OnOk, OnErr, IfErr};
+ghost use Rattle.vesgrauf.specs.State.{code_on, named_at, Becomes, Pauses, Prioritizes, IsStill, IsRefusedBy, IsWhyNamed};
 ghost use Rattle.vesgrauf.specs.declared.refused.Refused.TheVariants as refused;
 ghost use Rattle.vesgrauf.specs.Own.{Untouched};
 
@@ -8,6 +8,7 @@ use crate::code::StreamCode;
 use crate::connection::Connection;
 use crate::output::Output;
 use crate::refused::Refused;
+use std::alloc::AllocError;
 use vesgrauf_ready::rank::{Kind, Priority};
 
 impl Connection {
@@ -18,6 +19,8 @@ impl Connection {
     ///
     /// Nothing changes. `Closed`; `NoStream`; `WrongCode`; and `Memory`.
     pub fn reset(&mut self, id: u64, code: StreamCode) -> Result<(), Refused>
+        ensures fits { OnOk result (is_ok (code_on self.old id code) ≡ true) }
+        ensures refused { IfErr result (λ e. IsRefusedBy (code_on self.old id code) e self.old self.new) }
         ensures own { Untouched self.old.streams.entries self.new.streams.entries }
         ensures config { self.new.config ≡ self.old.config }
     {
@@ -37,6 +40,8 @@ impl Connection {
     ///
     /// As of [`reset`](Self::reset).
     pub fn stop_sending(&mut self, id: u64, code: StreamCode) -> Result<(), Refused>
+        ensures fits { OnOk result (is_ok (code_on self.old id code) ≡ true) }
+        ensures refused { IfErr result (λ e. IsRefusedBy (code_on self.old id code) e self.old self.new) }
         ensures own { Untouched self.old.streams.entries self.new.streams.entries }
         ensures config { self.new.config ≡ self.old.config }
     {
@@ -55,6 +60,8 @@ impl Connection {
     ///
     /// As of [`reset`](Self::reset).
     pub fn abort(&mut self, id: u64, code: StreamCode) -> Result<(), Refused>
+        ensures fits { OnOk result (is_ok (code_on self.old id code) ≡ true) }
+        ensures refused { IfErr result (λ e. IsRefusedBy (code_on self.old id code) e self.old self.new) }
         ensures own { Untouched self.old.streams.entries self.new.streams.entries }
         ensures config { self.new.config ≡ self.old.config }
     {
@@ -70,7 +77,7 @@ impl Connection {
 
     // Ends the session whose own stream this is, if it is one that is open or, with `always`, to come; and both halves of
     // the stream.
-    fn end_if_session(&mut self, id: u64, code: u64, always: bool) -> Result<(), Refused>
+    fn end_if_session(&mut self, id: u64, code: u64, always: bool) -> Result<(), AllocError>
         ensures own { Untouched self.old.streams.entries self.new.streams.entries }
         ensures config { self.new.config ≡ self.old.config }
     {
@@ -83,7 +90,7 @@ impl Connection {
         }
         self.reset_own(id, code)?;
         self.stop_peer(id, code)?;
-        Ok(self.end_session(id)?)
+        self.end_session(id)
     }
 
     // Returns the code of QUIC for one of the program's on a stream.

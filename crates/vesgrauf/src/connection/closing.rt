@@ -3,10 +3,11 @@ ghost use Rattle.std.specs.Prelude.{◌≡◌};
 ghost use Rattle.vesgrauf.specs.Own.{Untouched};
 
 use crate::code::StreamCode;
-use crate::connection::{Connection, Step, Stop};
+use crate::connection::{Connection, Step};
 use crate::entry::{Member, Peer};
 use crate::event::{EventKind, Why};
 use crate::output::Output;
+use std::alloc::AllocError;
 use wtp_core::error::Code;
 
 /// The status of the answer that a CONNECT request gets by a reset: what follows it is read as of one that is refused.
@@ -14,7 +15,7 @@ const REFUSED: u32 = 500;
 
 impl Connection {
     // Closes both halves of a stream at once.
-    pub(super) fn shut(&mut self, id: u64, code: Code, why: Why) -> Result<(), Stop>
+    pub(super) fn shut(&mut self, id: u64, code: Code, why: Why) -> Result<(), AllocError>
         ensures own { Untouched self.old.streams.entries self.new.streams.entries }
         ensures config { self.new.config ≡ self.old.config }
     {
@@ -30,7 +31,7 @@ impl Connection {
 
     // Resets the own half.
     #[tactic(auto, using(crate::proofs::OwnLemmas::untouched_set))]
-    pub(super) fn reset_own(&mut self, id: u64, code: u64) -> Result<(), Stop>
+    pub(super) fn reset_own(&mut self, id: u64, code: u64) -> Result<(), AllocError>
         ensures own { Untouched self.old.streams.entries self.new.streams.entries }
         ensures config { self.new.config ≡ self.old.config }
     {
@@ -40,8 +41,11 @@ impl Connection {
         if entry.writing.is_done() {
             return Ok(());
         }
-        if entry.writing.reset(&mut self.tools.spares, code, 0) && entry.is_opened {
-            self.outputs.push_back(Output::Reset(id, code))?;
+        if entry.writing.reset(&mut self.tools.spares, code, 0) {
+            entry.is_reset = true;
+            if entry.is_opened {
+                self.outputs.push_back(Output::Reset(id, code))?;
+            }
         }
         self.ready.remove(id, entry.kind());
         self.full.remove(&id);
@@ -53,7 +57,7 @@ impl Connection {
     // Resets an own half of which QUIC took the end, unless all of it is acknowledged: QUIC may still send some of it (RFC
     // 9000, section 3.5). Returns whether it is reset.
     #[tactic(auto, using(crate::proofs::OwnLemmas::untouched_set))]
-    pub(super) fn reset_ended(&mut self, id: u64, code: u64) -> Result<bool, Stop>
+    pub(super) fn reset_ended(&mut self, id: u64, code: u64) -> Result<bool, AllocError>
         ensures own { Untouched self.old.streams.entries self.new.streams.entries }
         ensures config { self.new.config ≡ self.old.config }
     {
@@ -66,6 +70,7 @@ impl Connection {
         }
         let is_reset = entry.writing.reset(&mut self.tools.spares, code, 0);
         if is_reset {
+            entry.is_reset = true;
             self.outputs.push_back(Output::Reset(id, code))?;
         }
         Ok(is_reset)
@@ -73,7 +78,7 @@ impl Connection {
 
     // Asks the peer to stop its half, which is read no further.
     #[tactic(auto, using(crate::proofs::OwnLemmas::untouched_set))]
-    pub(super) fn stop_peer(&mut self, id: u64, code: u64) -> Result<(), Stop>
+    pub(super) fn stop_peer(&mut self, id: u64, code: u64) -> Result<(), AllocError>
         ensures own { Untouched self.old.streams.entries self.new.streams.entries }
         ensures config { self.new.config ≡ self.old.config }
     {
@@ -105,7 +110,7 @@ impl Connection {
 
     // Reads the peer's half no further, whose end is still to come.
     #[tactic(auto, using(crate::proofs::OwnLemmas::untouched_set))]
-    pub(super) fn drop_peer(&mut self, id: u64) -> Result<(), Stop>
+    pub(super) fn drop_peer(&mut self, id: u64) -> Result<(), AllocError>
         ensures own { Untouched self.old.streams.entries self.new.streams.entries }
         ensures config { self.new.config ≡ self.old.config }
     {
@@ -126,7 +131,7 @@ impl Connection {
 
     // Drops what is kept of a stream.
     #[tactic(auto, using(crate::proofs::OwnLemmas::untouched_set))]
-    pub(super) fn drop_kept(&mut self, id: u64) -> Result<(), Stop>
+    pub(super) fn drop_kept(&mut self, id: u64) -> Result<(), AllocError>
         ensures own { Untouched self.old.streams.entries self.new.streams.entries }
         ensures config { self.new.config ≡ self.old.config }
     {
@@ -144,7 +149,7 @@ impl Connection {
 
     // The peer's half is over.
     #[tactic(auto, using(crate::proofs::OwnLemmas::untouched_set))]
-    pub(super) fn peer_is_over(&mut self, id: u64) -> Result<(), Stop>
+    pub(super) fn peer_is_over(&mut self, id: u64) -> Result<(), AllocError>
         ensures own { Untouched self.old.streams.entries self.new.streams.entries }
         ensures config { self.new.config ≡ self.old.config }
     {
@@ -157,7 +162,7 @@ impl Connection {
 
     // Ends the own half after what is queued, if a message may end there.
     #[tactic(auto, using(crate::proofs::OwnLemmas::untouched_set))]
-    pub(super) fn end_own(&mut self, id: u64) -> Result<(), Stop>
+    pub(super) fn end_own(&mut self, id: u64) -> Result<(), AllocError>
         ensures own { Untouched self.old.streams.entries self.new.streams.entries }
         ensures config { self.new.config ≡ self.old.config }
     {
@@ -176,7 +181,7 @@ impl Connection {
     // Ends the session whose own stream this is, if it is one: its streams are closed (draft-ietf-webtrans-http3-02,
     // section 5).
     #[tactic(auto, using(crate::proofs::OwnLemmas::untouched_set))]
-    pub(super) fn end_session(&mut self, session: u64) -> Result<(), Stop>
+    pub(super) fn end_session(&mut self, session: u64) -> Result<(), AllocError>
         ensures own { Untouched self.old.streams.entries self.new.streams.entries }
         ensures config { self.new.config ≡ self.old.config }
     {
@@ -210,7 +215,7 @@ impl Connection {
 
     // Closes a stream whose session is over. One whose end came is read to its end; the program is told that the own half is
     // reset.
-    fn cut(&mut self, id: u64) -> Result<(), Stop>
+    fn cut(&mut self, id: u64) -> Result<(), AllocError>
         ensures own { Untouched self.old.streams.entries self.new.streams.entries }
         ensures config { self.new.config ≡ self.old.config }
     {
@@ -251,7 +256,7 @@ impl Connection {
 
     // Tells the program that a stream is over, if it knows of the stream.
     #[tactic(auto, using(crate::proofs::OwnLemmas::untouched_set))]
-    pub(super) fn closed(&mut self, id: u64, why: Why) -> Result<(), Stop>
+    pub(super) fn closed(&mut self, id: u64, why: Why) -> Result<(), AllocError>
         ensures own { Untouched self.old.streams.entries self.new.streams.entries }
         ensures config { self.new.config ≡ self.old.config }
     {
@@ -265,7 +270,7 @@ impl Connection {
     }
 
     // Forgets a stream of which both halves are over.
-    pub(super) fn remove_if_done(&mut self, id: u64) -> Result<(), Stop>
+    pub(super) fn remove_if_done(&mut self, id: u64) -> Result<(), AllocError>
         ensures own { Untouched self.old.streams.entries self.new.streams.entries }
         ensures config { self.new.config ≡ self.old.config }
     {
@@ -275,7 +280,12 @@ impl Connection {
         if !entry.is_done() {
             return Ok(());
         }
-        self.closed(id, Why::Done)?;
+        let why = if entry.is_reset {
+            Why::Reset
+        } else {
+            Why::Done
+        };
+        self.closed(id, why)?;
         self.remove(id);
         Ok(())
     }

@@ -1,8 +1,10 @@
 //! The own control stream, and the end of the connection.
-ghost use Rattle.std.specs.Prelude.{◌≡◌, false, Some, length, option_map, OnOk, OnErr, IfErr};
-ghost use Rattle.vesgrauf.specs.State.{is_over, next_output, stream_at, EndsUnless, IsStill, ShutsDown, RefusesGoaway, goaway_for as goaway_is};
+ghost use Rattle.std.specs.Prelude.{◌≡◌, ◌++◌, false, Some, length, option_map, IfOk, OnOk, OnErr, IfErr};
+ghost use Rattle.vesgrauf.specs.State.{is_over, next_output, stream_at, view_of, with_begun, EndsUnless, IsAfterEnd, IsStill, ShutsDown, RefusesGoaway, goaway_for as goaway_is};
 ghost use Rattle.vesgrauf.specs.declared.output.Output.TheVariants as output;
-ghost use Rattle.vesgrauf_queue.specs.State.{counted};
+ghost use Rattle.vesgrauf_queue.specs.State.{counted, waiting};
+ghost use Rattle.vesgrauf.specs.Config.{announced};
+ghost use Rattle.wtp_sending.specs.Control.{settings_bytes};
 ghost use Rattle.vesgrauf.specs.Own.{Untouched};
 
 use crate::connection::{Connection, Ended, Step, Stop};
@@ -21,7 +23,11 @@ const NO_REQUEST: u64 = (1 << 62) - 4;
 
 impl Connection {
     // Queues the first bytes of the own control stream, and of the own decoder stream.
-    pub(super) fn begin(&mut self) -> Result<(), AllocError> {
+    pub(super) fn begin(&mut self) -> Result<(), AllocError>
+        ensures others { view_of self.new ≡ with_begun self.new (view_of self.old) }
+        ensures starts { OnOk result (waiting self.new.control.queue
+            ≡ waiting self.old.control.queue ++ settings_bytes (announced self.old.config)) }
+    {
         let settings = self.settings()?;
         let mut bytes = Vec::new(self.alloc);
         if self
@@ -48,7 +54,9 @@ impl Connection {
     }
 
     // Returns the own SETTINGS.
-    fn settings(&self) -> Result<Settings, AllocError> {
+    fn settings(&self) -> Result<Settings, AllocError>
+        ensures { IfOk result (λ s. s ≡ announced self.now.config) }
+    {
         let config = self.config;
         let mut builder = Settings::builder(self.alloc)
             .max_field_section_size(VarInt::from_u32(config.max_field_section_size))?
@@ -121,6 +129,7 @@ impl Connection {
     /// is told to be. Nothing changes if it ended before.
     pub fn close(&mut self, code: Code)
         ensures end { EndsUnless (is_over self.old) code self.old self.new }
+        ensures after { is_over self.old ≡ false → IsAfterEnd self.new }
         ensures output { is_over self.old ≡ false → next_output self.new ≡ Some (output.Close code) }
     {
         self.break_off(code.number().into_inner());

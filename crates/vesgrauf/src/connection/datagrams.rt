@@ -1,7 +1,8 @@
 //! Datagrams (RFC 9297).
-ghost use Rattle.std.specs.Prelude.{◌≡◌, ◌-◌, ◌++◌, [], Ok, Some, MatchOption, OnOk, IfOk, IfSome, OnErr, List, ℕ, length, option_map};
-ghost use Rattle.vesgrauf.specs.State.{Adds, head, open_session, HeadOf, IsStill, KeepsDatagrams, SendsDatagram};
+ghost use Rattle.std.specs.Prelude.{◌≡◌, ◌-◌, ◌++◌, [], Ok, Some, MatchOption, OnOk, IfOk, IfSome, OnErr, IfErr, List, ℕ, length, option_map};
+ghost use Rattle.vesgrauf.specs.State.{Adds, head, open_session, HeadOf, KeepsDatagrams, KeepsOthers, SendsDatagram};
 ghost use Rattle.vesgrauf.specs.Own.{Untouched};
+ghost use Rattle.vesgrauf.specs.declared.refused.Refused.TheVariants as refused;
 
 use crate::connection::{Connection, DatagramQueue, Step, Stop};
 use crate::event::{Event, EventKind, Why};
@@ -119,7 +120,7 @@ impl Connection {
     pub fn send_datagram(&mut self, session: u64, payload: &[u8]) -> Result<bool, Refused>
         ensures open { IfOk result (λ queued. open_session self.old session ≡ Ok tt) }
         ensures ok { IfOk result (λ queued. SendsDatagram queued session payload.now self.old self.new) }
-        ensures still { IsStill self.old self.new }
+        ensures others { KeepsOthers self.old self.new }
         ensures kept { OnErr result (KeepsDatagrams self.old self.new) }
     {
         self.check_session(session)?;
@@ -179,6 +180,7 @@ impl Connection {
     ///
     /// `Memory`: nothing changes, and the call is to be made again.
     pub fn datagram_sent(&mut self) -> Result<(), Refused>
+        ensures refused { IfErr result (λ e. e ≡ refused.Memory) }
         ensures own { Untouched self.old.streams.entries self.new.streams.entries }
         ensures config { self.new.config ≡ self.old.config }
     {

@@ -1,7 +1,7 @@
 //! Streams that the peer resets, or asks to stop.
-ghost use Rattle.std.specs.Prelude.{◌≡◌};
+ghost use Rattle.std.specs.Prelude.{◌≡◌, true, false};
 ghost use Rattle.std.specs.List.{filter};
-ghost use Rattle.vesgrauf.specs.State.{head, is_over, EndsUnless, closes_stream};
+ghost use Rattle.vesgrauf.specs.State.{head, go_on, is_over, is_last, IsAfterEnd, IsTold, EndsUnless, closes_stream};
 ghost use Rattle.vesgrauf.specs.Own.{Untouched};
 
 use crate::code::StreamCode;
@@ -11,6 +11,7 @@ use crate::entry::Peer;
 use crate::event::{Event, EventKind, Why};
 use crate::input::{Input, Report};
 use crate::output::Output;
+use std::alloc::AllocError;
 use std::collections::VecDeque;
 use vesgrauf_stream::writing::Writing;
 use wtp_connection::stream::Purpose;
@@ -28,7 +29,7 @@ impl Connection {
         self.accept(id)?;
         match self.peer_of(id) {
             Peer::Over => return Ok(self.forget_stop(id)),
-            Peer::Drops => return self.peer_is_over(id),
+            Peer::Drops => return Ok(self.peer_is_over(id)?),
             Peer::Reads => {}
         }
         self.give_up(id)?;
@@ -54,11 +55,11 @@ impl Connection {
         self.half_ended(id, event)?;
         self.lose_session(id)?;
         self.leave_untold(id)?;
-        self.peer_is_over(id)
+        Ok(self.peer_is_over(id)?)
     }
 
     // The peer reset the own stream of a session that is still to come, or one side stopped it: it does not come.
-    pub(super) fn lose_session(&mut self, id: u64) -> Result<(), Stop>
+    pub(super) fn lose_session(&mut self, id: u64) -> Result<(), AllocError>
         ensures own { Untouched self.old.streams.entries self.new.streams.entries }
         ensures config { self.new.config ≡ self.old.config }
     {
@@ -73,7 +74,7 @@ impl Connection {
     }
 
     // Resets the own half of a stream that the peer reset before the program was told of it: nothing will be sent on it.
-    fn leave_untold(&mut self, id: u64) -> Result<(), Stop>
+    fn leave_untold(&mut self, id: u64) -> Result<(), AllocError>
         ensures own { Untouched self.old.streams.entries self.new.streams.entries }
         ensures config { self.new.config ≡ self.old.config }
     {
@@ -134,7 +135,7 @@ impl Connection {
         if self.is_server() {
             self.lose_session(id)?;
         }
-        self.remove_if_done(id)
+        Ok(self.remove_if_done(id)?)
     }
 
     // Tells the program of a stop that came before it knew of the stream. A session that was stopped does not come to be.
@@ -151,7 +152,7 @@ impl Connection {
         };
         let shown = self.shown_code(id, code)?;
         self.queue_event(id, EventKind::Stopped(shown))?;
-        self.lose_session(id)
+        Ok(self.lose_session(id)?)
     }
 
     // Handles what the end of one half says of the stream.
@@ -161,9 +162,11 @@ impl Connection {
     {
         match event {
             Said::Reset(Some(fault)) | Said::StreamError(fault) => {
-                self.shut(id, fault.code(), Why::Fault(fault))
+                Ok(self.shut(id, fault.code(), Why::Fault(fault))?)
             }
-            Said::SessionLost => self.shut(id, Code::H3_REQUEST_CANCELLED, Why::SessionGone),
+            Said::SessionLost => {
+                Ok(self.shut(id, Code::H3_REQUEST_CANCELLED, Why::SessionGone)?)
+            }
             Said::ConnectionError(fault) => Err(Stop::from(fault)),
             _ => Ok(()),
         }
@@ -191,7 +194,7 @@ impl Connection {
     }
 
     // Queues an event of a stream, if the program knows of the stream.
-    pub(super) fn queue_event(&mut self, id: u64, kind: EventKind<'static>) -> Result<(), Stop>
+    pub(super) fn queue_event(&mut self, id: u64, kind: EventKind<'static>) -> Result<(), AllocError>
         ensures own { Untouched self.old.streams.entries self.new.streams.entries }
         ensures config { self.new.config ≡ self.old.config }
     {
@@ -231,7 +234,7 @@ impl Connection {
 
     // QUIC has closed a stream: what is kept of the own half is freed. What the peer sent is still read.
     #[tactic(auto, using(crate::proofs::OwnLemmas::untouched_set))]
-    pub(super) fn stream_closed(&mut self, id: u64) -> Result<(), Stop>
+    pub(super) fn stream_closed(&mut self, id: u64) -> Result<(), AllocError>
         ensures own { Untouched self.old.streams.entries self.new.streams.entries }
         ensures config { self.new.config ≡ self.old.config }
     {
@@ -271,7 +274,8 @@ impl Connection {
 
     // Ends the connection by an error.
     pub(super) fn break_off(&mut self, code: u64)
-        ensures { EndsUnless (is_over self.old) code self.old self.new }
+        ensures end { EndsUnless (is_over self.old) code self.old self.new }
+        ensures after { is_over self.old ≡ false → IsAfterEnd self.new }
     {
         if self.ended.is_some() {
             return;
@@ -291,8 +295,10 @@ impl Connection {
 
     // Takes a step after the end of the connection: what comes is dropped, and each stream that the program knows of is
     // told to be over.
-    #[tactic(auto, using(crate::proofs::OwnLemmas::untouched_set))]
     pub(super) fn step_after_end<'a>(&mut self, ended: Ended, input: &mut Input<'a>) -> Step<'a>
+        ensures last { IsTold result (λ e. is_last e.kind ≡ true) }
+        ensures over { is_over self.old ≡ true → is_over self.new ≡ true }
+        ensures events { self.new.events ≡ self.old.events }
         ensures own { Untouched self.old.streams.entries self.new.streams.entries }
         ensures config { self.new.config ≡ self.old.config }
     {
@@ -303,11 +309,7 @@ impl Connection {
         input.report = Report::Nothing;
         if let Some(id) = self.next_told() {
             self.pending.cursor = id.saturating_add(1);
-            let step = self.tell(id, EventKind::Closed(Why::ConnectionClosed));
-            if let Some(entry) = self.streams.get_mut(&id) {
-                entry.is_told = false;
-            }
-            return step;
+            return self.tell_last(id);
         }
         if ended.is_told {
             return Step::Nothing;
@@ -317,6 +319,27 @@ impl Connection {
             ..ended
         });
         Step::Told(Event::of_connection(EventKind::ConnectionClosed(ended.code, ended.by_peer)))
+    }
+
+    // Tells that a stream is over, since the connection is.
+    #[tactic(auto, using(crate::proofs::OwnLemmas::untouched_set))]
+    fn tell_last(&mut self, id: u64) -> Step<'static>
+        ensures last { IsTold result (λ e. is_last e.kind ≡ true) }
+        ensures ended { self.new.ended ≡ self.old.ended }
+        ensures events { self.new.events ≡ self.old.events }
+        ensures own { Untouched self.old.streams.entries self.new.streams.entries }
+        ensures config { self.new.config ≡ self.old.config }
+    {
+        let Some(entry) = self.streams.get_mut(&id) else {
+            return Step::More;
+        };
+        entry.is_told = false;
+        Step::Told(Event {
+            stream: id,
+            session: entry.session_shown(id),
+            user: entry.user,
+            kind: EventKind::Closed(Why::ConnectionClosed),
+        })
     }
 
     // Returns the next stream that the program knows of.
@@ -341,7 +364,8 @@ impl Connection {
 
 // Keeps the last events of streams: each stream that the program knows of has one.
 fn keep_closed(events: &mut VecDeque<Event<'static>>)
-    ensures { events.new.items ≡ filter closes_stream events.old.items }
+    ensures kept { events.new.items ≡ filter closes_stream events.old.items }
+    ensures last { go_on events.new.items ≡ false }
 {
     events.retain(|event| matches!(event.kind, EventKind::Closed(_)));
 }

@@ -2,9 +2,10 @@
 ghost use Rattle.std.specs.Prelude.{◌≡◌};
 ghost use Rattle.vesgrauf.specs.Own.{Untouched};
 
-use crate::connection::{Connection, Stop};
+use crate::connection::Connection;
 use crate::event::{Event, EventKind, Failure, Rule, Why};
 use crate::input::{Input, Report};
+use std::alloc::AllocError;
 use vesgrauf_stream::heard::Heard;
 use vesgrauf_stream::reading::Found;
 use wtp_connection::fault::Fault as StreamsFault;
@@ -70,7 +71,7 @@ impl Connection {
     }
 
     // Tells of the rule that the peer violated on a stream, if the program is to know of it.
-    pub(super) fn tell_failure(&mut self, id: u64, why: &Why) -> Result<(), Stop>
+    pub(super) fn tell_failure(&mut self, id: u64, why: &Why) -> Result<(), AllocError>
         ensures own { Untouched self.old.streams.entries self.new.streams.entries }
         ensures config { self.new.config ≡ self.old.config }
     {

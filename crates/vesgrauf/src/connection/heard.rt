@@ -1,12 +1,14 @@
 //! What is heard on a stream, and what follows from it.
 ghost use Rattle.std.specs.Prelude.{◌≡◌};
 ghost use Rattle.vesgrauf.specs.Own.{Untouched};
+ghost use Rattle.vesgrauf.specs.State.{stream_at, told_on};
 ghost use Rattle.vesgrauf.specs.declared.config.OnMalformed.TheVariants as chosen;
 
 use crate::connection::failing::NO_DATAGRAMS;
 use crate::connection::{Connection, Step, Stop};
 use crate::event::{Event, EventKind, Tunnel, Why};
 use crate::output::StreamKind;
+use std::alloc::AllocError;
 use vesgrauf_stream::bytes::Bytes;
 use vesgrauf_stream::heard::Heard;
 use wtp_connection::settings::PeerSettings;
@@ -57,7 +59,9 @@ impl Connection {
     }
 
     // Tells the program something of a stream, if it knows of the stream.
-    pub(super) fn tell<'a>(&self, id: u64, kind: EventKind<'a>) -> Step<'a> {
+    pub(super) fn tell<'a>(&self, id: u64, kind: EventKind<'a>) -> Step<'a>
+        ensures { result ≡ told_on (stream_at self.now id) id kind.entry }
+    {
         let Some(entry) = self.streams.get(&id) else {
             return Step::More;
         };
@@ -297,7 +301,7 @@ impl Connection {
 
     // The final response to a request that asked for no session came.
     #[tactic(auto, using(crate::proofs::OwnLemmas::untouched_set))]
-    fn response_came(&mut self, id: u64, status: u32) -> Result<(), Stop>
+    fn response_came(&mut self, id: u64, status: u32) -> Result<(), AllocError>
         ensures own { Untouched self.old.streams.entries self.new.streams.entries }
         ensures config { self.new.config ≡ self.old.config }
     {
@@ -315,17 +319,25 @@ impl Connection {
     }
 
     // The peer's half ended.
-    #[tactic(auto, using(crate::proofs::OwnLemmas::untouched_set))]
     fn end_came(&mut self, id: u64) -> Result<Step<'static>, Stop>
         ensures own { Untouched self.old.streams.entries self.new.streams.entries }
         ensures config { self.new.config ≡ self.old.config }
     {
         let step = self.tell(id, EventKind::End);
+        self.forget_cancel(id);
+        self.peer_is_over(id)?;
+        Ok(step)
+    }
+
+    // All sections of a stream were read.
+    #[tactic(auto, using(crate::proofs::OwnLemmas::untouched_set))]
+    fn forget_cancel(&mut self, id: u64)
+        ensures own { Untouched self.old.streams.entries self.new.streams.entries }
+        ensures config { self.new.config ≡ self.old.config }
+    {
         if let Some(entry) = self.streams.get_mut(&id) {
             entry.may_cancel = false;
         }
-        self.peer_is_over(id)?;
-        Ok(step)
     }
 
     // The peer closed a session, on its own stream. The stream is read to its end: more content is an error

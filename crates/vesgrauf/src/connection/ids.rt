@@ -25,7 +25,7 @@ pub(crate) struct Ids {
 
 impl Ids {
     ghost use Rattle.std.specs.Prelude.{◌≡◌, ◌<◌, ◌≤◌, ◌^◌, ◌%◌, ◌==◌, ◌&&◌, nat_lt, min, true, false, MatchOption, if◌then◌else◌};
-    ghost use Rattle.vesgrauf.specs.Ids.{IsFirst, own_bit, kind_of, next_own, unopened, next_peer, to_open, taken, opened, seen, was as was_is, blocked as blocked_is, count_unopened as count_unopened_is};
+    ghost use Rattle.vesgrauf.specs.Ids.{IsFirst, own_bit, kind_of, opens, next_own, unopened, next_peer, to_open, taken, opened, seen, was as was_is, blocked as blocked_is, count_unopened as count_unopened_is};
 
     // Creates those of a connection without streams.
     pub(crate) fn new(side: Side) -> Self
@@ -125,7 +125,7 @@ impl Ids {
 
     // Returns whether this is the next stream of its kind that QUIC is to open.
     pub(crate) fn opens(&self, id: u64) -> bool
-        ensures { result ≡ (id == unopened self.now (kind_of id) && nat_lt id (next_own self.now (kind_of id))) }
+        ensures { result ≡ opens self.now id }
     {
         match StreamKind::of(id) {
             StreamKind::Bidirectional => {

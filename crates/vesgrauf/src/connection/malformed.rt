@@ -6,6 +6,7 @@ ghost use Rattle.vesgrauf.specs.declared.config.OnMalformed.TheVariants as chose
 use crate::config::OnMalformed;
 use crate::connection::{Connection, Step, Stop};
 use crate::event::Why;
+use std::alloc::AllocError;
 use wtp_core::error::Code;
 use wtp_core::ids::StatusCode;
 use wtp_fields::fields::FieldList;
@@ -60,7 +61,7 @@ impl Connection {
     }
 
     // Reads no further on a stream that was answered, whose own half ends after what is queued.
-    fn leave_answered(&mut self, id: u64, code: Code, why: Why) -> Result<(), Stop>
+    fn leave_answered(&mut self, id: u64, code: Code, why: Why) -> Result<(), AllocError>
         ensures own { Untouched self.old.streams.entries self.new.streams.entries }
         ensures config { self.new.config ≡ self.old.config }
     {

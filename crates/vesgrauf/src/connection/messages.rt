@@ -1,15 +1,17 @@
 //! Messages that are sent.
-ghost use Rattle.std.specs.Prelude.{◌≡◌, ◌⊎◌, false, true, is_some, None, Some, OnOk, OnErr, IfOk, IfErr, length};
+ghost use Rattle.std.specs.Prelude.{◌≡◌, ◌⊎◌, false, true, is_some, is_ok, None, Some, OnOk, OnErr, IfOk, IfErr, length};
 ghost use Rattle.vesgrauf_stream.specs.Writing.{Sends};
 ghost use Rattle.vesgrauf_stream.specs.Headers.{SendsTrailers, RefusesTrailers};
 ghost use Rattle.vesgrauf.specs.Own.{Untouched, UntouchedBut};
-ghost use Rattle.vesgrauf.specs.State.{stream_at, Changes, IsFor, IsStill, IsStillBut, SaysOrWaits, StaysFor, IsWhy, IsWhyOf, RefusesBytes, RefusesEnd, FinishesUnless, was_finished, was_told_full, is_over};
+ghost use Rattle.vesgrauf.specs.State.{stream_at, Changes, IsFor, IsStill, IsStillBut, IsRefused, SaysOrWaits, StaysFor, IsWhy, IsWhyOf, RefusesBytes, RefusesEnd, FinishesUnless, was_finished, was_told_full, is_over, open_session};
 ghost use Rattle.vesgrauf.specs.declared.refused.Refused.TheVariants as refused;
 
 use crate::connection::{Connection, Stop};
 use crate::entry::{Entry, Peer, SHARED};
 use crate::output::StreamKind;
 use crate::refused::{NotSent, Refused};
+use std::alloc::AllocError;
+use vesgrauf_stream::error::NotSent as Kept;
 use vesgrauf_stream::reading::Reading;
 use vesgrauf_stream::writing::Writing;
 use wtp_connection::connection::Known;
@@ -137,28 +139,45 @@ impl Connection {
     /// Nothing changes. `Closed`; `NoStream` if no request came on the stream; `Over`; `Send` if it would be malformed;
     /// and `Memory`.
     pub fn respond(&mut self, id: u64, list: &FieldList, fin: bool) -> Result<(), Refused>
+        ensures refused { IfErr result (λ e. (e ≡ refused.Memory) ⊎ IsStillBut self.old self.new) }
         ensures own { UntouchedBut id self.old.streams.entries self.new.streams.entries }
         ensures config { self.new.config ≡ self.old.config }
     {
         self.begin_send(id)?;
-        let session = match session_id(id) {
-            Ok(session) => session,
-            Err(refused) => {
-                self.end_send(id);
-                return Err(refused);
-            }
-        };
-        let allows = self.allows();
         self.choose_policy();
+        let result = self.put_response(id, list, fin);
+        self.queue_due();
+        result?;
+        Ok(self.responded(id, list, fin)?)
+    }
+
+    // Queues the HEADERS of a response, and maybe the end.
+    #[tactic(auto, using(std::proofs::lemmas::Map::Steps::set_value_same))]
+    fn put_response(&mut self, id: u64, list: &FieldList, fin: bool) -> Result<(), Refused>
+        ensures kept { OnErr result (IsStill self.old self.new) }
+        ensures own { UntouchedBut id self.old.streams.entries self.new.streams.entries }
+        ensures config { self.new.config ≡ self.old.config }
+    {
+        let session = session_id(id);
+        let allows = self.allows();
         let Some(entry) = self.streams.get_mut(&id) else {
             return Err(Refused::NoStream);
         };
-        let result = entry
-            .writing
-            .respond(&mut self.tools, session, allows, list, fin);
+        let result = match session {
+            Ok(session) => entry
+                .writing
+                .respond(&mut self.tools, session, allows, list, fin),
+            Err(_) => Err(Kept::None),
+        };
         self.end_send(id);
-        self.queue_due();
-        result?;
+        Ok(result?)
+    }
+
+    // A response was sent: what follows for its stream, and for a session.
+    fn responded(&mut self, id: u64, list: &FieldList, fin: bool) -> Result<(), AllocError>
+        ensures own { Untouched self.old.streams.entries self.new.streams.entries }
+        ensures config { self.new.config ≡ self.old.config }
+    {
         if let Some(status) = status_of(list) {
             self.answered(id, status);
         }
@@ -319,7 +338,11 @@ impl Connection {
     ///
     /// Nothing changes. `Closed`; `NoStream` if there never was such a stream; `Over` if it was reset; `Send` if the message
     /// may not end here; and `Memory`.
-    pub fn finish(&mut self, id: u64) -> Result<(), Refused> {
+    pub fn finish(&mut self, id: u64) -> Result<(), Refused>
+        ensures refused { IfErr result (λ e. IsRefused e self.old self.new) }
+        ensures half { is_ok (open_session self.old id) ≡ false
+            → OnOk result (FinishesUnless (was_finished self.old id) id self.old self.new) }
+    {
         if self.check_session(id).is_ok() {
             return self.close_session(id, 0, "");
         }

@@ -1,16 +1,17 @@
 //! Streams that are opened.
-ghost use Rattle.std.specs.Prelude.{◌≡◌, [], MatchBool, OnOk, OnErr, IfOk};
+ghost use Rattle.std.specs.Prelude.{◌≡◌, ◌⊎◌, [], true, false, MatchBool, OnOk, OnErr, IfOk, IfErr};
 ghost use Rattle.wtp_frames.specs.declared.endpoint.Side.TheVariants as side;
-ghost use Rattle.vesgrauf.specs.State.{open_session, room_for, may_wait, IsStill};
+ghost use Rattle.vesgrauf.specs.declared.refused.Refused.TheVariants as refused;
+ghost use Rattle.vesgrauf.specs.State.{open_session, room_for, may_wait, IsStill, IsRefused};
 ghost use Rattle.vesgrauf.specs.Own.{Sends, own_of, Untouched, UntouchedBut};
-ghost use Rattle.vesgrauf.specs.Ids.{next_own};
+ghost use Rattle.vesgrauf.specs.Ids.{next_own, opens};
 
 use crate::connection::{Connection, Stop};
 use crate::entry::{Entry, Member, Peer, SHARED};
 use crate::event::{Event, EventKind};
 use crate::output::{Output, StreamKind};
 use crate::refused::Refused;
-use std::alloc::Global;
+use std::alloc::{AllocError, Global};
 use vesgrauf_queue::config::QueueConfig;
 use vesgrauf_stream::reading::Reading;
 use vesgrauf_stream::writing::Writing;
@@ -75,6 +76,7 @@ impl Connection {
     /// kind wait for QUIC as [`max_unopened`](crate::config::Config) says: an event
     /// [`Openable`](crate::event::EventKind) follows; `NoMoreIds`; and `Memory`.
     pub fn open_stream(&mut self, session: u64, kind: StreamKind) -> Result<u64, Refused>
+        ensures refused { IfErr result (λ e. IsRefused e self.old self.new) }
         ensures id { IfOk result (λ id. id ≡ next_own self.old.ids kind) }
         ensures own { IfOk result (λ id. UntouchedBut id self.old.streams.entries self.new.streams.entries) }
     {
@@ -126,7 +128,7 @@ impl Connection {
     }
 
     // Tells that there is room again for own streams of a kind, if that is owed.
-    fn tell_openable(&mut self, kind: StreamKind) -> Result<(), Refused>
+    fn tell_openable(&mut self, kind: StreamKind) -> Result<(), AllocError>
         ensures own { Untouched self.old.streams.entries self.new.streams.entries }
         ensures config { self.new.config ≡ self.old.config }
     {
@@ -153,17 +155,12 @@ impl Connection {
     }
 
     // Adds an own stream of a session.
-    fn add_member(&mut self, session: u64, id: u64, entry: Entry) -> Result<(), Refused>
+    fn add_member(&mut self, session: u64, id: u64, entry: Entry) -> Result<(), AllocError>
         ensures own { OnOk result (UntouchedBut id self.old.streams.entries self.new.streams.entries) }
         ensures ids { self.new.ids ≡ self.old.ids }
     {
-        let place = match self.streams.entry(id) {
-            Ok(place) => place,
-            Err(_) => return Err(Refused::Memory),
-        };
-        if self.members.insert(Member { session, id }).is_err() {
-            return Err(Refused::Memory);
-        }
+        let place = self.streams.entry(id)?;
+        self.members.insert(Member { session, id })?;
         place.or_insert(entry);
         Ok(())
     }
@@ -195,6 +192,9 @@ impl Connection {
     /// `NotAsked` if another stream was to be opened: nothing changes, and QUIC's connection has streams that are not of
     /// this one. `Memory`: nothing changes, and the call is to be made again.
     pub fn opened(&mut self, id: u64) -> Result<(), Refused>
+        ensures asked { OnOk result (opens self.old.ids id ≡ true) }
+        ensures refused { IfErr result (λ e. (e ≡ refused.Memory)
+            ⊎ ((opens self.old.ids id ≡ false) × (e ≡ refused.NotAsked) × (self.new ≡ self.old))) }
         ensures own { Untouched self.old.streams.entries self.new.streams.entries }
         ensures config { self.new.config ≡ self.old.config }
     {
@@ -213,12 +213,12 @@ impl Connection {
         }
         let kind = StreamKind::of(id);
         self.ids.was_opened(kind);
-        self.tell_openable(kind)
+        Ok(self.tell_openable(kind)?)
     }
 
     // QUIC has opened an own stream that is not critical.
     #[tactic(auto, using(crate::proofs::OwnLemmas::untouched_set))]
-    fn opened_message(&mut self, id: u64) -> Result<(), Refused>
+    fn opened_message(&mut self, id: u64) -> Result<(), AllocError>
         ensures own { Untouched self.old.streams.entries self.new.streams.entries }
         ensures config { self.new.config ≡ self.old.config }
     {

@@ -1,5 +1,6 @@
 //! What is read at once: a piece of content, where nothing else is due.
-ghost use Rattle.std.specs.Prelude.{◌≡◌};
+ghost use Rattle.std.specs.Prelude.{◌≡◌, true, false};
+ghost use Rattle.vesgrauf.specs.State.{is_over};
 ghost use Rattle.vesgrauf.specs.Own.{Untouched};
 ghost use Rattle.vesgrauf.specs.declared.config.OnMalformed.TheVariants as chosen;
 
@@ -15,7 +16,9 @@ use vesgrauf_stream::reading::Found;
 
 impl Connection {
     // Returns whether nothing is due before an input.
-    pub(super) fn is_quiet(&self) -> bool {
+    pub(super) fn is_quiet(&self) -> bool
+        ensures { result ≡ true → is_over self.now ≡ false }
+    {
         self.events.is_empty()
             && self.ended.is_none()
             && self.pending.resumed.is_none()

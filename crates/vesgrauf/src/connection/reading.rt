@@ -9,6 +9,7 @@ use crate::connection::{Connection, Step, Stop, internal};
 use crate::entry::Peer;
 use crate::input::{Input, Report};
 use crate::output::Output;
+use std::alloc::AllocError;
 use vesgrauf_stream::bytes::Chunk;
 use vesgrauf_stream::heard::Heard;
 use vesgrauf_stream::reading::Found;
@@ -59,7 +60,7 @@ impl Connection {
     }
 
     // Drops bytes of a stream that is not read.
-    fn drop_input<'a>(&mut self, id: u64, input: &mut Input<'a>) -> Result<(), Stop>
+    fn drop_input<'a>(&mut self, id: u64, input: &mut Input<'a>) -> Result<(), AllocError>
         ensures own { Untouched self.old.streams.entries self.new.streams.entries }
         ensures config { self.new.config ≡ self.old.config }
     {
@@ -180,7 +181,7 @@ impl Connection {
     }
 
     // Extends QUIC's windows by bytes that had waited.
-    pub(super) fn credit(&mut self, id: u64, len: usize) -> Result<(), Stop>
+    pub(super) fn credit(&mut self, id: u64, len: usize) -> Result<(), AllocError>
         ensures own { Untouched self.old.streams.entries self.new.streams.entries }
         ensures config { self.new.config ≡ self.old.config }
     {
@@ -294,7 +295,7 @@ impl Connection {
     }
 
     // Notes that a stream is read again later.
-    pub(super) fn wait(&mut self, id: u64) -> Result<(), Stop>
+    pub(super) fn wait(&mut self, id: u64) -> Result<(), AllocError>
         ensures own { Untouched self.old.streams.entries self.new.streams.entries }
         ensures config { self.new.config ≡ self.old.config }
     {

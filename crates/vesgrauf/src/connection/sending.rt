@@ -1,13 +1,14 @@
 //! What QUIC is to send and to do.
 ghost use Rattle.std.specs.Prelude.{◌≡◌, false, true, None, IfErr, IfSome, OnOk, OnErr};
-ghost use Rattle.vesgrauf.specs.State.{next_output, IsStill, ShowsNext, view_of, blocked_at, blocked_in, is_over};
+ghost use Rattle.vesgrauf.specs.State.{next_output, IsStill, IsRefused, ShowsNext, view_of, blocked_at, blocked_in, is_over, is_own};
 ghost use Rattle.vesgrauf.specs.declared.refused.Refused.TheVariants as refused;
-ghost use Rattle.vesgrauf.specs.Own.{Untouched, UntouchedBut};
+ghost use Rattle.vesgrauf.specs.Own.{own_at, Took, TookAlone, Untouched, UntouchedBut};
 
-use crate::connection::{Connection, Step, Stop};
+use crate::connection::{Connection, Step};
 use crate::event::EventKind;
 use crate::output::{Next, Output, Scope, StreamKind};
 use crate::refused::Refused;
+use std::alloc::AllocError;
 
 impl Connection {
     /// Returns what QUIC is to do next, or `None`. It is the same until it is taken.
@@ -37,6 +38,7 @@ impl Connection {
     /// `NotAsked` if there is none. `Memory`: nothing changes, and the call is to be made again.
     #[tactic(auto, using(crate::proofs::OwnLemmas::untouched_set))]
     pub fn output_taken(&mut self) -> Result<(), Refused>
+        ensures refused { IfErr result (λ e. IsRefused e self.old self.new) }
         ensures own { Untouched self.old.streams.entries self.new.streams.entries }
         ensures config { self.new.config ≡ self.old.config }
     {
@@ -104,7 +106,10 @@ impl Connection {
     /// `NoStream`; `NotAsked` if so many bytes were not returned; `Memory`: nothing changes, and the call is to be made
     /// again.
     pub fn sent(&mut self, id: u64, len: usize) -> Result<(), Refused>
-        ensures { UntouchedBut id self.old.streams.entries self.new.streams.entries }
+        ensures refused { IfErr result (λ e. IsRefused e self.old self.new) }
+        ensures own { UntouchedBut id self.old.streams.entries self.new.streams.entries }
+        ensures took { OnOk result (is_own self.old id ≡ false
+            → TookAlone len (own_at self.old.streams.entries id) (own_at self.new.streams.entries id)) }
     {
         self.reserve()?;
         let spares = &mut self.tools.spares;
@@ -117,21 +122,51 @@ impl Connection {
         if self.encoder.is(id) {
             return Ok(self.encoder.sent(spares, len)?);
         }
+        self.sent_on(id, len)
+    }
+
+    // QUIC took bytes of a stream that is not critical.
+    #[tactic(auto, using(crate::proofs::OwnLemmas::took_alone))]
+    fn sent_on(&mut self, id: u64, len: usize) -> Result<(), Refused>
+        ensures refused { IfErr result (λ e. IsRefused e self.old self.new) }
+        ensures own { UntouchedBut id self.old.streams.entries self.new.streams.entries }
+        ensures took { OnOk result (TookAlone len (own_at self.old.streams.entries id)
+            (own_at self.new.streams.entries id)) }
+    {
+        let is_done = self.message_sent(id, len)?;
+        Ok(self.after_sent(id, is_done)?)
+    }
+
+    // QUIC took bytes of a stream: there may be room again, or nothing is to be done for its own half any more.
+    fn after_sent(&mut self, id: u64, is_done: bool) -> Result<(), AllocError>
+        ensures own { Untouched self.old.streams.entries self.new.streams.entries }
+    {
+        self.note_room(id);
+        if is_done {
+            self.remove_if_done(id)?;
+        }
+        Ok(())
+    }
+
+    // QUIC took bytes of a stream that is not critical. Returns whether nothing is to be done for its own half any more.
+    #[tactic(auto, using(crate::proofs::OwnLemmas::took_set, std::proofs::lemmas::Map::Steps::set_value_same))]
+    fn message_sent(&mut self, id: u64, len: usize) -> Result<bool, Refused>
+        ensures refused { OnErr result (IsStill self.old self.new) }
+        ensures own { UntouchedBut id self.old.streams.entries self.new.streams.entries }
+        ensures took { OnOk result (Took len (own_at self.old.streams.entries id)
+            (own_at self.new.streams.entries id)) }
+    {
         let Some(entry) = self.streams.get_mut(&id) else {
             return Err(Refused::NoStream);
         };
-        entry.writing.sent(spares, len)?;
+        entry.sent(&mut self.tools.spares, len)?;
         let kind = entry.kind();
         let is_done = entry.writing.is_done();
         self.ready.turn_taken(id, kind);
         if !entry.has_more() {
             self.ready.remove(id, kind);
         }
-        self.note_room(id);
-        if is_done {
-            self.remove_if_done(id)?;
-        }
-        Ok(())
+        Ok(is_done)
     }
 
     // Notes that there may be room on a stream.
@@ -185,8 +220,9 @@ impl Connection {
     ///
     /// `NotAsked` if QUIC did not take so many. `Memory`: nothing changes, and the call is to be made again. There is
     /// none if the stream is forgotten.
-    #[tactic(auto, using(crate::proofs::OwnLemmas::untouched_set))]
+    #[tactic(auto, using(crate::proofs::OwnLemmas::untouched_set, std::proofs::lemmas::Map::Steps::set_value_same))]
     pub fn acked(&mut self, id: u64, len: u64) -> Result<(), Refused>
+        ensures refused { IfErr result (λ e. IsRefused e self.old self.new) }
         ensures own { Untouched self.old.streams.entries self.new.streams.entries }
         ensures config { self.new.config ≡ self.old.config }
     {
@@ -278,7 +314,7 @@ impl Connection {
     }
 
     // Reserves the memory that a step or a call takes.
-    pub(super) fn reserve_all(&mut self) -> Result<(), Stop>
+    pub(super) fn reserve_all(&mut self) -> Result<(), AllocError>
         ensures still { IsStill self.old self.new }
         ensures tools { self.new.tools ≡ self.old.tools }
     {

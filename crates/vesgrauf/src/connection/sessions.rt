@@ -1,13 +1,14 @@
 //! Sessions.
 ghost use Rattle.std.specs.Prelude.{◌≡◌, ◌⊎◌, true, Ok, Err, OnOk, OnErr, IfErr};
 ghost use Rattle.vesgrauf_stream.specs.Writing.{Drains};
-ghost use Rattle.vesgrauf.specs.State.{IsStill, Changes, IsWhy, RefusesDrain, is_over, open_session};
+ghost use Rattle.vesgrauf.specs.State.{IsStill, IsRefused, Changes, IsWhy, RefusesDrain, is_over, open_session};
 ghost use Rattle.vesgrauf.specs.Own.{Untouched, UntouchedBut};
 
 use crate::connection::{Connection, Step, Stop};
 use crate::entry::SHARED;
 use crate::event::{EventKind, Tunnel, Why};
 use crate::refused::Refused;
+use std::alloc::AllocError;
 use wtp_connection::connection::Known;
 use wtp_core::error::Code;
 use wtp_fields::fields::FieldList;
@@ -15,7 +16,6 @@ use wtp_messages::response::Asked;
 
 impl Connection {
     // A request for a session came. One above the limit is rejected.
-    #[tactic(auto, using(crate::proofs::OwnLemmas::untouched_set))]
     pub(super) fn session_came(&mut self, id: u64, list: FieldList) -> Result<Step<'static>, Stop>
         ensures own { Untouched self.old.streams.entries self.new.streams.entries }
         ensures config { self.new.config ≡ self.old.config }
@@ -23,6 +23,18 @@ impl Connection {
         if self.sessions >= self.config.max_sessions {
             return self.reject(id, Some(id));
         }
+        self.begin_session(id);
+        let step = self.tell(id, EventKind::Connect(Tunnel::Session, list));
+        self.tell_stop(id)?;
+        Ok(step)
+    }
+
+    // The request on a stream asks for a session.
+    #[tactic(auto, using(crate::proofs::OwnLemmas::untouched_set))]
+    fn begin_session(&mut self, id: u64)
+        ensures own { Untouched self.old.streams.entries self.new.streams.entries }
+        ensures config { self.new.config ≡ self.old.config }
+    {
         self.note_request(id, Asked::Session);
         self.sessions = self.sessions.saturating_add(1);
         if let Some(entry) = self.streams.get_mut(&id) {
@@ -30,9 +42,6 @@ impl Connection {
             entry.has_session = true;
             entry.priority = SHARED;
         }
-        let step = self.tell(id, EventKind::Connect(Tunnel::Session, list));
-        self.tell_stop(id)?;
-        Ok(step)
     }
 
     // The server accepted a session. It is lost if the server stopped the own half before.
@@ -187,9 +196,22 @@ impl Connection {
     ///
     /// Nothing changes. `Closed`; `NotOpen`; `Send` if the reason has more than 1,024 bytes; and `Memory`.
     pub fn close_session(&mut self, session: u64, code: u32, reason: &str) -> Result<(), Refused>
-        ensures { UntouchedBut session self.old.streams.entries self.new.streams.entries }
+        ensures open { OnOk result (open_session self.old session ≡ Ok tt) }
+        ensures refused { IfErr result (λ e. IsRefused e self.old self.new) }
+        ensures own { UntouchedBut session self.old.streams.entries self.new.streams.entries }
     {
         self.check_session(session)?;
+        self.put_close(session, code, reason)?;
+        Ok(self.session_ended(session)?)
+    }
+
+    // Queues the end of a session.
+    #[tactic(auto, using(std::proofs::lemmas::Map::Steps::set_value_same))]
+    fn put_close(&mut self, session: u64, code: u32, reason: &str) -> Result<(), Refused>
+        ensures kept { OnErr result (IsStill self.old self.new) }
+        ensures own { UntouchedBut session self.old.streams.entries self.new.streams.entries }
+        ensures config { self.new.config ≡ self.old.config }
+    {
         self.begin_send(session)?;
         let Some(entry) = self.streams.get_mut(&session) else {
             return Err(Refused::NotOpen);
@@ -202,9 +224,16 @@ impl Connection {
                 .close(self.alloc, &mut self.tools.spares, code, reason)
         };
         self.end_send(session);
-        result?;
+        Ok(result?)
+    }
+
+    // The end of a session is queued: what follows for its streams.
+    fn session_ended(&mut self, session: u64) -> Result<(), AllocError>
+        ensures own { Untouched self.old.streams.entries self.new.streams.entries }
+        ensures config { self.new.config ≡ self.old.config }
+    {
         self.end_session(session)?;
         self.drop_peer(session)?;
-        Ok(self.remove_if_done(session)?)
+        self.remove_if_done(session)
     }
 }

@@ -1,6 +1,6 @@
 //! The own streams of QPACK (RFC 9204, sections 4.2 to 4.4).
 ghost use Rattle.std.specs.Prelude.{◌≡◌, OnOk, IfErr};
-ghost use Rattle.vesgrauf.specs.State.{IsStill, Instructs, SaysAll, SaysOrWaits};
+ghost use Rattle.vesgrauf.specs.State.{IsStill, Instructs, SaysAll, SaysOrWaits, view_of, with_begun};
 ghost use Rattle.vesgrauf.specs.declared.connection.Stop.TheVariants as stop;
 ghost use Rattle.vesgrauf.specs.Own.{Untouched};
 
@@ -20,7 +20,10 @@ const DECODER_TYPE: u8 = 0x03;
 
 impl Connection {
     // Opens the own decoder stream, if the peer may use a dynamic table.
-    pub(super) fn begin_decoder(&mut self) -> Result<(), AllocError> {
+    pub(super) fn begin_decoder(&mut self) -> Result<(), AllocError>
+        ensures others { view_of self.new ≡ with_begun self.new (view_of self.old) }
+        ensures control { self.new.control ≡ self.old.control }
+    {
         if self.config.qpack_max_table_capacity == 0 {
             return Ok(());
         }
@@ -122,7 +125,7 @@ impl Connection {
 
     // Tells the peer's encoder that a stream is left, once (RFC 9204, section 2.2.2.2).
     #[tactic(auto, using(crate::proofs::OwnLemmas::untouched_set))]
-    pub(super) fn cancel(&mut self, id: u64) -> Result<(), Stop>
+    pub(super) fn cancel(&mut self, id: u64) -> Result<(), AllocError>
         ensures own { Untouched self.old.streams.entries self.new.streams.entries }
         ensures config { self.new.config ≡ self.old.config }
     {
