@@ -30,9 +30,9 @@ class Items(unittest.TestCase):
     def test_a_constant(self):
         self.only("pub const A: B = B { x: 1 };\n", "const A: B")
 
-    def test_an_enum_has_its_variants(self):
+    def test_an_enum_has_its_variants_and_their_values(self):
         text = "/// It is a.\npub enum A<T> {\n    /// One.\n    B(T),\n    C { x: u8 },\n}\n"
-        self.only(text, "enum A<T> { B, C }", "It is a.")
+        self.only(text, "enum A<T> { B(T), C { x: u8 } }", "It is a.")
 
     def test_a_struct_has_its_public_fields(self):
         self.only("pub struct A {\n    pub x: u8,\n    y: u8,\n}\n", "struct A { x: u8 }")

@@ -44,9 +44,9 @@ impl Actor {
             return Ok(());
         }
         if job.left == 0 && !job.ends {
-            let code = self.journal.code(job.id);
-            self.journal.reset(job.id, code)?;
-            return accept(on.reset(job.id, code));
+            let number = self.journal.code(job.id).number();
+            self.journal.reset(job.id, number)?;
+            return accept(on.reset(job.id, self.journal.code(job.id)));
         }
         self.say(on, job)
     }
@@ -268,12 +268,11 @@ impl Actor {
     pub fn stop(&mut self, on: &mut Connection, id: u64) -> Result<()> {
         self.disturb(id)?;
         self.paused.remove(&id);
-        let code = self.journal.code(id);
         if self.random.one_in(2) {
-            return Ok(on.stop_sending(id, code)?);
+            return Ok(on.stop_sending(id, self.journal.code(id))?);
         }
         self.drop_job(id);
-        Ok(on.abort(id, code)?)
+        Ok(on.abort(id, self.journal.code(id))?)
     }
 
     /// Wants nothing of a stream for a while.

@@ -69,7 +69,7 @@ impl Handler for Actor {
             EventKind::NewStream(kind) => self.hear_stream(on, stream, kind),
             EventKind::Data(bytes) => self.hear_bytes(on, stream, bytes.as_slice()),
             EventKind::End => self.journal.hear_over(stream, Over::End),
-            EventKind::Reset(code) => self.journal.hear_over(stream, Over::Reset(code)),
+            EventKind::Reset(code) => self.journal.hear_over(stream, Over::Reset(code.number())),
             EventKind::Stopped(_) => self.hear_stop(stream),
             EventKind::Datagram(bytes) => self.hear_datagram(stream, bytes.as_slice()),
             EventKind::Writable => self.hear_room(stream),

@@ -12,8 +12,8 @@ pub enum Over {
     Not,
     /// By its end.
     End,
-    /// By a reset with this code.
-    Reset(StreamCode),
+    /// By a reset with this code, as QUIC sends it.
+    Reset(u64),
 }
 
 /// A half of a stream: how many bytes were said or heard, and how it is over.
@@ -125,7 +125,7 @@ impl Journal {
     }
 
     /// Notes that the own half was reset.
-    pub fn reset(&mut self, id: u64, code: StreamCode) -> Result<()> {
+    pub fn reset(&mut self, id: u64, code: u64) -> Result<()> {
         let mut half = self.said(id);
         if half.over == Over::Not {
             half.over = Over::Reset(code);
