@@ -36,6 +36,7 @@ new_entry r p w = record {
   since = 0;
   offset = 0;
   is_reset = false;
+  is_rejected = false;
   stops = None;
   stopped = None;
 }

@@ -68,6 +68,8 @@ pub(crate) struct Entry {
     pub(crate) offset: u64,
     /// Whether the own half was reset.
     pub(crate) is_reset: bool,
+    /// Whether it has a request that the server rejected (RFC 9114, section 4.1.1).
+    pub(crate) is_rejected: bool,
     /// What the peer is asked to stop it with, once QUIC has opened it.
     pub(crate) stops: Option<u64>,
     /// What the peer asked to stop the own half with, before the program knew of the stream.
@@ -110,6 +112,7 @@ impl Entry {
             since: 0,
             offset: 0,
             is_reset: false,
+            is_rejected: false,
             stops: None,
             stopped: None,
         }

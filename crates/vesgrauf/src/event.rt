@@ -121,7 +121,8 @@ pub enum Why {
     TooLarge,
     /// The peer violated a rule.
     Fault(Fault),
-    /// The server does not process the request: send it again on another connection (RFC 9114, section 5.2).
+    /// The server does not process the request: its GOAWAY says so, or it reset the stream with H3_REQUEST_REJECTED. Send
+    /// it again, on another connection (RFC 9114, sections 4.1.1 and 5.2).
     Unprocessed,
     /// The connection is closed.
     ConnectionClosed,

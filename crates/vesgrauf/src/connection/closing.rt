@@ -280,7 +280,9 @@ impl Connection {
         if !entry.is_done() {
             return Ok(());
         }
-        let why = if entry.is_reset {
+        let why = if entry.is_rejected {
+            Why::Unprocessed
+        } else if entry.is_reset {
             Why::Reset
         } else {
             Why::Done

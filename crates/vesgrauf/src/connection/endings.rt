@@ -34,6 +34,8 @@ impl Connection {
         }
         self.give_up(id)?;
         let shown = self.shown_code(id, code)?;
+        let is_rejected =
+            !self.is_server() && shown == StreamCode::Http(Code::H3_REQUEST_REJECTED);
         let Some(entry) = self.streams.get_mut(&id) else {
             return Ok(());
         };
@@ -42,6 +44,7 @@ impl Connection {
             return Err(Stop::from(fault));
         }
         entry.is_ended = true;
+        entry.is_rejected = is_rejected;
         self.half_reset(id, shown, event)
     }
 
