@@ -201,6 +201,8 @@ known_in c id = known_by (stream_at c id) c id
 -- it is open, or why a call on it is refused
 abbrev pub open_of : Known → Result (Unit {0}) Refused
 open_of known.Open = Ok tt
+open_of known.Over = Err refused.SessionGone
+open_of known.Refused = Err refused.SessionGone
 open_of _ = Err refused.NotOpen
 
 abbrev pub open_session : Connection → ℕ → Result (Unit {0}) Refused
@@ -341,6 +343,7 @@ abbrev pub is_gone : Refused → Bool
 is_gone refused.Closed = true
 is_gone refused.NoStream = true
 is_gone refused.Over = true
+is_gone refused.SessionGone = true
 is_gone other = false
 
 -- the own half refuses it for this reason, as the program is told

@@ -33,9 +33,12 @@ pub enum Refused {
     /// SETTINGS of the peer did not come yet: wait for `Ready`.
     #[error("SETTINGS of the peer did not come yet")]
     NotReady,
-    /// The session is not open.
+    /// The session is not open yet, or there is none with this ID.
     #[error("the session is not open")]
     NotOpen,
+    /// The session is over, or was refused.
+    #[error("the session is over")]
+    SessionGone,
     /// The peer allows no more sessions at once.
     #[error("the peer allows no more sessions")]
     TooManySessions,
@@ -69,12 +72,15 @@ impl Refused {
     ghost use Rattle.std.specs.Prelude.{◌≡◌};
     ghost use Rattle.vesgrauf.specs.State.{is_gone};
 
-    /// Returns whether what the call is about is over: the connection, the stream or its own half. The same call is
-    /// refused ever after.
+    /// Returns whether what the call is about is over: the connection, the session, the stream or its own half. The same
+    /// call is refused ever after.
     pub fn is_gone(self) -> bool
         ensures { result ≡ is_gone self }
     {
-        matches!(self, Refused::Closed | Refused::NoStream | Refused::Over)
+        matches!(
+            self,
+            Refused::Closed | Refused::NoStream | Refused::Over | Refused::SessionGone
+        )
     }
 }
 

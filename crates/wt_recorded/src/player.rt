@@ -174,7 +174,7 @@ impl Player {
             };
             match on.open_stream(session, StreamKind::Bidirectional) {
                 Ok(id) => self.plan.opened(name, id)?,
-                Err(Refused::NotOpen | Refused::Closed) => {
+                Err(Refused::NotOpen | Refused::SessionGone | Refused::Closed) => {
                     self.plan.streams.push_back((name, session))?;
                 }
                 Err(refused) => bail!("a stream of session {session} is refused: {refused}"),

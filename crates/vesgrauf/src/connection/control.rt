@@ -82,7 +82,8 @@ impl Connection {
     ///
     /// # Errors
     ///
-    /// Nothing changes. `Closed`; `Send` after the last one; and `Memory`.
+    /// Nothing changes. `Closed`; `Send` for [`Notice`](crate::output::Shutdown::Notice) after the last one; and `Memory`.
+    /// The last one may be repeated: GOAWAY is sent again.
     pub fn shutdown(&mut self, phase: Shutdown) -> Result<(), Refused>
         ensures ok { OnOk result (ShutsDown phase self.old self.new) }
         ensures why { IfErr result (λ e.

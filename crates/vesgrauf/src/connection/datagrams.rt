@@ -115,7 +115,7 @@ impl Connection {
     ///
     /// # Errors
     ///
-    /// Nothing changes. `Closed`; `NotOpen`; `TooLarge` if it has more bytes than [`max_datagram`](Self::max_datagram)
+    /// Nothing changes. `Closed`; `SessionGone`; `NotOpen`; `TooLarge` if it has more bytes than [`max_datagram`](Self::max_datagram)
     /// says; and `Memory`.
     pub fn send_datagram(&mut self, session: u64, payload: &[u8]) -> Result<bool, Refused>
         ensures open { IfOk result (λ queued. open_session self.old session ≡ Ok tt) }

@@ -34,8 +34,7 @@ impl Connection {
         }
         self.give_up(id)?;
         let shown = self.shown_code(id, code)?;
-        let is_rejected =
-            !self.is_server() && shown == StreamCode::Http(Code::H3_REQUEST_REJECTED);
+        let is_rejected = !self.is_server() && shown == StreamCode::Http(Code::H3_REQUEST_REJECTED);
         let Some(entry) = self.streams.get_mut(&id) else {
             return Ok(());
         };
@@ -197,7 +196,11 @@ impl Connection {
     }
 
     // Queues an event of a stream, if the program knows of the stream.
-    pub(super) fn queue_event(&mut self, id: u64, kind: EventKind<'static>) -> Result<(), AllocError>
+    pub(super) fn queue_event(
+        &mut self,
+        id: u64,
+        kind: EventKind<'static>,
+    ) -> Result<(), AllocError>
         ensures own { Untouched self.old.streams.entries self.new.streams.entries }
         ensures config { self.new.config ≡ self.old.config }
     {

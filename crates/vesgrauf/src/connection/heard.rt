@@ -294,6 +294,7 @@ impl Connection {
     {
         if let Some(entry) = self.streams.get_mut(&id) {
             entry.writing.ask(asked);
+            entry.has_tunnel = asked == Asked::Connect;
             entry.is_told = true;
             entry.is_awaited = true;
         }

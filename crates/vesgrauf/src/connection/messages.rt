@@ -15,6 +15,7 @@ use vesgrauf_stream::error::NotSent as Kept;
 use vesgrauf_stream::reading::Reading;
 use vesgrauf_stream::writing::Writing;
 use wtp_connection::connection::Known;
+use wtp_core::error::Code;
 use wtp_core::ids::SessionId;
 use wtp_core::varint::VarInt;
 use wtp_fields::fields::{FieldList, three_digits};
@@ -187,8 +188,29 @@ impl Connection {
         } else if accepts(list) && self.peer_of(id) == Peer::Over {
             // (a session whose own stream was stopped here before its answer does not come to be)
             self.lose_session(id)?;
+        } else if fin && self.refuses(id) {
+            self.stop_refused(id)?;
         }
         Ok(())
+    }
+
+    // Returns whether the request on a stream is a CONNECT that opened nothing.
+    fn refuses(&self, id: u64) -> bool {
+        match self.streams.get(&id) {
+            Some(entry) => entry.is_session || entry.has_tunnel,
+            None => false,
+        }
+    }
+
+    // Reads no further on the stream of a CONNECT that was refused: nothing that follows has a meaning.
+    fn stop_refused(&mut self, id: u64) -> Result<(), AllocError>
+        ensures own { Untouched self.old.streams.entries self.new.streams.entries }
+        ensures config { self.new.config ≡ self.old.config }
+    {
+        let code = Code::H3_NO_ERROR.number().into_inner();
+        self.cancel(id)?;
+        self.stop_peer(id, code)?;
+        self.remove_if_done(id)
     }
 
     // A response with this status was sent.

@@ -72,7 +72,7 @@ impl Connection {
     ///
     /// # Errors
     ///
-    /// Nothing changes. `Closed`; `NoStream` if there is no such session; `NotOpen`; `Full` if as many own streams of this
+    /// Nothing changes. `Closed`; `SessionGone`; `NotOpen`; `Full` if as many own streams of this
     /// kind wait for QUIC as [`max_unopened`](crate::config::Config) says: an event
     /// [`Openable`](crate::event::EventKind) follows; `NoMoreIds`; and `Memory`.
     pub fn open_stream(&mut self, session: u64, kind: StreamKind) -> Result<u64, Refused>
@@ -174,6 +174,7 @@ impl Connection {
         }
         match self.known(session) {
             Known::Open => Ok(()),
+            Known::Over | Known::Refused => Err(Refused::SessionGone),
             _ => Err(Refused::NotOpen),
         }
     }

@@ -170,7 +170,7 @@ impl Connection {
     ///
     /// # Errors
     ///
-    /// Nothing changes. `Closed`; `NotOpen`; and `Memory`.
+    /// Nothing changes. `Closed`; `SessionGone`; `NotOpen`; and `Memory`.
     #[tactic(auto, using(std::proofs::lemmas::Map::Steps::set_value_same))]
     pub fn drain_session(&mut self, session: u64) -> Result<(), Refused>
         ensures open { OnOk result (open_session self.old session ≡ Ok tt) }
@@ -190,11 +190,12 @@ impl Connection {
     }
 
     /// Closes a session, with a code and a reason of the application. Its streams are reset and stopped
-    /// (draft-ietf-webtrans-http3-02, section 5).
+    /// (draft-ietf-webtrans-http3-02, section 5). The code and the reason are sent on the session's own stream, so they need
+    /// the peer's windows: [`abort`](Self::abort) of that stream ends the session without them.
     ///
     /// # Errors
     ///
-    /// Nothing changes. `Closed`; `NotOpen`; `Send` if the reason has more than 1,024 bytes; and `Memory`.
+    /// Nothing changes. `Closed`; `SessionGone`; `NotOpen`; `Send` if the reason has more than 1,024 bytes; and `Memory`.
     pub fn close_session(&mut self, session: u64, code: u32, reason: &str) -> Result<(), Refused>
         ensures open { OnOk result (open_session self.old session ≡ Ok tt) }
         ensures refused { IfErr result (λ e. IsRefused e self.old self.new) }
