@@ -1,7 +1,8 @@
 -- What was found, before and after a call.
 use Rattle.std.specs.Prelude.{◌≡◌, Bool, true, false, List, [], ◌∷◌, ◌++◌, Option, Some, None}
-use Rattle.wtp_webtransport.specs.Events.{Told}
-use Rattle.wt_inspect_verdicts.specs.Findings.{Says, is_end}
+use Rattle.vesgrauf.specs.declared.event.Event.{Event}
+use Rattle.vesgrauf.specs.declared.event.Failure.{Failure}
+use Rattle.wt_inspect_verdicts.specs.Findings.{Says, is_end, place_in}
 use Rattle.wt_inspect_verdicts.specs.declared.findings.Findings.{Findings}
 use Rattle.wt_inspect_verdicts.specs.declared.verdict.Finding.{Finding}
 use Rattle.wt_inspect_verdicts.specs.declared.verdict.Place.{Place}
@@ -28,10 +29,10 @@ abbrev pub FindsSaid : Place → Option Finding → Findings → Findings → Ty
 FindsSaid place (Some f) old new = Finds (record { place = place; finding = f }) old new
 FindsSaid place None old new = FindsNothing old new
 
--- what an event says of the peer was found at this place, if it says something
-abbrev pub Notes : Place → Told → Findings → Findings → Type 0
-Notes place told old new =
-    (said : Option Finding) × Says told said × FindsSaid place said old new
+-- what an event says of the peer was found, if it says something
+abbrev pub Notes : Place → Event → Bool → Option Failure → Findings → Findings → Type 0
+Notes from event is_open failure old new = (said : Option Finding) × Says event.kind is_open failure said
+    × FindsSaid (place_in from event failure) said old new
 
 -- what was found before comes first
 abbrev pub Keeps : Findings → Findings → Type 0

@@ -2,8 +2,8 @@
 
 use crate::asked::{any_request, any_session, request_in, status_in};
 use crate::player::Player;
-use crate::reading::{Outline, read_outline};
-use crate::stream::{Before, Stream};
+use crate::reading::{Outline, read_outline, size_of_settings};
+use crate::stream::Stream;
 use crate::terms::Terms;
 use std::alloc::{AllocError, Global};
 use wt_inspect_connection::list::{Channel, Sender};
@@ -18,11 +18,8 @@ const ANY_CONTROL: &[u8] = &[
     0x00, 0x04, 0x09, 0x08, 0x01, 0x33, 0x01, 0xab, 0x60, 0x37, 0x42, 0x01,
 ];
 
-/// The ID of that stream if the client opens it, and if the server does: the last unidirectional ones
-/// (RFC 9000, section 2.1).
-const LAST_OF_CLIENT: u64 = (1 << 62) - 2;
-
-const LAST_OF_SERVER: u64 = (1 << 62) - 1;
+/// The first ID that no stream has that is judged: a connection keeps an entry for each stream below one that came.
+const END: u64 = 1 << 18;
 
 /// A connection that is judged.
 #[derive(Clone, Copy)]
@@ -59,7 +56,7 @@ impl<'a> Case<'a> {
     }
 
     /// Adds a stream on which the peer sent these bytes, unless it is not known what it is, or a push
-    /// that was allowed.
+    /// that was allowed. One of a session that the end that judges opened breaks no rule.
     fn add_stream(
         &self,
         player: &mut Player<'a>,
@@ -68,15 +65,14 @@ impl<'a> Case<'a> {
     ) -> Result<(), AllocError> {
         let purpose = purpose_in(self.pieces, id);
         let outline = self.outline_of(purpose, bytes)?;
-        if self.terms.allows_pushes && (outline.has_promise || purpose == Purpose::Push) {
+        let is_push = outline.has_promise || purpose == Purpose::Push;
+        let is_own = self.by.has_opened(id) && purpose != Purpose::Request;
+        if id >= END || is_own || (self.terms.allows_pushes && is_push) {
             return Ok(());
         }
-        if let Some(before) = self.before(id, purpose)? {
-            let fin = !self.is_open && !is_critical(purpose);
-            player.add(id, Stream::new(before, bytes, outline.count, fin))?;
-            self.limit(player, id, purpose, bytes);
-        }
-        Ok(())
+        let fin = !self.is_open && !is_critical(purpose);
+        player.add(id, Stream::new(bytes, outline.count, fin))?;
+        self.limit(player, id, purpose, bytes)
     }
 
     /// Returns what is known of a message of the peer before it is judged.
@@ -90,21 +86,6 @@ impl<'a> Case<'a> {
         }
     }
 
-    /// Returns what is to be done before a stream is read, or `None` if it is not known what it is.
-    fn before(&self, id: u64, purpose: Purpose) -> Result<Option<Before>, AllocError> {
-        if !self.by.has_opened(id) {
-            return Ok(Some(Before::Accept));
-        }
-        match purpose {
-            Purpose::Request => {
-                let list = self.request_on(id)?;
-                Ok(Some(Before::Request(list)))
-            }
-            Purpose::Session(session) => Ok(Some(Before::Open(session))),
-            _ => Ok(None),
-        }
-    }
-
     /// Returns the fields of the request on a stream: those that are recorded, if they are known.
     fn request_on(&self, id: u64) -> Result<FieldList, AllocError> {
         let recorded = request_in(self.alloc, opening_bytes(self.pieces, id), self.sent)?;
@@ -115,14 +96,22 @@ impl<'a> Case<'a> {
         }
     }
 
-    /// Lets the encoder stream be read step by step, and of a decoder stream that is not judged only the
-    /// type.
-    fn limit(&self, player: &mut Player<'a>, id: u64, purpose: Purpose, bytes: &[u8]) {
+    /// Lets a control stream be read up to its first frame, the encoder stream step by step, and of a
+    /// decoder stream that is not judged only the type.
+    fn limit(
+        &self,
+        player: &mut Player<'a>,
+        id: u64,
+        purpose: Purpose,
+        bytes: &[u8],
+    ) -> Result<(), AllocError> {
         match purpose {
+            Purpose::Control => player.limit(id, size_of_settings(self.alloc, bytes)?),
             Purpose::Encoder if self.is_first_encoder(id) => player.set_encoder(id),
             Purpose::Decoder if !self.has_decoder => player.limit(id, size_of_type(bytes)),
             _ => {}
         }
+        Ok(())
     }
 
     /// Returns whether the peer opened no encoder stream before this one.
@@ -140,12 +129,13 @@ impl<'a> Case<'a> {
         true
     }
 
-    /// Adds what the end that judges sent: the requests that the peer sent nothing on, or the answers.
+    /// Adds what the end that judges sent: its requests, also those that are known by their responses
+    /// alone, or its answers.
     pub(crate) fn add_own(&self, player: &mut Player<'a>) -> Result<(), AllocError> {
         for piece in self.pieces {
             match piece.entry.channel {
-                Channel::Stream(id) if self.is_own_message(id, piece) => {
-                    self.add_message(player, id, piece.bytes.as_slice())?;
+                Channel::Stream(id) if purpose_in(self.pieces, id) == Purpose::Request => {
+                    self.add_message(player, id, piece)?;
                 }
                 _ => {}
             }
@@ -153,30 +143,22 @@ impl<'a> Case<'a> {
         Ok(())
     }
 
-    /// Returns whether a piece of this stream is a request or a response of the end that judges.
-    fn is_own_message(&self, id: u64, piece: &Piece<'_>) -> bool {
-        !is_of_peer(self.by, piece) && purpose_in(self.pieces, id) == Purpose::Request
-    }
-
-    /// Adds a request or a response of the end that judges.
+    /// Adds a request or a response of the end that judges, on the stream that this piece is of.
     fn add_message(
         &self,
         player: &mut Player<'a>,
         id: u64,
-        bytes: &[u8],
+        piece: &Piece<'_>,
     ) -> Result<(), AllocError> {
         match self.by {
-            Sender::Client => {
-                if !player.has(id) {
-                    let list = self.request_on(id)?;
-                    player.add(id, Stream::new(Before::Request(list), &[], 0, false))?;
+            Sender::Client if id < END => player.add_request(id, self.request_on(id)?),
+            Sender::Server if !is_of_peer(self.by, piece) => {
+                match status_in(self.alloc, piece.bytes.as_slice(), self.sent)? {
+                    Some(status) => player.add_answer(id, status),
+                    None => Ok(()),
                 }
-                Ok(())
             }
-            Sender::Server => match status_in(self.alloc, bytes, self.sent)? {
-                Some(status) => player.add_answer(id, status),
-                None => Ok(()),
-            },
+            _ => Ok(()),
         }
     }
 
@@ -185,11 +167,16 @@ impl<'a> Case<'a> {
         if stream_for(self.pieces, other_end(self.by), Purpose::Control).is_some() {
             return Ok(());
         }
-        let id = match self.by {
-            Sender::Client => LAST_OF_SERVER,
-            Sender::Server => LAST_OF_CLIENT,
+        let mut id: u64 = match self.by {
+            Sender::Client => 3,
+            Sender::Server => 2,
         };
-        player.add(id, Stream::new(Before::Accept, ANY_CONTROL, 0, false))
+        for _stream in self.pieces {
+            if player.has(id) {
+                id = id.saturating_add(4);
+            }
+        }
+        player.add(id, Stream::new(ANY_CONTROL, 0, false))
     }
 }
 

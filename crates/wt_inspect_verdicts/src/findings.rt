@@ -1,9 +1,9 @@
 //! What was found so far.
 ghost use Rattle.wt_inspect_verdicts.specs.Findings.{AreFound};
 
-use crate::verdict::{Finding, Place, Verdict, finding_of};
+use crate::verdict::{Finding, Place, Verdict, finding_of, place_of};
 use std::alloc::{AllocError, Global};
-use wtp_webtransport::event::Event;
+use vesgrauf::event::{Event, Failure};
 
 /// What was found so far: nothing more, once an error ended the connection.
 #[derive(Drop)]
@@ -17,8 +17,7 @@ pub(crate) struct Findings {
 
 impl Findings {
     ghost use Rattle.std.specs.Prelude.{◌≡◌, false, [], IfOk, OnErr, Some};
-    ghost use Rattle.wtp_webtransport.specs.Events.{told_of};
-    ghost use Rattle.wt_inspect_verdicts.specs.Findings.{EndOnce, is_end};
+    ghost use Rattle.wt_inspect_verdicts.specs.Findings.{EndOnce, is_end, place_in};
     ghost use Rattle.wt_inspect_verdicts.specs.Noting.{Adds, FindsNothing, FindsSaid, Notes};
 
     /// Creates no findings.
@@ -33,22 +32,22 @@ impl Findings {
         }
     }
 
-    /// Returns whether an error ended the connection.
-    pub(crate) fn is_over(&self) -> bool
-        ensures { result ≡ self.now.is_over }
-    {
-        self.is_over
-    }
-
-    /// Notes what an event says of the peer.
+    /// Notes what an event says of the peer, if the event is of what came from a place. `is_open`: a
+    /// session was opened on its stream. `failure` is the rule that ended the connection.
     ///
     /// Returns [`AllocError`] if allocation fails; then nothing was found.
-    pub(crate) fn note(&mut self, place: Place, event: &Event<'_>) -> Result<(), AllocError>
-        ensures noted { IfOk result (λ _. Notes place (told_of event.now) self.old self.new) }
+    pub(crate) fn note(
+        &mut self,
+        from: Place,
+        event: &Event<'_>,
+        is_open: bool,
+        failure: Option<Failure>,
+    ) -> Result<(), AllocError>
+        ensures noted { IfOk result (λ _. Notes from event.now «is_open» failure self.old self.new) }
         ensures kept { OnErr result (FindsNothing self.old self.new) }
     {
-        match finding_of(self.alloc, event)? {
-            Some(finding) => self.find(place, finding),
+        match finding_of(self.alloc, event, is_open, failure)? {
+            Some(finding) => self.find(place_of(from, event, failure), finding),
             None => Ok(()),
         }
     }

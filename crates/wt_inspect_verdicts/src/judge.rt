@@ -9,10 +9,10 @@ use crate::terms::Terms;
 use crate::turn::{Rank, Turn, need_of, rank_of};
 use crate::verdict::Verdict;
 use std::alloc::{AllocError, Global};
+use vesgrauf::Side;
 use wt_inspect_connection::list::{Channel, Sender};
 use wt_inspect_connection::piece::{Piece, purpose_in, session_ids, stream_for};
 use wt_inspect_connection::purpose::Purpose;
-use wtp_frames::endpoint::Side;
 
 /// Returns what the end `by` would have said of what the other end sent in these pieces of a
 /// connection, in the order in which it was found. With `is_open` more bytes may follow on each
@@ -54,11 +54,14 @@ fn play(case: &Case<'_>, steps: Steps) -> Result<Vec<Verdict>, AllocError>
 {
     let table = case.terms.table_of(steps.capacity);
     let insertions = steps.insertions;
-    let side = side_of(case.by);
-    let mut player = Player::new(case.alloc, side, &case.terms, table, steps)?;
+    let config = case.terms.config(side_of(case.by), table);
+    let mut player = Player::new(case.alloc, config, steps)?;
     case.add_streams(&mut player)?;
     case.add_own(&mut player)?;
     case.add_control(&mut player)?;
+    if let (Sender::Server, Some(first)) = (case.by, case.terms.goaway) {
+        player.leave(first)?;
+    }
     let turns = turns_of(case, &player, table, insertions)?;
     play_streams(case, &mut player, turns.as_slice())?;
     play_datagrams(case, &mut player)?;
@@ -94,19 +97,29 @@ fn play_streams(
     player: &mut Player<'_>,
     turns: &[Turn],
 ) -> Result<(), AllocError> {
+    play_rank(case, player, turns, Rank::Control)?;
+    play_rank(case, player, turns, Rank::Unidirectional)?;
+    player.ask()?;
+    play_rank(case, player, turns, Rank::Message)?;
+    player.settle()?;
+    play_rank(case, player, turns, Rank::Session)?;
+    player.settle()
+}
+
+/// Reads the streams of a rank.
+fn play_rank(
+    case: &Case<'_>,
+    player: &mut Player<'_>,
+    turns: &[Turn],
+    rank: Rank,
+) -> Result<(), AllocError> {
     for turn in turns {
-        if turn.rank != Rank::Session {
+        if turn.rank == rank && !is_left_out(case, player, turn.id) {
             player.insert(turn.need)?;
             player.read(turn.id)?;
         }
     }
-    player.settle()?;
-    for turn in turns {
-        if turn.rank == Rank::Session && !is_left_out(case, player, turn.id) {
-            player.read(turn.id)?;
-        }
-    }
-    player.settle()
+    Ok(())
 }
 
 /// Returns whether a stream belongs to a session that this end could not ask for.
@@ -130,6 +143,9 @@ fn play_datagrams(case: &Case<'_>, player: &mut Player<'_>) -> Result<(), AllocE
 /// Reads what is left of the streams: that of the messages first, and of the control stream last.
 fn play_ends(player: &mut Player<'_>, turns: &[Turn]) -> Result<(), AllocError> {
     for turn in turns.iter().rev() {
+        if turn.rank == Rank::Control {
+            player.limit(turn.id, usize::MAX);
+        }
         player.end(turn.id)?;
     }
     player.insert(u64::MAX)?;

@@ -1,5 +1,5 @@
 //! What an endpoint of this library would have said of a recorded connection: what one end sent is
-//! played to an [`H3Connection`](wtp_streams::h3::H3Connection) of the other end, which judges it by
+//! played to a [`Connection`](vesgrauf::connection::Connection) of the other end, which judges it by
 //! the rules of streams together. [`judge`](judge::judge) returns what it found.
 //!
 //! A recording does not say in which order its streams came, and how long something waited. So they

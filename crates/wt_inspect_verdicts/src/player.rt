@@ -1,7 +1,6 @@
 //! The end that judges.
-ghost use Rattle.std.specs.Prelude.{option_map};
-ghost use Rattle.wtp_streams.specs.Ends.{ends_of};
-ghost use Rattle.wtp_webtransport.specs.Events.{told_of};
+ghost use Rattle.std.specs.Prelude.{◌≡◌, true, OnOk};
+ghost use Rattle.vesgrauf.specs.State.{Pauses};
 ghost use Rattle.wt_inspect_verdicts.specs.Findings.{EndOnce};
 ghost use Rattle.wt_inspect_verdicts.specs.Players.{Reads, stream_in};
 
@@ -10,35 +9,38 @@ mod waiting;
 
 use crate::findings::Findings;
 use crate::reading::Steps;
-use crate::stream::{Before, Stream};
-use crate::terms::Terms;
-use crate::verdict::{Place, Verdict};
+use crate::stream::Stream;
+use crate::verdict::{Finding, Place, Verdict, found_on_stream};
 use std::alloc::{AllocError, Global};
 use std::collections::BTreeMap;
-use wtp_connection::stream::Purpose;
+use vesgrauf::config::Config;
+use vesgrauf::connection::Connection;
+use vesgrauf::event::{Event, EventKind, Tunnel};
+use vesgrauf::input::Input;
+use vesgrauf::output::Shutdown;
+use vesgrauf::refused::Refused;
 use wtp_core::ids::StatusCode;
-use wtp_core::varint::VarInt;
-use wtp_frames::endpoint::Side;
-use wtp_sending::error::SendError;
-use wtp_streams::h3::H3Connection;
-use wtp_streams::h3::refused::Refused;
-use wtp_webtransport::event::{Event, HeadersKind, Received};
-use wtp_wire::settings::Settings;
+use wtp_fields::fields::FieldList;
 
 /// An end to which a recorded peer sends.
 #[derive(Drop)]
 pub(crate) struct Player<'a> {
     alloc: Global,
-    connection: H3Connection,
-    /// What it sends, which nobody reads.
-    out: Vec<u8>,
+    /// What it is to send stays in it.
+    connection: Connection,
     /// The streams on which the peer sent something.
     streams: BTreeMap<u64, Stream<'a>>,
+    /// The recorded requests.
+    requests: BTreeMap<u64, FieldList>,
     /// The statuses of the recorded answers.
     answers: BTreeMap<u64, StatusCode>,
     /// The sessions that cannot be asked for, since SETTINGS of the peer do not allow them.
     unasked: Vec<u64>,
-    /// The encoder stream of the peer, and how many of its steps may be read.
+    /// The streams whose request is a CONNECT.
+    tunnels: Vec<u64>,
+    /// The sessions that were opened.
+    sessions: Vec<u64>,
+    /// The encoder stream of the peer, and how many of its steps were read.
     encoder: Option<u64>,
     steps: Steps,
     next_step: usize,
@@ -48,51 +50,35 @@ pub(crate) struct Player<'a> {
 }
 
 impl<'a> Player<'a> {
-    /// Creates an end of this side, which announces these terms, and allows a dynamic table of this
-    /// capacity. The peer inserts entries into it by these steps of its encoder stream.
-    pub(crate) fn new(
-        alloc: Global,
-        side: Side,
-        terms: &Terms,
-        table: u64,
-        steps: Steps,
-    ) -> Result<Self, AllocError> {
-        let connection = H3Connection::new(
+    /// Creates an end with this configuration. The peer inserts entries into its dynamic table by these
+    /// steps of its encoder stream.
+    pub(crate) fn new(alloc: Global, config: Config, steps: Steps) -> Result<Self, AllocError> {
+        Ok(Player {
             alloc,
-            terms.endpoint(side),
-            terms.is_extended(),
-            terms.limits(table),
-        );
-        let mut player = Player {
-            alloc,
-            connection,
-            out: Vec::new(alloc),
+            connection: Connection::new(alloc, config)?,
             streams: BTreeMap::new(alloc),
+            requests: BTreeMap::new(alloc),
             answers: BTreeMap::new(alloc),
             unasked: Vec::new(alloc),
+            tunnels: Vec::new(alloc),
+            sessions: Vec::new(alloc),
             encoder: None,
             steps,
             next_step: 0,
             inserted: 0,
             findings: Findings::new(alloc),
-        };
-        player.announce(terms.goaway)?;
-        Ok(player)
-    }
-
-    /// Sends the own control stream, with this ID in GOAWAY if there is one.
-    fn announce(&mut self, goaway: Option<u64>) -> Result<(), AllocError> {
-        let settings = Settings::builder(self.alloc).build();
-        is_done(self.connection.settings(&settings, &mut self.out))?;
-        if let Some(id) = goaway.and_then(|id| VarInt::try_from_u64(id).ok()) {
-            is_done(self.connection.goaway(id, &mut self.out))?;
-        }
-        Ok(())
+        })
     }
 
     /// Adds a stream.
     pub(crate) fn add(&mut self, id: u64, stream: Stream<'a>) -> Result<(), AllocError> {
         self.streams.insert(id, stream)?;
+        Ok(())
+    }
+
+    /// Adds a request of this end.
+    pub(crate) fn add_request(&mut self, id: u64, list: FieldList) -> Result<(), AllocError> {
+        self.requests.insert(id, list)?;
         Ok(())
     }
 
@@ -115,8 +101,7 @@ impl<'a> Player<'a> {
     /// Lets only so many bytes of a stream be read.
     pub(crate) fn limit(&mut self, id: u64, size: usize) {
         if let Some(stream) = self.streams.get_mut(&id) {
-            stream.hide();
-            stream.reveal(size);
+            stream.limit(size);
         }
     }
 
@@ -125,14 +110,32 @@ impl<'a> Player<'a> {
     pub(crate) fn set_encoder(&mut self, id: u64) {
         if self.encoder.is_none() {
             self.encoder = Some(id);
-            self.limit(id, self.step_size());
+            let size = self.steps.size_of(0);
+            self.limit(id, size);
             self.next_step = 1;
         }
     }
 
-    /// Returns the size of the next step of the encoder stream.
-    fn step_size(&self) -> usize {
-        self.steps.sizes.get(self.next_step).copied().unwrap_or(0)
+    /// Sends GOAWAY with this ID, if there is a request that is not below it.
+    pub(crate) fn leave(&mut self, first: u64) -> Result<(), AllocError> {
+        if first % 4 != 0 || !self.has_request_from(first) {
+            return Ok(());
+        }
+        // (a connection names the first request that it has not seen)
+        if let Some(last) = first.checked_sub(4) {
+            self.play(Place::Stream(last), Input::stream(last, &[], false))?;
+        }
+        done(self.connection.shutdown(Shutdown::Final))
+    }
+
+    /// Returns whether there is a request on a stream from this one on.
+    fn has_request_from(&self, first: u64) -> bool {
+        for (id, _) in &self.streams {
+            if *id >= first && *id % 4 == 0 {
+                return true;
+            }
+        }
+        false
     }
 
     /// Returns whether a session cannot be asked for.
@@ -149,105 +152,106 @@ impl<'a> Player<'a> {
 }
 
 impl<'a> Player<'a> {
-    /// Reads a stream as far as it can be read now. What is to be done before is done first.
+    /// Reads what may be read of a stream now.
     pub(crate) fn read(&mut self, id: u64) -> Result<(), AllocError> {
-        if !self.begin(id)? {
-            return Ok(());
+        match self.take(id) {
+            Some(input) => self.play(Place::Stream(id), input),
+            None => Ok(()),
         }
+    }
+
+    /// Takes the bytes of a stream that may be read now.
+    fn take(&mut self, id: u64) -> Option<Input<'a>>
+        ensures { Reads id (stream_in self.old id) result }
+    {
+        match self.streams.get_mut(&id) {
+            Some(stream) => Some(stream.read(id)),
+            None => None,
+        }
+    }
+
+    /// Takes a datagram, which is the piece with this index.
+    pub(crate) fn datagram(&mut self, index: usize, bytes: &[u8]) -> Result<(), AllocError> {
+        self.play(Place::Datagram(index), Input::datagram(bytes))
+    }
+
+    /// Passes what came from a place to the connection, and notes what it finds.
+    fn play(&mut self, from: Place, input: Input<'_>) -> Result<(), AllocError> {
+        let mut input = input;
         for _event in 0..u64::MAX {
-            if self.findings.is_over() || !self.next(id)? {
+            let Some(event) = self.connection.next_event(&mut input)? else {
                 return Ok(());
+            };
+            if !self.is_for_tunnel(&event) {
+                let is_open = self.sessions.contains(&event.stream);
+                let failure = self.connection.failure();
+                self.findings.note(from, &event, is_open, failure)?;
             }
+            self.heed(&event)?;
         }
         Ok(())
     }
 
-    /// Does what is to be done before a stream is read. Returns whether it can be read.
-    fn begin(&mut self, id: u64) -> Result<bool, AllocError> {
-        let Some(stream) = self.streams.get_mut(&id) else {
-            return Ok(false);
-        };
-        match stream.begin() {
-            Before::Nothing => Ok(true),
-            Before::Accept => {
-                self.connection.accept(id)?;
-                Ok(true)
-            }
-            Before::Open(session) => {
-                let opened = self
-                    .connection
-                    .open_bidirectional(id, session, &mut self.out);
-                is_done(opened)
-            }
-            Before::Request(list) => self.request(id, &list),
+    /// Returns whether an event says that a datagram came for a CONNECT request, which asks for no
+    /// session: it may have a use for datagrams that is not known here.
+    fn is_for_tunnel(&self, event: &Event<'_>) -> bool {
+        match &event.kind {
+            EventKind::Failed(failure) => match found_on_stream(failure.rule) {
+                Finding::NoDatagrams => self.tunnels.contains(&event.stream),
+                _ => false,
+            },
+            _ => false,
         }
     }
 
-    /// Takes the next event of a stream. Returns whether others may follow.
-    fn next(&mut self, id: u64) -> Result<bool, AllocError> {
-        let Some(received) = self.receive(id) else {
-            return Ok(false);
-        };
-        self.tell(id, &received.event)?;
-        self.findings.note(Place::Stream(id), &received.event)?;
-        self.heed(id, &received.event)
-    }
-
-    /// Returns what is next in the bytes of a stream that may be read now, or `None` if nothing is read of
-    /// it for now.
-    fn receive(&mut self, id: u64) -> Option<Received<'a>>
-        ensures { Reads id (stream_in self.old id) (ends_of self.old.connection)
-            (option_map (λ r. (r.consumed, told_of r.event)) result) (ends_of self.new.connection) }
-    {
-        let Some(stream) = self.streams.get_mut(&id) else {
-            return None;
-        };
-        if stream.is_held() {
-            return None;
-        }
-        let received = self.connection.receive(id, stream.unread(), stream.ends())?;
-        stream.take(received.consumed, &received.event);
-        Some(received)
-    }
-
-    /// Tells the encoder of the peer what the last call read of a stream.
-    fn tell(&mut self, id: u64, event: &Event<'_>) -> Result<(), AllocError> {
-        self.out.clear();
-        self.connection.acknowledge(id, &mut self.out)?;
-        self.connection.increment(&mut self.out)?;
-        match event {
-            Event::Malformed(_) | Event::TooLarge(_) | Event::StreamError(_) => {
-                self.connection.cancel(id, &mut self.out)
+    /// Does what an event asks for. What follows the request and the response that open a session is read
+    /// at the end.
+    fn heed(&mut self, event: &Event<'_>) -> Result<(), AllocError> {
+        let id = event.stream;
+        match &event.kind {
+            EventKind::Request(_) => self.answer(id, false),
+            EventKind::Connect(Tunnel::Session, _) => {
+                self.answer(id, true)?;
+                self.note_open(id)?;
+                done(self.hold(id))
+            }
+            EventKind::Connect(Tunnel::Other, _) => {
+                self.tunnels.push(id)?;
+                self.answer(id, true)
+            }
+            EventKind::Response(_, _) => {
+                if self.note_open(id)? {
+                    done(self.hold(id))?;
+                }
+                Ok(())
             }
             _ => Ok(()),
         }
     }
 
-    /// Does what an event of a stream asks for. Returns whether others may follow.
-    fn heed(&mut self, id: u64, event: &Event<'_>) -> Result<bool, AllocError> {
-        match event {
-            Event::More | Event::Waits(_) => Ok(false),
-            Event::NoMemory => Err(AllocError),
-            Event::Inserted(count) => {
-                self.inserted = *count;
-                Ok(true)
-            }
-            Event::Opened(Purpose::Message) => self.admit(id),
-            Event::Settings(_, _) | Event::SessionReady(_, _) => Ok(self.hold(id)),
-            Event::SessionRequested(_) => self.answer_session(id),
-            Event::Headers(HeadersKind::Request, list) => self.answer_request(id, list),
-            _ => Ok(true),
+    /// Notes that a session was opened, if it is open now. Returns whether it is.
+    fn note_open(&mut self, session: u64) -> Result<bool, AllocError> {
+        let is_open = self.connection.max_datagram(session).is_some();
+        if is_open {
+            self.sessions.push(session)?;
         }
+        Ok(is_open)
+    }
+
+    /// Holds a stream: nothing more is read of it for now.
+    fn hold(&mut self, id: u64) -> Result<(), Refused>
+        ensures { OnOk result (Pauses id true self.old.connection self.new.connection) }
+    {
+        self.connection.pause(id, true)
     }
 }
 
-/// Returns whether a call was done. One that was refused changed nothing.
+/// Takes the result of a call: one that was refused changed nothing.
 ///
 /// Returns [`AllocError`] if allocation failed.
-fn is_done(called: Result<(), Refused>) -> Result<bool, AllocError> {
+fn done(called: Result<(), Refused>) -> Result<(), AllocError> {
     match called {
-        Ok(()) => Ok(true),
-        Err(Refused::Send(SendError::Memory)) => Err(AllocError),
-        Err(_) => Ok(false),
+        Err(Refused::Memory) => Err(AllocError),
+        _ => Ok(()),
     }
 }

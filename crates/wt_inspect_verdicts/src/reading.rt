@@ -18,6 +18,20 @@ pub(crate) fn payload_of<'a>(bytes: &'a [u8], at: usize, frame: &FrameItem) -> &
     bytes.get(start..end).unwrap_or(&[])
 }
 
+/// Returns how many bytes the type of a control stream and its first frame have.
+///
+/// Returns [`AllocError`] if allocation fails.
+pub(crate) fn size_of_settings(alloc: Global, control: &[u8]) -> Result<usize, AllocError> {
+    let mut size: usize = 0;
+    let mut items = Inspecting::new(alloc, Recorded::Uni, control, true, None);
+    for _item in 0..2 {
+        if let Some(item) = items.next()? {
+            size = size.saturating_add(item.length);
+        }
+    }
+    Ok(size)
+}
+
 /// What is known of a message before it is judged.
 #[derive(Clone, Copy)]
 pub(crate) struct Outline {
@@ -79,12 +93,20 @@ fn is_promise(content: &Content) -> bool {
     }
 }
 
+/// The type of an encoder stream, or an instruction.
+#[derive(Clone, Copy)]
+struct Step {
+    /// How many bytes it has.
+    size: usize,
+    /// Whether it inserts an entry.
+    inserts: bool,
+}
+
 /// The instructions of an encoder stream.
 #[derive(Drop)]
 pub(crate) struct Steps {
-    /// The size of the stream type, and of each instruction after it. There is none if the stream is
-    /// not recorded.
-    pub(crate) sizes: Vec<usize>,
+    /// The stream type, and each instruction after it. There is none if the stream is not recorded.
+    steps: Vec<Step>,
     /// How many of them insert an entry.
     pub(crate) insertions: u64,
     /// The largest capacity that one of them sets.
@@ -95,7 +117,7 @@ impl Steps {
     /// Creates the steps of a stream that is not recorded.
     fn new(alloc: Global) -> Self {
         Steps {
-            sizes: Vec::new(alloc),
+            steps: Vec::new(alloc),
             insertions: 0,
             capacity: 0,
         }
@@ -103,19 +125,45 @@ impl Steps {
 
     /// Returns whether the stream is recorded, and inserts no entry.
     pub(crate) fn is_without_table(&self) -> bool {
-        !self.sizes.is_empty() && self.insertions == 0
+        !self.steps.is_empty() && self.insertions == 0
+    }
+
+    /// Returns how many steps there are.
+    pub(crate) fn len(&self) -> usize {
+        self.steps.len()
+    }
+
+    /// Returns how many bytes a step has: none, if there is no such step.
+    pub(crate) fn size_of(&self, index: usize) -> usize {
+        match self.steps.get(index) {
+            Some(step) => step.size,
+            None => 0,
+        }
+    }
+
+    /// Returns whether a step inserts an entry.
+    pub(crate) fn inserts(&self, index: usize) -> bool {
+        match self.steps.get(index) {
+            Some(step) => step.inserts,
+            None => false,
+        }
     }
 
     /// Takes an item of the stream.
     fn take(&mut self, item: &Item) -> Result<(), AllocError> {
-        self.sizes.push(item.length)?;
+        let mut inserts = false;
         match &item.content {
             Content::Instruction(Instruction::SetCapacity(capacity)) => {
                 self.capacity = self.capacity.max(*capacity);
             }
-            Content::Instruction(_) => self.insertions = self.insertions.saturating_add(1),
+            Content::Instruction(_) => inserts = true,
             _ => {}
         }
+        self.insertions = self.insertions.saturating_add(u64::from(inserts));
+        self.steps.push(Step {
+            size: item.length,
+            inserts,
+        })?;
         Ok(())
     }
 }

@@ -2,11 +2,10 @@
 
 use crate::reading::payload_of;
 use std::alloc::{AllocError, Global};
+use vesgrauf::config::Config;
+use vesgrauf::{PeerSettings, Side};
 use wt_inspection::item::{FrameItem, Parts, Signal};
 use wt_inspection::{Content, Inspecting, Item, Recorded};
-use wtp_connection::settings::PeerSettings;
-use wtp_frames::endpoint::{Endpoint, Side};
-use wtp_streams::limits::Limits;
 
 /// The frame types of a control stream that matter here (RFC 9114, section 7.2).
 const SETTINGS: u64 = 0x04;
@@ -87,14 +86,6 @@ impl Terms {
         }
     }
 
-    /// Returns the end as the receiver of what its peer sends.
-    pub(crate) fn endpoint(&self, side: Side) -> Endpoint {
-        let mut endpoint = Endpoint::new(side);
-        endpoint.webtransport = self.settings.is_none_or(enables_sessions);
-        endpoint.datagrams = self.settings.is_none_or(|settings| settings.h3_datagram);
-        endpoint
-    }
-
     /// Returns the largest capacity of the dynamic table that the end allows, where the encoder stream
     /// of its peer sets this one: without SETTINGS it is not known, so at least that is allowed.
     pub(crate) fn table_of(&self, capacity: u64) -> u64 {
@@ -104,20 +95,39 @@ impl Terms {
         }
     }
 
-    /// Returns the limits of the end, which allows a dynamic table of this capacity. How many streams wait for the dynamic table, and how many sessions
-    /// are open at once, is not known of a recording, so that is not bounded.
-    pub(crate) fn limits(&self, table: u64) -> Limits {
-        let mut limits = Limits::new();
-        limits.max_section = u32::MAX;
-        limits.max_fields = match self.settings {
-            Some(settings) => settings.max_field_section_size.unwrap_or(MAX_FIELDS),
-            None => MAX_FIELDS,
+    /// Returns the configuration of the end, which allows a dynamic table of this capacity. How many
+    /// streams wait for the dynamic table, how many sessions are open at once, and how many bytes wait, is
+    /// not known of a recording, so that is not bounded.
+    pub(crate) fn config(&self, side: Side, table: u64) -> Config {
+        let mut config = match side {
+            Side::Client => Config::client(),
+            Side::Server => Config::server(),
         };
-        limits.max_sessions = u64::MAX;
-        limits.max_resets = u64::MAX;
-        limits.max_table = u32::try_from(table).unwrap_or(u32::MAX);
-        limits.max_blocked = u32::MAX;
-        limits
+        config.webtransport = self.settings.is_none_or(enables_sessions);
+        config.datagrams = self.settings.is_none_or(|settings| settings.h3_datagram);
+        config.extended_connect = self.is_extended();
+        config.max_field_section_size = u32::try_from(self.max_fields()).unwrap_or(u32::MAX);
+        config.qpack_max_table_capacity = u32::try_from(table).unwrap_or(u32::MAX);
+        config.qpack_blocked_streams = u16::MAX;
+        config.encoder_table_capacity = 0;
+        config.max_sessions = u32::MAX;
+        config.max_streams = u64::MAX;
+        config.max_unopened = u64::MAX;
+        config.receive_buffer = usize::MAX;
+        config.receive_buffer_all = usize::MAX;
+        config.max_paused = usize::MAX;
+        config.max_instructions = u64::MAX;
+        config.tells_failures = true;
+        config
+    }
+
+    /// Returns the largest field section that the end allows.
+    fn max_fields(&self) -> u64 {
+        let limit = match self.settings {
+            Some(settings) => settings.max_field_section_size,
+            None => None,
+        };
+        limit.unwrap_or(MAX_FIELDS)
     }
 }
 

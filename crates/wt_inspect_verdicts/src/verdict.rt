@@ -1,14 +1,12 @@
 //! What an endpoint finds in what its peer sent.
 ghost use Rattle.std.specs.Prelude.{◌≡◌, IfOk};
-ghost use Rattle.wtp_webtransport.specs.Events.{told_of};
-ghost use Rattle.wt_inspect_verdicts.specs.Findings.{Says, SaysClosed, code_in, ends_connection, is_fault};
+ghost use Rattle.wt_inspect_verdicts.specs.Findings.{Says, SaysClosed, SaysEnd, code_in, ends_connection, found_at_end, found_on_stream, is_fault, place_in};
 
 use crate::words::{fault_words, malformed_words};
 use std::alloc::{AllocError, Global};
-use wtp_core::error::Code;
-use wtp_messages::malformed::Malformed;
-use wtp_webtransport::event::Event;
-use wtp_webtransport::fault::Fault;
+use vesgrauf::event::{Event, EventKind, Failure, Rule, Why};
+use vesgrauf::{Code, Fault, Malformed};
+use wtp_connection::fault::Fault as StreamsFault;
 
 /// Where something was found.
 #[derive(Clone, Copy, Debug, PartialEq, Eq)]
@@ -168,21 +166,76 @@ impl Finding {
     }
 }
 
-/// Returns what an event says of the peer, if it says something. A session that was closed without a
-/// code and a reason is none.
+/// Returns what an event says of the peer, if it says something. `is_open`: a session was opened on its
+/// stream. `failure` is the rule that ended the connection. A session that was closed without a code and
+/// a reason is none.
 ///
 /// Returns [`AllocError`] if allocation fails.
-pub(crate) fn finding_of(alloc: Global, event: &Event<'_>) -> Result<Option<Finding>, AllocError>
-    ensures { IfOk result (λ said. Says (told_of event.now) said) }
+pub(crate) fn finding_of(
+    alloc: Global,
+    event: &Event<'_>,
+    is_open: bool,
+    failure: Option<Failure>,
+) -> Result<Option<Finding>, AllocError>
+    ensures { IfOk result (λ said. Says event.now.kind «is_open» failure said) }
 {
-    match event {
-        Event::ConnectionError(fault) => Ok(Some(Finding::Connection(*fault))),
-        Event::StreamError(Fault::Rejected) => Ok(Some(Finding::Rejected(Fault::Rejected))),
-        Event::StreamError(fault) => Ok(Some(Finding::Stream(*fault))),
-        Event::Malformed(rule) => Ok(Some(Finding::Malformed(*rule))),
-        Event::TooLarge(_) => Ok(Some(Finding::TooLarge)),
-        Event::SessionLost => Ok(Some(Finding::Lost)),
-        Event::SessionClosed(close) => close_in(alloc, close.code(), close.reason()),
+    match &event.kind {
+        EventKind::ConnectionClosed(_, _) => match failure {
+            Some(failure) => Ok(Some(found_at_end(failure.rule))),
+            None => Ok(None),
+        },
+        EventKind::Failed(failure) => Ok(Some(found_on_stream(failure.rule))),
+        EventKind::Closed(why) if is_open => end_in(alloc, why),
+        _ => Ok(None),
+    }
+}
+
+/// Returns where that was found, if the event is of what came from a place.
+pub(crate) fn place_of(from: Place, event: &Event<'_>, failure: Option<Failure>) -> Place
+    ensures { result ≡ place_in from event.now failure }
+{
+    match (&event.kind, failure) {
+        (EventKind::ConnectionClosed(_, _), Some(failure)) => match failure.stream {
+            Some(id) => Place::Stream(id),
+            None => from,
+        },
+        _ => Place::Stream(event.stream),
+    }
+}
+
+/// Returns what is found where a rule was violated on a stream. A request that is not processed violates
+/// none.
+pub(crate) fn found_on_stream(rule: Rule) -> Finding
+    ensures { result ≡ found_on_stream rule }
+{
+    match rule {
+        Rule::Fault(Fault::Rejected) => Finding::Rejected(Fault::Rejected),
+        Rule::Fault(Fault::Streams(StreamsFault::Datagram)) => Finding::NoDatagrams,
+        Rule::Fault(fault) => Finding::Stream(fault),
+        Rule::Malformed(rule) => Finding::Malformed(rule),
+        Rule::TooLarge => Finding::TooLarge,
+    }
+}
+
+/// Returns what is found where the violation of a rule ended the connection.
+fn found_at_end(rule: Rule) -> Finding
+    ensures { result ≡ found_at_end rule }
+{
+    match rule {
+        Rule::Fault(fault) => Finding::Connection(fault),
+        rule => found_on_stream(rule),
+    }
+}
+
+/// Returns how a session ended, whose stream is over for this reason, if the peer ended it.
+fn end_in(alloc: Global, why: &Why) -> Result<Option<Finding>, AllocError>
+    ensures { IfOk result (λ said. SaysEnd why.now said) }
+{
+    match why {
+        Why::Session(close) => close_in(alloc, close.code(), close.reason()),
+        Why::SessionGone | Why::Malformed(_) | Why::TooLarge | Why::Fault(_) => {
+            Ok(Some(Finding::Lost))
+        }
         _ => Ok(None),
     }
 }

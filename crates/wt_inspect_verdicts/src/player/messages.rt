@@ -1,88 +1,76 @@
 //! The requests that the end that judges sends, and its answers.
 
-use super::{Player, is_done};
+use super::{Player, done};
 use crate::asked::{any_request, any_session};
-use crate::verdict::Place;
 use std::alloc::AllocError;
+use std::collections::BTreeMap;
+use std::mem;
+use vesgrauf::code::StreamCode;
+use vesgrauf::refused::Refused;
+use wtp_core::error::Code;
 use wtp_core::ids::StatusCode;
 use wtp_fields::fields::FieldList;
 use wtp_sending::error::SendError;
-use wtp_streams::h3::refused::Refused;
 
 /// The status of an answer that is not recorded, to a request that waits for one.
 const ACCEPTED: u32 = 200;
 
 impl<'a> Player<'a> {
+    /// Sends the requests of this end, in the order of their streams.
+    pub(crate) fn ask(&mut self) -> Result<(), AllocError> {
+        let requests = mem::replace(&mut self.requests, BTreeMap::new(self.alloc));
+        let mut next: u64 = 0;
+        for (id, list) in &requests {
+            for _stream in 0..id.saturating_sub(next) / 4 {
+                self.skip()?;
+            }
+            if !self.request(*id, list)? {
+                self.unasked.push(*id)?;
+                self.skip()?;
+            }
+            next = id.saturating_add(4);
+        }
+        Ok(())
+    }
+
     /// Sends a request on a stream: one with these fields, or another if they are not those of a message
     /// that this end would send. Returns whether that is allowed.
-    pub(super) fn request(&mut self, id: u64, list: &FieldList) -> Result<bool, AllocError> {
-        self.note_method(id, list);
-        let sent = match self.connection.request(id, list, &mut self.out) {
-            Err(Refused::Send(SendError::Malformed(_))) => self.request_other(id, list)?,
-            sent => is_done(sent)?,
-        };
-        if !sent {
-            self.unasked.push(id)?;
+    fn request(&mut self, id: u64, list: &FieldList) -> Result<bool, AllocError> {
+        if list.first(b":method") == Some(b"CONNECT") {
+            self.tunnels.push(id)?;
         }
-        Ok(sent)
+        match self.connection.request(list, false) {
+            Err(Refused::Send(SendError::Malformed(_))) => self.request_other(list),
+            sent => is_sent(sent),
+        }
     }
 
     /// Sends a request as one with these fields that is not malformed. Returns whether that is allowed.
-    fn request_other(&mut self, id: u64, list: &FieldList) -> Result<bool, AllocError> {
+    fn request_other(&mut self, list: &FieldList) -> Result<bool, AllocError> {
         let other = if list.first(b":protocol").is_some() {
             any_session(self.alloc)?
         } else {
             any_request(self.alloc)?
         };
-        is_done(self.connection.request(id, &other, &mut self.out))
+        is_sent(self.connection.request(&other, false))
     }
 
-    /// Notes whether the request on a stream is a CONNECT.
-    fn note_method(&mut self, id: u64, list: &FieldList) {
-        if connects(list) {
-            if let Some(stream) = self.streams.get_mut(&id) {
-                stream.connect();
+    /// Leaves out the next stream: no session has its ID, and nothing is read of it.
+    fn skip(&mut self) -> Result<(), AllocError> {
+        let list = any_request(self.alloc)?;
+        match self.connection.request(&list, false) {
+            Ok(id) => {
+                let code = StreamCode::Http(Code::H3_REQUEST_CANCELLED);
+                done(self.connection.stop_sending(id, code))
             }
+            Err(Refused::Memory) => Err(AllocError),
+            Err(_) => Ok(()),
         }
-    }
-
-    /// Rejects a request that came, if it is not below the own GOAWAY. Returns whether other events may
-    /// follow.
-    pub(super) fn admit(&mut self, id: u64) -> Result<bool, AllocError> {
-        match self.connection.reject(id) {
-            Some(event) => {
-                self.tell(id, &event)?;
-                self.findings.note(Place::Stream(id), &event)?;
-                Ok(true)
-            }
-            None => Ok(true),
-        }
-    }
-
-    /// Holds a stream. Returns that no event may follow.
-    pub(super) fn hold(&mut self, id: u64) -> bool {
-        if let Some(stream) = self.streams.get_mut(&id) {
-            stream.hold();
-        }
-        false
-    }
-
-    /// Answers a request for a session, and holds its stream.
-    pub(super) fn answer_session(&mut self, id: u64) -> Result<bool, AllocError> {
-        self.answer(id, true)?;
-        Ok(self.hold(id))
-    }
-
-    /// Answers a request.
-    pub(super) fn answer_request(&mut self, id: u64, list: &FieldList) -> Result<bool, AllocError> {
-        self.note_method(id, list);
-        self.answer(id, connects(list))?;
-        Ok(true)
     }
 
     /// Answers the request on a stream with the recorded status. Without one it is accepted if it waits
     /// for its answer.
-    fn answer(&mut self, id: u64, waits: bool) -> Result<(), AllocError> {
+    pub(super) fn answer(&mut self, id: u64, waits: bool) -> Result<(), AllocError> {
         let recorded = self.answers.get(&id).copied();
         let assumed = if waits {
             StatusCode::try_from_u32(ACCEPTED).ok()
@@ -91,13 +79,19 @@ impl<'a> Player<'a> {
         };
         if let Some(status) = recorded.or(assumed) {
             let list = FieldList::response(self.alloc, status)?;
-            is_done(self.connection.respond(id, &list, &mut self.out))?;
+            done(self.connection.respond(id, &list, false))?;
         }
         Ok(())
     }
 }
 
-/// Returns whether a request is a CONNECT.
-fn connects(list: &FieldList) -> bool {
-    list.first(b":method") == Some(b"CONNECT")
+/// Returns whether a request was sent. One that was refused changed nothing.
+///
+/// Returns [`AllocError`] if allocation failed.
+fn is_sent(called: Result<u64, Refused>) -> Result<bool, AllocError> {
+    match called {
+        Ok(_) => Ok(true),
+        Err(Refused::Memory) => Err(AllocError),
+        Err(_) => Ok(false),
+    }
 }
