@@ -1,8 +1,0 @@
-use Rattle.std.proofs.Common.{◌≡◌, ◌+◌}
-use Rattle.wtp_streams.specs.Table.{table_of, sessions_of}
-use Rattle.wtp_streams.proofs.streams.Streams.has_too_many_sessions.Given as goal
-
-abbrev pub invariant-loop-entry : goal.invariant-loop-entry
-invariant-loop-entry l =
-    sessions_of (table_of l.self) l.self.table.entries + l.left
-    ≡ l.self.max_sessions + sessions_of (table_of l.self) l.entry-iterator

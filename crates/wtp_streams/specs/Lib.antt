@@ -1,6 +1,0 @@
-pub mod Table
-pub mod Calls
-pub mod Errors
-pub mod Ends
-pub mod Sends
-pub mod Encoded
