@@ -94,6 +94,8 @@ impl Reading {
         ensures ok { IfOk result (λ found. Hears fields.old.limit shared.old self.old input.old found
             shared.new self.new input.new) }
         ensures err { OnErr result (IsUntouched shared.old self.old input.old shared.new self.new input.new) }
+        ensures input { length input.new.bytes.now ≤ length input.old.bytes.now }
+        ensures fin { input.new.fin ≡ input.old.fin }
         ensures fields { fields.new ≡ fields.old }
     {
         if self.len() == 0 {
@@ -112,6 +114,8 @@ impl Reading {
         requires { kept_of self.old ≡ [] }
         ensures heard { Hears fields.old.limit shared.old self.old input.old result
             shared.new self.new input.new }
+        ensures input { length input.new.bytes.now ≤ length input.old.bytes.now }
+        ensures fin { input.new.fin ≡ input.old.fin }
         ensures fields { fields.new ≡ fields.old }
     {
         let fin = self.ends_with(input);
@@ -131,6 +135,8 @@ impl Reading {
         ensures ok { IfOk result (λ found. Hears fields.old.limit shared.old self.old input.old found
             shared.new self.new input.new) }
         ensures err { OnErr result (IsUntouched shared.old self.old input.old shared.new self.new input.new) }
+        ensures input { length input.new.bytes.now ≤ length input.old.bytes.now }
+        ensures fin { input.new.fin ≡ input.old.fin }
         ensures fields { fields.new ≡ fields.old }
     {
         let all = self.len() + input.len();
@@ -200,6 +206,7 @@ impl Reading {
         requires { joined ≤ length (kept_of self.old) }
         ensures left { unread self.new input.new ≡ drop consumed
             (take (length (kept_of self.old) - joined) (kept_of self.old) ++ input.old.bytes.now) }
+        ensures input { length input.new.bytes.now ≤ length input.old.bytes.now }
         ensures fin { input.new.fin ≡ input.old.fin }
         ensures stream { self.new.stream ≡ self.old.stream }
         ensures ended { self.new.ended ≡ self.old.ended }
