@@ -1,1 +1,4 @@
 pub mod OwnLemmas
+pub mod ReadsLemmas
+pub mod StepLemmas
+pub mod TheirsLemmas

@@ -68,7 +68,6 @@ pub record View : Type 0 where
   pub outputs : List Output
   pub budget : RequestBudget
   pub sessions : ℕ
-  pub peer_decoder : Option ℕ
   pub is_blocked : Bool
   pub is_configured : Bool
   pub is_leaving : Bool
@@ -90,7 +89,6 @@ view_of c = record {
   outputs = c.outputs.items;
   budget = c.budget;
   sessions = c.sessions;
-  peer_decoder = c.peer_decoder;
   is_blocked = c.is_blocked;
   is_configured = c.is_configured;
   is_leaving = c.is_leaving;

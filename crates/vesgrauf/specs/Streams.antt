@@ -32,6 +32,7 @@ new_entry r p w = record {
   is_ended = false;
   has_tunnel = false;
   is_quiet = false;
+  is_decoder = false;
   withheld = 0;
   since = 0;
   offset = 0;

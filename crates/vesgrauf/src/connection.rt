@@ -14,7 +14,9 @@ mod quick;
 mod reading;
 mod sending;
 mod sessions;
+mod steps;
 mod table;
+mod waiting;
 
 use crate::config::Config;
 use crate::connection::ids::Ids;
@@ -74,8 +76,6 @@ pub struct Connection {
     budget: RequestBudget,
     /// How many sessions there are, or may come to be.
     sessions: u32,
-    /// The decoder stream of the peer.
-    peer_decoder: Option<u64>,
     /// How many streams are the peer's critical or ignored ones.
     quiet: usize,
     pending: Pending,
@@ -216,8 +216,10 @@ enum Step<'a> {
 
 impl Connection {
     ghost use Rattle.vesgrauf.specs.Own.{Untouched};
+    ghost use Rattle.vesgrauf.specs.State.{is_over};
+    ghost use Rattle.vesgrauf.specs.Theirs.{Left, Tells, TellsAll, IsSilent, told_in, told_by};
     ghost use Rattle.vesgrauf.specs.declared.config.OnMalformed.TheVariants as chosen;
-    ghost use Rattle.std.specs.Prelude.{◌≡◌, if◌then◌else◌, Some, None};
+    ghost use Rattle.std.specs.Prelude.{◌≡◌, if◌then◌else◌, Some, None, IfOk, false};
 
     /// Creates a connection. Its first outputs open its control stream and, with a dynamic table, its decoder stream.
     ///
@@ -248,7 +250,6 @@ impl Connection {
             datagrams: DatagramQueue::new(alloc),
             budget: RequestBudget::with_excess(config.max_resets),
             sessions: 0,
-            peer_decoder: None,
             quiet: 0,
             pending: Pending::nothing(),
             held: 0,
@@ -274,6 +275,8 @@ impl Connection {
     /// If memory is refused: nothing is lost, the input stays as it is, and the call is to be made again.
     pub fn next_event<'a>(&mut self, input: &mut Input<'a>) -> Result<Option<Event<'a>>, AllocError>
         ensures own { self.old.config.on_malformed ≡ chosen.Reset → Untouched self.old.streams.entries self.new.streams.entries }
+        ensures told { is_over self.new ≡ false → IfOk result (λ e. TellsAll self.old.ids (told_by e)
+            self.old.streams.entries input.old self.new.streams.entries input.new) }
         ensures config { self.new.config ≡ self.old.config }
     {
         if self.is_quiet() {
@@ -290,59 +293,60 @@ impl Connection {
         self.next_by_steps(input)
     }
 
-    // Returns the next event, as `next_event` does, by as many steps as it takes.
-    fn next_by_steps<'a>(&mut self, input: &mut Input<'a>) -> Result<Option<Event<'a>>, AllocError>
-        ensures own { self.old.config.on_malformed ≡ chosen.Reset → Untouched self.old.streams.entries self.new.streams.entries }
-        ensures config { self.new.config ≡ self.old.config }
-    {
-        for _step in 0..u64::MAX {
-            if let Some(event) = self.events.pop_front() {
-                return Ok(Some(self.numbered(event)));
-            }
-            let stream = self.stream_at_hand(input);
-            let step = match self.ended {
-                Some(ended) => Ok(self.step_after_end(ended, input)),
-                None => self.step(input),
-            };
-            match step {
-                Ok(Step::Told(event)) => return Ok(Some(event)),
-                Ok(Step::Nothing) => return Ok(None),
-                Ok(Step::More) => {}
-                Err(Stop::Memory) => return Err(AllocError),
-                Err(Stop::Broken(code, fault)) => self.fail(stream, code, fault),
-            }
-        }
-        Ok(None)
-    }
-
-    // Returns an event that was queued, with the number that the program has given its stream since.
-    fn numbered<'a>(&self, event: Event<'a>) -> Event<'a> {
-        let mut event = event;
-        if let (EventKind::Stopped(_), Some(entry)) = (
-            &event.kind,
-            self.streams.get(&event.stream),
-        ) {
-            event.user = entry.user;
-        }
-        event
-    }
-
     // Takes one step.
+    #[tactic(auto, using(crate::proofs::StepLemmas::left_then_tells))]
     fn step<'a>(&mut self, input: &mut Input<'a>) -> Result<Step<'a>, Stop>
         ensures own { self.old.config.on_malformed ≡ chosen.Reset → Untouched self.old.streams.entries self.new.streams.entries }
+        ensures tells { IfOk result (λ s. Tells (told_in s)
+            self.old.streams.entries input.old self.new.streams.entries input.new) }
         ensures config { self.new.config ≡ self.old.config }
     {
         self.prepare()?;
+        self.step_due(input)
+    }
+
+    // Takes a step for a session that opened, or another.
+    fn step_due<'a>(&mut self, input: &mut Input<'a>) -> Result<Step<'a>, Stop>
+        ensures own { self.old.config.on_malformed ≡ chosen.Reset → Untouched self.old.streams.entries self.new.streams.entries }
+        ensures tells { IfOk result (λ s. Tells (told_in s)
+            self.old.streams.entries input.old self.new.streams.entries input.new) }
+        ensures config { self.new.config ≡ self.old.config }
+    {
         if let Some(session) = self.session_opened() {
             return Ok(self.step_opened(session));
         }
+        self.step_read(input)
+    }
+
+    // Takes a step by what is kept of a stream that is read again, or by what the input reports.
+    fn step_read<'a>(&mut self, input: &mut Input<'a>) -> Result<Step<'a>, Stop>
+        ensures own { self.old.config.on_malformed ≡ chosen.Reset → Untouched self.old.streams.entries self.new.streams.entries }
+        ensures tells { IfOk result (λ s. Tells (told_in s)
+            self.old.streams.entries input.old self.new.streams.entries input.new) }
+        ensures config { self.new.config ≡ self.old.config }
+    {
         if let Some(id) = self.pending.resumed {
             return self.read_kept(id);
         }
+        self.take_input(input)
+    }
+
+    // Takes a step by what the input reports.
+    #[tactic(auto, using(crate::proofs::ReadsLemmas::reported_tells))]
+    fn take_input<'a>(&mut self, input: &mut Input<'a>) -> Result<Step<'a>, Stop>
+        ensures own { self.old.config.on_malformed ≡ chosen.Reset → Untouched self.old.streams.entries self.new.streams.entries }
+        ensures tells { IfOk result (λ s. Tells (told_in s)
+            self.old.streams.entries input.old self.new.streams.entries input.new) }
+        ensures config { self.new.config ≡ self.old.config }
+    {
         match input.report {
             Report::Nothing => self.step_alone(),
             Report::Stream(id) => self.stream_came(id, input),
-            Report::Datagram => self.datagram_came(input),
+            Report::Datagram => {
+                let step = self.datagram_came(input.chunk.all())?;
+                input.report = Report::Nothing;
+                Ok(step)
+            }
             _ => {
                 self.report_came(input.report)?;
                 input.report = Report::Nothing;
@@ -354,6 +358,7 @@ impl Connection {
     // Takes in a report without bytes.
     fn report_came(&mut self, report: Report) -> Result<(), Stop>
         ensures own { Untouched self.old.streams.entries self.new.streams.entries }
+        ensures left { Left self.old.streams.entries self.new.streams.entries }
         ensures config { self.new.config ≡ self.old.config }
     {
         match report {
@@ -381,6 +386,7 @@ impl Connection {
     // Does what is due before anything else, and reserves the memory that a step takes.
     fn prepare(&mut self) -> Result<(), Stop>
         ensures own { Untouched self.old.streams.entries self.new.streams.entries }
+        ensures left { Left self.old.streams.entries self.new.streams.entries }
         ensures config { self.new.config ≡ self.old.config }
     {
         self.reserve_all()?;
@@ -392,6 +398,8 @@ impl Connection {
     // Takes a step without an input.
     fn step_alone<'a>(&mut self) -> Result<Step<'a>, Stop>
         ensures own { Untouched self.old.streams.entries self.new.streams.entries }
+        ensures left { Left self.old.streams.entries self.new.streams.entries }
+        ensures silent { IfOk result IsSilent }
         ensures config { self.new.config ≡ self.old.config }
     {
         if let Some(first) = self.pending.unprocessed {

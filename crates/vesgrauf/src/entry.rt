@@ -59,6 +59,8 @@ pub(crate) struct Entry {
     pub(crate) has_tunnel: bool,
     /// Whether the peer keeps it for the connection: the control stream, those of QPACK, and those that are ignored.
     pub(crate) is_quiet: bool,
+    /// Whether its bytes are instructions for the own encoder: the peer's decoder stream (RFC 9204, section 4.2).
+    pub(crate) is_decoder: bool,
     /// How many of the bytes that are kept QUIC's windows were not extended by.
     pub(crate) withheld: usize,
     /// How many ticks there were when it named its session.
@@ -102,6 +104,7 @@ impl Entry {
             is_ended: false,
             has_tunnel: false,
             is_quiet: false,
+            is_decoder: false,
             withheld: 0,
             since: 0,
             offset: 0,

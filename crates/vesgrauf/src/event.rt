@@ -126,8 +126,12 @@ pub enum Why {
 }
 
 impl<'a> Event<'a> {
+    ghost use Rattle.std.specs.Prelude.{◌≡◌};
+
     // Creates an event of the connection.
-    pub(crate) fn of_connection(kind: EventKind<'a>) -> Self {
+    pub(crate) fn of_connection(kind: EventKind<'a>) -> Self
+        ensures { result.kind ≡ kind.entry }
+    {
         Event {
             stream: 0,
             session: None,

@@ -3,6 +3,7 @@ ghost use Rattle.std.specs.Prelude.{◌≡◌, is_some, Some, None, OnOk, OnErr,
 ghost use Rattle.vesgrauf.specs.State.{code_on, named_at, Becomes, Pauses, Prioritizes, IsStill, IsWhyNamed};
 ghost use Rattle.vesgrauf.specs.declared.refused.Refused.TheVariants as refused;
 ghost use Rattle.vesgrauf.specs.Own.{Untouched};
+ghost use Rattle.vesgrauf.specs.Theirs.{Left};
 
 use crate::code::StreamCode;
 use crate::connection::Connection;
@@ -19,6 +20,7 @@ impl Connection {
     /// Nothing changes. `Closed`; `NoStream`; `WrongCode`; and `Memory`.
     pub fn reset(&mut self, id: u64, code: StreamCode) -> Result<(), Refused>
         ensures own { Untouched self.old.streams.entries self.new.streams.entries }
+        ensures left { Left self.old.streams.entries self.new.streams.entries }
         ensures config { self.new.config ≡ self.old.config }
     {
         let code = self.code_for(id, code)?;
@@ -38,6 +40,7 @@ impl Connection {
     /// As of [`reset`](Self::reset).
     pub fn stop_sending(&mut self, id: u64, code: StreamCode) -> Result<(), Refused>
         ensures own { Untouched self.old.streams.entries self.new.streams.entries }
+        ensures left { Left self.old.streams.entries self.new.streams.entries }
         ensures config { self.new.config ≡ self.old.config }
     {
         let code = self.code_for(id, code)?;
@@ -56,6 +59,7 @@ impl Connection {
     /// As of [`reset`](Self::reset).
     pub fn abort(&mut self, id: u64, code: StreamCode) -> Result<(), Refused>
         ensures own { Untouched self.old.streams.entries self.new.streams.entries }
+        ensures left { Left self.old.streams.entries self.new.streams.entries }
         ensures config { self.new.config ≡ self.old.config }
     {
         let code = self.code_for(id, code)?;
@@ -72,6 +76,7 @@ impl Connection {
     // the stream.
     fn end_if_session(&mut self, id: u64, code: u64, always: bool) -> Result<(), Refused>
         ensures own { Untouched self.old.streams.entries self.new.streams.entries }
+        ensures left { Left self.old.streams.entries self.new.streams.entries }
         ensures config { self.new.config ≡ self.old.config }
     {
         let has_session = match self.streams.get(&id) {

@@ -1,6 +1,7 @@
 //! Streams that are closed, and sessions that end.
-ghost use Rattle.std.specs.Prelude.{◌≡◌};
+ghost use Rattle.std.specs.Prelude.{◌≡◌, OnOk};
 ghost use Rattle.vesgrauf.specs.Own.{Untouched};
+ghost use Rattle.vesgrauf.specs.Theirs.{Left, Gone, theirs_at};
 
 use crate::code::StreamCode;
 use crate::connection::{Connection, Step, Stop};
@@ -16,6 +17,7 @@ impl Connection {
     // Closes both halves of a stream at once.
     pub(super) fn shut(&mut self, id: u64, code: Code, why: Why) -> Result<(), Stop>
         ensures own { Untouched self.old.streams.entries self.new.streams.entries }
+        ensures left { Left self.old.streams.entries self.new.streams.entries }
         ensures config { self.new.config ≡ self.old.config }
     {
         let code = code.number().into_inner();
@@ -29,9 +31,10 @@ impl Connection {
     }
 
     // Resets the own half.
-    #[tactic(auto, using(crate::proofs::OwnLemmas::untouched_set))]
+    #[tactic(auto, using(crate::proofs::OwnLemmas::untouched_set, crate::proofs::TheirsLemmas::left_set))]
     pub(super) fn reset_own(&mut self, id: u64, code: u64) -> Result<(), Stop>
         ensures own { Untouched self.old.streams.entries self.new.streams.entries }
+        ensures left { Left self.old.streams.entries self.new.streams.entries }
         ensures config { self.new.config ≡ self.old.config }
     {
         let Some(entry) = self.streams.get_mut(&id) else {
@@ -52,9 +55,10 @@ impl Connection {
 
     // Resets an own half of which QUIC took the end, unless all of it is acknowledged: QUIC may still send some of it (RFC
     // 9000, section 3.5). Returns whether it is reset.
-    #[tactic(auto, using(crate::proofs::OwnLemmas::untouched_set))]
+    #[tactic(auto, using(crate::proofs::OwnLemmas::untouched_set, crate::proofs::TheirsLemmas::left_set))]
     pub(super) fn reset_ended(&mut self, id: u64, code: u64) -> Result<bool, Stop>
         ensures own { Untouched self.old.streams.entries self.new.streams.entries }
+        ensures left { Left self.old.streams.entries self.new.streams.entries }
         ensures config { self.new.config ≡ self.old.config }
     {
         let Some(entry) = self.streams.get_mut(&id) else {
@@ -72,9 +76,10 @@ impl Connection {
     }
 
     // Asks the peer to stop its half, which is read no further.
-    #[tactic(auto, using(crate::proofs::OwnLemmas::untouched_set))]
+    #[tactic(auto, using(crate::proofs::OwnLemmas::untouched_set, crate::proofs::TheirsLemmas::left_set))]
     pub(super) fn stop_peer(&mut self, id: u64, code: u64) -> Result<(), Stop>
         ensures own { Untouched self.old.streams.entries self.new.streams.entries }
+        ensures left { Left self.old.streams.entries self.new.streams.entries }
         ensures config { self.new.config ≡ self.old.config }
     {
         let Some(entry) = self.streams.get_mut(&id) else {
@@ -91,22 +96,24 @@ impl Connection {
             }
         }
         entry.reading.abandon(&mut self.shared);
-        entry.peer = Peer::Over;
-        self.drop_kept(id)
+        self.leave_peer(id, true)
     }
 
     // There is nothing left to stop: the end of the peer's half came, or a reset.
     pub(super) fn forget_stop(&mut self, id: u64)
         ensures own { Untouched self.old.streams.entries self.new.streams.entries }
+        ensures left { Left self.old.streams.entries self.new.streams.entries }
         ensures config { self.new.config ≡ self.old.config }
     {
         self.outputs.retain(|output| !is_stop(output, id));
     }
 
     // Reads the peer's half no further, whose end is still to come.
-    #[tactic(auto, using(crate::proofs::OwnLemmas::untouched_set))]
+    #[tactic(auto, using(crate::proofs::OwnLemmas::untouched_set, crate::proofs::TheirsLemmas::left_set))]
     pub(super) fn drop_peer(&mut self, id: u64) -> Result<(), Stop>
         ensures own { Untouched self.old.streams.entries self.new.streams.entries }
+        ensures left { Left self.old.streams.entries self.new.streams.entries }
+        ensures gone { OnOk result (theirs_at self.new.streams.entries id ≡ Gone) }
         ensures config { self.new.config ≡ self.old.config }
     {
         let Some(entry) = self.streams.get_mut(&id) else {
@@ -116,24 +123,23 @@ impl Connection {
             return Ok(());
         }
         entry.reading.abandon(&mut self.shared);
-        entry.peer = if entry.is_ended {
-            Peer::Over
-        } else {
-            Peer::Drops
-        };
-        self.drop_kept(id)
+        let is_over = entry.is_ended;
+        self.leave_peer(id, is_over)
     }
 
-    // Drops what is kept of a stream.
-    #[tactic(auto, using(crate::proofs::OwnLemmas::untouched_set))]
-    pub(super) fn drop_kept(&mut self, id: u64) -> Result<(), Stop>
+    // The peer's half is read no further: it is over, or what comes is dropped until its end. What is kept of it is dropped.
+    #[tactic(auto, using(crate::proofs::OwnLemmas::untouched_set, crate::proofs::TheirsLemmas::left_set, crate::proofs::ReadsLemmas::gone_set))]
+    fn leave_peer(&mut self, id: u64, is_over: bool) -> Result<(), Stop>
         ensures own { Untouched self.old.streams.entries self.new.streams.entries }
+        ensures left { Left self.old.streams.entries self.new.streams.entries }
+        ensures gone { theirs_at self.new.streams.entries id ≡ Gone }
         ensures config { self.new.config ≡ self.old.config }
     {
         self.waiting.remove(&id);
         let Some(entry) = self.streams.get_mut(&id) else {
             return Ok(());
         };
+        entry.peer = if is_over { Peer::Over } else { Peer::Drops };
         let before = entry.credited();
         entry.reading.drop_kept();
         let owed = entry.withheld;
@@ -143,22 +149,22 @@ impl Connection {
     }
 
     // The peer's half is over.
-    #[tactic(auto, using(crate::proofs::OwnLemmas::untouched_set))]
+    #[tactic(auto, using(crate::proofs::OwnLemmas::untouched_set, crate::proofs::TheirsLemmas::left_set, crate::proofs::ReadsLemmas::gone_left))]
     pub(super) fn peer_is_over(&mut self, id: u64) -> Result<(), Stop>
         ensures own { Untouched self.old.streams.entries self.new.streams.entries }
+        ensures left { Left self.old.streams.entries self.new.streams.entries }
+        ensures gone { OnOk result (theirs_at self.new.streams.entries id ≡ Gone) }
         ensures config { self.new.config ≡ self.old.config }
     {
-        if let Some(entry) = self.streams.get_mut(&id) {
-            entry.peer = Peer::Over;
-        }
-        self.drop_kept(id)?;
+        self.leave_peer(id, true)?;
         self.remove_if_done(id)
     }
 
     // Ends the own half after what is queued, if a message may end there.
-    #[tactic(auto, using(crate::proofs::OwnLemmas::untouched_set))]
+    #[tactic(auto, using(crate::proofs::OwnLemmas::untouched_set, crate::proofs::TheirsLemmas::left_set))]
     pub(super) fn end_own(&mut self, id: u64) -> Result<(), Stop>
         ensures own { Untouched self.old.streams.entries self.new.streams.entries }
+        ensures left { Left self.old.streams.entries self.new.streams.entries }
         ensures config { self.new.config ≡ self.old.config }
     {
         let Some(entry) = self.streams.get_mut(&id) else {
@@ -175,9 +181,10 @@ impl Connection {
 
     // Ends the session whose own stream this is, if it is one: its streams are closed (draft-ietf-webtrans-http3-02,
     // section 5).
-    #[tactic(auto, using(crate::proofs::OwnLemmas::untouched_set))]
+    #[tactic(auto, using(crate::proofs::OwnLemmas::untouched_set, crate::proofs::TheirsLemmas::left_set))]
     pub(super) fn end_session(&mut self, session: u64) -> Result<(), Stop>
         ensures own { Untouched self.old.streams.entries self.new.streams.entries }
+        ensures left { Left self.old.streams.entries self.new.streams.entries }
         ensures config { self.new.config ≡ self.old.config }
     {
         let Some(entry) = self.streams.get_mut(&session) else {
@@ -212,6 +219,7 @@ impl Connection {
     // reset.
     fn cut(&mut self, id: u64) -> Result<(), Stop>
         ensures own { Untouched self.old.streams.entries self.new.streams.entries }
+        ensures left { Left self.old.streams.entries self.new.streams.entries }
         ensures config { self.new.config ≡ self.old.config }
     {
         let gone = Code::WEBTRANSPORT_SESSION_GONE;
@@ -250,9 +258,10 @@ impl Connection {
     }
 
     // Tells the program that a stream is over, if it knows of the stream.
-    #[tactic(auto, using(crate::proofs::OwnLemmas::untouched_set))]
+    #[tactic(auto, using(crate::proofs::OwnLemmas::untouched_set, crate::proofs::TheirsLemmas::left_set))]
     pub(super) fn closed(&mut self, id: u64, why: Why) -> Result<(), Stop>
         ensures own { Untouched self.old.streams.entries self.new.streams.entries }
+        ensures left { Left self.old.streams.entries self.new.streams.entries }
         ensures config { self.new.config ≡ self.old.config }
     {
         if let Step::Told(event) = self.tell(id, EventKind::Closed(why)) {
@@ -267,6 +276,7 @@ impl Connection {
     // Forgets a stream of which both halves are over.
     pub(super) fn remove_if_done(&mut self, id: u64) -> Result<(), Stop>
         ensures own { Untouched self.old.streams.entries self.new.streams.entries }
+        ensures left { Left self.old.streams.entries self.new.streams.entries }
         ensures config { self.new.config ≡ self.old.config }
     {
         let Some(entry) = self.streams.get(&id) else {
@@ -283,6 +293,7 @@ impl Connection {
     // Forgets a stream.
     pub(super) fn remove(&mut self, id: u64)
         ensures own { Untouched self.old.streams.entries self.new.streams.entries }
+        ensures left { Left self.old.streams.entries self.new.streams.entries }
         ensures config { self.new.config ≡ self.old.config }
     {
         let Some(entry) = self.streams.remove(&id) else {

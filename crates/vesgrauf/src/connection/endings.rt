@@ -1,8 +1,9 @@
 //! Streams that the peer resets, or asks to stop.
-ghost use Rattle.std.specs.Prelude.{◌≡◌};
+ghost use Rattle.std.specs.Prelude.{◌≡◌, true, IfOk};
 ghost use Rattle.std.specs.List.{filter};
 ghost use Rattle.vesgrauf.specs.State.{head, is_over, EndsUnless, closes_stream};
 ghost use Rattle.vesgrauf.specs.Own.{Untouched};
+ghost use Rattle.vesgrauf.specs.Theirs.{Left, IsSilent};
 
 use crate::code::StreamCode;
 use crate::connection::failing::EXCESSIVE_LOAD;
@@ -20,12 +21,12 @@ use wtp_webtransport::event::Event as Said;
 
 impl Connection {
     // The peer reset a stream.
-    #[tactic(auto, using(crate::proofs::OwnLemmas::untouched_set))]
+    #[tactic(auto, using(crate::proofs::OwnLemmas::untouched_set, crate::proofs::TheirsLemmas::left_set))]
     pub(super) fn reset_came(&mut self, id: u64, code: u64) -> Result<(), Stop>
         ensures own { Untouched self.old.streams.entries self.new.streams.entries }
+        ensures left { Left self.old.streams.entries self.new.streams.entries }
         ensures config { self.new.config ≡ self.old.config }
     {
-        self.accept(id)?;
         match self.peer_of(id) {
             Peer::Over => return Ok(self.forget_stop(id)),
             Peer::Drops => return self.peer_is_over(id),
@@ -47,6 +48,7 @@ impl Connection {
     // Handles what the reset of the peer's half says of the stream.
     fn half_reset(&mut self, id: u64, shown: StreamCode, event: Said<'static>) -> Result<(), Stop>
         ensures own { Untouched self.old.streams.entries self.new.streams.entries }
+        ensures left { Left self.old.streams.entries self.new.streams.entries }
         ensures config { self.new.config ≡ self.old.config }
     {
         self.cancel(id)?;
@@ -60,6 +62,7 @@ impl Connection {
     // The peer reset the own stream of a session that is still to come, or one side stopped it: it does not come.
     pub(super) fn lose_session(&mut self, id: u64) -> Result<(), Stop>
         ensures own { Untouched self.old.streams.entries self.new.streams.entries }
+        ensures left { Left self.old.streams.entries self.new.streams.entries }
         ensures config { self.new.config ≡ self.old.config }
     {
         let has_session = match self.streams.get(&id) {
@@ -75,6 +78,7 @@ impl Connection {
     // Resets the own half of a stream that the peer reset before the program was told of it: nothing will be sent on it.
     fn leave_untold(&mut self, id: u64) -> Result<(), Stop>
         ensures own { Untouched self.old.streams.entries self.new.streams.entries }
+        ensures left { Left self.old.streams.entries self.new.streams.entries }
         ensures config { self.new.config ≡ self.old.config }
     {
         let Some(entry) = self.streams.get(&id) else {
@@ -88,9 +92,10 @@ impl Connection {
     }
 
     // The peer asked to stop the own half of a stream.
-    #[tactic(auto, using(crate::proofs::OwnLemmas::untouched_set))]
+    #[tactic(auto, using(crate::proofs::OwnLemmas::untouched_set, crate::proofs::TheirsLemmas::left_set))]
     pub(super) fn stop_came(&mut self, id: u64, code: u64) -> Result<(), Stop>
         ensures own { Untouched self.old.streams.entries self.new.streams.entries }
+        ensures left { Left self.old.streams.entries self.new.streams.entries }
         ensures config { self.new.config ≡ self.old.config }
     {
         if let Some(own) = self.own_purpose(id) {
@@ -99,7 +104,6 @@ impl Connection {
                 None => Ok(()),
             };
         }
-        self.accept(id)?;
         let shown = self.shown_code(id, code)?;
         let Some(entry) = self.streams.get_mut(&id) else {
             return Ok(());
@@ -117,9 +121,10 @@ impl Connection {
     }
 
     // Handles what the stop of the own half says of the stream.
-    #[tactic(auto, using(crate::proofs::OwnLemmas::untouched_set))]
+    #[tactic(auto, using(crate::proofs::OwnLemmas::untouched_set, crate::proofs::TheirsLemmas::left_set))]
     fn half_stopped(&mut self, id: u64, code: u64, shown: StreamCode) -> Result<(), Stop>
         ensures own { Untouched self.old.streams.entries self.new.streams.entries }
+        ensures left { Left self.old.streams.entries self.new.streams.entries }
         ensures config { self.new.config ≡ self.old.config }
     {
         let Some(entry) = self.streams.get_mut(&id) else {
@@ -138,9 +143,10 @@ impl Connection {
     }
 
     // Tells the program of a stop that came before it knew of the stream. A session that was stopped does not come to be.
-    #[tactic(auto, using(crate::proofs::OwnLemmas::untouched_set))]
+    #[tactic(auto, using(crate::proofs::OwnLemmas::untouched_set, crate::proofs::TheirsLemmas::left_set))]
     pub(super) fn tell_stop(&mut self, id: u64) -> Result<(), Stop>
         ensures own { Untouched self.old.streams.entries self.new.streams.entries }
+        ensures left { Left self.old.streams.entries self.new.streams.entries }
         ensures config { self.new.config ≡ self.old.config }
     {
         let Some(entry) = self.streams.get_mut(&id) else {
@@ -157,6 +163,7 @@ impl Connection {
     // Handles what the end of one half says of the stream.
     fn half_ended(&mut self, id: u64, event: Said<'static>) -> Result<(), Stop>
         ensures own { Untouched self.old.streams.entries self.new.streams.entries }
+        ensures left { Left self.old.streams.entries self.new.streams.entries }
         ensures config { self.new.config ≡ self.old.config }
     {
         match event {
@@ -170,9 +177,10 @@ impl Connection {
     }
 
     // Counts a request that its client gives up before its answer (RFC 9114, section 10.5).
-    #[tactic(auto, using(crate::proofs::OwnLemmas::untouched_set))]
+    #[tactic(auto, using(crate::proofs::OwnLemmas::untouched_set, crate::proofs::TheirsLemmas::left_set))]
     fn give_up(&mut self, id: u64) -> Result<(), Stop>
         ensures own { Untouched self.old.streams.entries self.new.streams.entries }
+        ensures left { Left self.old.streams.entries self.new.streams.entries }
         ensures config { self.new.config ≡ self.old.config }
     {
         let Some(entry) = self.streams.get_mut(&id) else {
@@ -193,6 +201,7 @@ impl Connection {
     // Queues an event of a stream, if the program knows of the stream.
     pub(super) fn queue_event(&mut self, id: u64, kind: EventKind<'static>) -> Result<(), Stop>
         ensures own { Untouched self.old.streams.entries self.new.streams.entries }
+        ensures left { Left self.old.streams.entries self.new.streams.entries }
         ensures config { self.new.config ≡ self.old.config }
     {
         if let Step::Told(event) = self.tell(id, kind) {
@@ -230,9 +239,10 @@ impl Connection {
     }
 
     // QUIC has closed a stream: what is kept of the own half is freed. What the peer sent is still read.
-    #[tactic(auto, using(crate::proofs::OwnLemmas::untouched_set))]
+    #[tactic(auto, using(crate::proofs::OwnLemmas::untouched_set, crate::proofs::TheirsLemmas::left_set))]
     pub(super) fn stream_closed(&mut self, id: u64) -> Result<(), Stop>
         ensures own { Untouched self.old.streams.entries self.new.streams.entries }
+        ensures left { Left self.old.streams.entries self.new.streams.entries }
         ensures config { self.new.config ≡ self.old.config }
     {
         let Some(entry) = self.streams.get_mut(&id) else {
@@ -247,6 +257,8 @@ impl Connection {
     // Leaves a request that the server does not process.
     pub(super) fn leave_unprocessed<'a>(&mut self, first: u64) -> Result<Step<'a>, Stop>
         ensures own { Untouched self.old.streams.entries self.new.streams.entries }
+        ensures left { Left self.old.streams.entries self.new.streams.entries }
+        ensures silent { IfOk result IsSilent }
         ensures config { self.new.config ≡ self.old.config }
     {
         let Some(id) = self.first_request(first) else {
@@ -291,9 +303,12 @@ impl Connection {
 
     // Takes a step after the end of the connection: what comes is dropped, and each stream that the program knows of is
     // told to be over.
-    #[tactic(auto, using(crate::proofs::OwnLemmas::untouched_set))]
+    #[tactic(auto, using(crate::proofs::OwnLemmas::untouched_set, crate::proofs::TheirsLemmas::left_set))]
     pub(super) fn step_after_end<'a>(&mut self, ended: Ended, input: &mut Input<'a>) -> Step<'a>
         ensures own { Untouched self.old.streams.entries self.new.streams.entries }
+        ensures left { Left self.old.streams.entries self.new.streams.entries }
+        ensures silent { IsSilent result }
+        ensures over { is_over self.old ≡ true → is_over self.new ≡ true }
         ensures config { self.new.config ≡ self.old.config }
     {
         if matches!(input.report, Report::ConnectionClosed(_)) {

@@ -1,6 +1,8 @@
 //! Rules that the peer violates, and where.
-ghost use Rattle.std.specs.Prelude.{◌≡◌};
+ghost use Rattle.std.specs.Prelude.{◌≡◌, true};
+ghost use Rattle.vesgrauf.specs.State.{is_over};
 ghost use Rattle.vesgrauf.specs.Own.{Untouched};
+ghost use Rattle.vesgrauf.specs.Theirs.{Left};
 
 use crate::connection::{Connection, Stop};
 use crate::event::{Event, EventKind, Failure, Rule, Why};
@@ -53,6 +55,8 @@ impl Connection {
     // Ends the connection by an error of this stream, if it is one of a stream.
     pub(super) fn fail(&mut self, stream: Option<u64>, code: u64, fault: Option<Fault>)
         ensures own { Untouched self.old.streams.entries self.new.streams.entries }
+        ensures left { Left self.old.streams.entries self.new.streams.entries }
+        ensures over { is_over self.new ≡ true }
         ensures config { self.new.config ≡ self.old.config }
     {
         if let Some(fault) = fault {
@@ -72,6 +76,7 @@ impl Connection {
     // Tells of the rule that the peer violated on a stream, if the program is to know of it.
     pub(super) fn tell_failure(&mut self, id: u64, why: &Why) -> Result<(), Stop>
         ensures own { Untouched self.old.streams.entries self.new.streams.entries }
+        ensures left { Left self.old.streams.entries self.new.streams.entries }
         ensures config { self.new.config ≡ self.old.config }
     {
         let Some(rule) = rule_of(why) else {
@@ -98,9 +103,10 @@ impl Connection {
     }
 
     // Counts bytes of a stream that were read.
-    #[tactic(auto, using(crate::proofs::OwnLemmas::untouched_set))]
+    #[tactic(auto, using(crate::proofs::OwnLemmas::untouched_set, crate::proofs::TheirsLemmas::left_set))]
     pub(super) fn count_read(&mut self, id: u64, len: usize)
         ensures own { Untouched self.old.streams.entries self.new.streams.entries }
+        ensures left { Left self.old.streams.entries self.new.streams.entries }
         ensures config { self.new.config ≡ self.old.config }
     {
         if let Some(entry) = self.streams.get_mut(&id) {

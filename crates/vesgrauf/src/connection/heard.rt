@@ -1,6 +1,9 @@
 //! What is heard on a stream, and what follows from it.
-ghost use Rattle.std.specs.Prelude.{◌≡◌};
+ghost use Rattle.std.specs.Prelude.{◌≡◌, IfOk};
 ghost use Rattle.vesgrauf.specs.Own.{Untouched};
+ghost use Rattle.vesgrauf.specs.Theirs.{Left, Hands, IsSilent, IsOf, told_in, content_in, content_of, piece_of};
+ghost use Rattle.vesgrauf_stream.specs.Reading.{bytes_of};
+ghost use Rattle.wtp_webtransport.specs.Events.{told_of};
 ghost use Rattle.vesgrauf.specs.declared.config.OnMalformed.TheVariants as chosen;
 
 use crate::connection::failing::NO_DATAGRAMS;
@@ -43,21 +46,43 @@ fn joining_of(event: &Said<'_>) -> Joining {
 
 impl Connection {
     // Handles what was heard on a stream.
+    #[tactic(auto, using(crate::proofs::ReadsLemmas::left_hands))]
     pub(super) fn heard<'a>(&mut self, id: u64, heard: Heard<'a>) -> Result<Step<'a>, Stop>
         ensures own { self.old.config.on_malformed ≡ chosen.Reset → Untouched self.old.streams.entries self.new.streams.entries }
+        ensures left { Left self.old.streams.entries self.new.streams.entries }
+        ensures hands { IfOk result (λ s. Hands id (content_in heard.entry) (told_in s)
+            self.old.streams.entries self.new.streams.entries) }
         ensures config { self.new.config ≡ self.old.config }
     {
         match heard {
-            Heard::Data(bytes) | Heard::StreamData(bytes) => {
-                Ok(self.tell(id, EventKind::Data(bytes)))
-            }
+            Heard::Data(bytes) => self.content_came(id, bytes),
+            Heard::StreamData(bytes) => self.content_came(id, bytes),
             Heard::Frame(_, _) => Ok(Step::More),
             Heard::Event(event) => self.said(id, event),
         }
     }
 
+    // Tells content of a stream. One that the program does not know of is read no further.
+    pub(super) fn content_came<'a>(&mut self, id: u64, bytes: Bytes<'a>) -> Result<Step<'a>, Stop>
+        ensures own { Untouched self.old.streams.entries self.new.streams.entries }
+        ensures left { Left self.old.streams.entries self.new.streams.entries }
+        ensures hands { IfOk result (λ s. Hands id (bytes_of bytes.entry) (told_in s)
+            self.old.streams.entries self.new.streams.entries) }
+        ensures config { self.new.config ≡ self.old.config }
+    {
+        match self.tell(id, EventKind::Data(bytes)) {
+            Step::Told(event) => Ok(Step::Told(event)),
+            _ => {
+                self.drop_peer(id)?;
+                Ok(Step::More)
+            }
+        }
+    }
+
     // Tells the program something of a stream, if it knows of the stream.
-    pub(super) fn tell<'a>(&self, id: u64, kind: EventKind<'a>) -> Step<'a> {
+    pub(super) fn tell<'a>(&self, id: u64, kind: EventKind<'a>) -> Step<'a>
+        ensures { IsOf id (piece_of kind.entry) result }
+    {
         let Some(entry) = self.streams.get(&id) else {
             return Step::More;
         };
@@ -73,8 +98,12 @@ impl Connection {
     }
 
     // Handles what a stream says.
+    #[tactic(auto, using(crate::proofs::ReadsLemmas::left_hands))]
     pub(super) fn said(&mut self, id: u64, event: Said<'static>) -> Result<Step<'static>, Stop>
         ensures own { self.old.config.on_malformed ≡ chosen.Reset → Untouched self.old.streams.entries self.new.streams.entries }
+        ensures left { Left self.old.streams.entries self.new.streams.entries }
+        ensures hands { IfOk result (λ s. Hands id (content_of (told_of event.entry)) (told_in s)
+            self.old.streams.entries self.new.streams.entries) }
         ensures config { self.new.config ≡ self.old.config }
     {
         match event {
@@ -94,6 +123,8 @@ impl Connection {
             Said::SessionClosed(close) => self.session_closed(id, close),
             Said::SessionLost => self.session_lost(id),
             Said::Datagram(payload) => Ok(self.capsule_came(id, payload)),
+            Said::Data(bytes) => self.content_came(id, Bytes::Input(bytes)),
+            Said::StreamData(bytes) => self.content_came(id, Bytes::Input(bytes)),
             Said::Draining => Ok(self.draining_came(id)),
             Said::End => self.end_came(id),
             Said::TooLarge(_) => self.too_large_came(id),
@@ -109,9 +140,11 @@ impl Connection {
     }
 
     // A stream names its session.
-    #[tactic(auto, using(crate::proofs::OwnLemmas::untouched_set))]
+    #[tactic(auto, using(crate::proofs::OwnLemmas::untouched_set, crate::proofs::TheirsLemmas::left_set))]
     fn session_named(&mut self, id: u64, session: u64) -> Result<Step<'static>, Stop>
         ensures own { Untouched self.old.streams.entries self.new.streams.entries }
+        ensures left { Left self.old.streams.entries self.new.streams.entries }
+        ensures silent { IfOk result IsSilent }
         ensures config { self.new.config ≡ self.old.config }
     {
         if let Some(entry) = self.streams.get_mut(&id) {
@@ -124,6 +157,8 @@ impl Connection {
     // Handles what became of a stream that is to join its session.
     fn join_came(&mut self, id: u64, joining: Joining) -> Result<Step<'static>, Stop>
         ensures own { Untouched self.old.streams.entries self.new.streams.entries }
+        ensures left { Left self.old.streams.entries self.new.streams.entries }
+        ensures silent { IfOk result IsSilent }
         ensures config { self.new.config ≡ self.old.config }
     {
         match joining {
@@ -142,18 +177,24 @@ impl Connection {
     }
 
     // A datagram of a session came in a capsule.
-    fn capsule_came(&self, id: u64, payload: Vec<u8>) -> Step<'static> {
+    fn capsule_came(&self, id: u64, payload: Vec<u8>) -> Step<'static>
+        ensures { IsSilent result }
+    {
         self.tell(id, EventKind::Datagram(Bytes::Kept(payload)))
     }
 
     // The peer asks to end a session soon.
-    fn draining_came(&self, id: u64) -> Step<'static> {
+    fn draining_came(&self, id: u64) -> Step<'static>
+        ensures { IsSilent result }
+    {
         self.tell(id, EventKind::Draining)
     }
 
     // SETTINGS of the peer came.
     fn settings_came(&mut self, settings: PeerSettings) -> Result<Step<'static>, Stop>
         ensures own { Untouched self.old.streams.entries self.new.streams.entries }
+        ensures left { Left self.old.streams.entries self.new.streams.entries }
+        ensures silent { IfOk result IsSilent }
         ensures config { self.new.config ≡ self.old.config }
     {
         if settings.h3_datagram && self.datagrams.limit == 0 {
@@ -168,6 +209,8 @@ impl Connection {
     // GOAWAY of the peer came.
     fn goaway_came(&mut self, first: u64) -> Step<'static>
         ensures own { Untouched self.old.streams.entries self.new.streams.entries }
+        ensures left { Left self.old.streams.entries self.new.streams.entries }
+        ensures silent { IsSilent result }
         ensures config { self.new.config ≡ self.old.config }
     {
         if !self.is_server() {
@@ -179,6 +222,8 @@ impl Connection {
     // The stream is for this.
     fn purpose_came(&mut self, id: u64, purpose: Purpose) -> Result<Step<'static>, Stop>
         ensures own { Untouched self.old.streams.entries self.new.streams.entries }
+        ensures left { Left self.old.streams.entries self.new.streams.entries }
+        ensures silent { IfOk result IsSilent }
         ensures config { self.new.config ≡ self.old.config }
     {
         match purpose {
@@ -187,7 +232,7 @@ impl Connection {
                 return self.reject(id, goaway);
             }
             Purpose::Decoder => {
-                self.peer_decoder = Some(id);
+                self.note_decoder(id);
                 self.note_quiet(id);
             }
             _ => self.note_quiet(id),
@@ -195,10 +240,23 @@ impl Connection {
         Ok(Step::More)
     }
 
+    // The bytes of the stream are instructions for the own encoder.
+    #[tactic(auto, using(crate::proofs::OwnLemmas::untouched_set, crate::proofs::TheirsLemmas::left_set))]
+    fn note_decoder(&mut self, id: u64)
+        ensures own { Untouched self.old.streams.entries self.new.streams.entries }
+        ensures left { Left self.old.streams.entries self.new.streams.entries }
+        ensures config { self.new.config ≡ self.old.config }
+    {
+        if let Some(entry) = self.streams.get_mut(&id) {
+            entry.is_decoder = true;
+        }
+    }
+
     // The stream is one that is open as long as the connection, or ignored.
-    #[tactic(auto, using(crate::proofs::OwnLemmas::untouched_set))]
+    #[tactic(auto, using(crate::proofs::OwnLemmas::untouched_set, crate::proofs::TheirsLemmas::left_set))]
     fn note_quiet(&mut self, id: u64)
         ensures own { Untouched self.old.streams.entries self.new.streams.entries }
+        ensures left { Left self.old.streams.entries self.new.streams.entries }
         ensures config { self.new.config ≡ self.old.config }
     {
         if let Some(entry) = self.streams.get_mut(&id) {
@@ -219,9 +277,11 @@ impl Connection {
 
     // Rejects the request on a stream if its ID is this one or above it: that of the own GOAWAY, or its own where there are
     // too many sessions.
-    #[tactic(auto, using(crate::proofs::OwnLemmas::untouched_set))]
+    #[tactic(auto, using(crate::proofs::OwnLemmas::untouched_set, crate::proofs::TheirsLemmas::left_set))]
     pub(super) fn reject(&mut self, id: u64, first: Option<u64>) -> Result<Step<'static>, Stop>
         ensures own { Untouched self.old.streams.entries self.new.streams.entries }
+        ensures left { Left self.old.streams.entries self.new.streams.entries }
+        ensures silent { IfOk result IsSilent }
         ensures config { self.new.config ≡ self.old.config }
     {
         let Some(entry) = self.streams.get_mut(&id) else {
@@ -244,6 +304,8 @@ impl Connection {
         list: FieldList,
     ) -> Result<Step<'static>, Stop>
         ensures own { Untouched self.old.streams.entries self.new.streams.entries }
+        ensures left { Left self.old.streams.entries self.new.streams.entries }
+        ensures silent { IfOk result IsSilent }
         ensures config { self.new.config ≡ self.old.config }
     {
         match kind {
@@ -264,6 +326,8 @@ impl Connection {
     // A request came that asks for no session.
     fn request_came(&mut self, id: u64, list: FieldList) -> Step<'static>
         ensures own { Untouched self.old.streams.entries self.new.streams.entries }
+        ensures left { Left self.old.streams.entries self.new.streams.entries }
+        ensures silent { IsSilent result }
         ensures config { self.new.config ≡ self.old.config }
     {
         let connects = list.first(b":method") == Some(b"CONNECT");
@@ -283,9 +347,10 @@ impl Connection {
     }
 
     // A request came that asks for this.
-    #[tactic(auto, using(crate::proofs::OwnLemmas::untouched_set))]
+    #[tactic(auto, using(crate::proofs::OwnLemmas::untouched_set, crate::proofs::TheirsLemmas::left_set))]
     pub(super) fn note_request(&mut self, id: u64, asked: Asked)
         ensures own { Untouched self.old.streams.entries self.new.streams.entries }
+        ensures left { Left self.old.streams.entries self.new.streams.entries }
         ensures config { self.new.config ≡ self.old.config }
     {
         if let Some(entry) = self.streams.get_mut(&id) {
@@ -296,9 +361,10 @@ impl Connection {
     }
 
     // The final response to a request that asked for no session came.
-    #[tactic(auto, using(crate::proofs::OwnLemmas::untouched_set))]
+    #[tactic(auto, using(crate::proofs::OwnLemmas::untouched_set, crate::proofs::TheirsLemmas::left_set))]
     fn response_came(&mut self, id: u64, status: u32) -> Result<(), Stop>
         ensures own { Untouched self.old.streams.entries self.new.streams.entries }
+        ensures left { Left self.old.streams.entries self.new.streams.entries }
         ensures config { self.new.config ≡ self.old.config }
     {
         let Some(entry) = self.streams.get_mut(&id) else {
@@ -315,9 +381,11 @@ impl Connection {
     }
 
     // The peer's half ended.
-    #[tactic(auto, using(crate::proofs::OwnLemmas::untouched_set))]
+    #[tactic(auto, using(crate::proofs::OwnLemmas::untouched_set, crate::proofs::TheirsLemmas::left_set))]
     fn end_came(&mut self, id: u64) -> Result<Step<'static>, Stop>
         ensures own { Untouched self.old.streams.entries self.new.streams.entries }
+        ensures left { Left self.old.streams.entries self.new.streams.entries }
+        ensures silent { IfOk result IsSilent }
         ensures config { self.new.config ≡ self.old.config }
     {
         let step = self.tell(id, EventKind::End);
@@ -332,6 +400,8 @@ impl Connection {
     // (draft-ietf-webtrans-http3-02, section 5).
     fn session_closed(&mut self, id: u64, close: Close) -> Result<Step<'static>, Stop>
         ensures own { Untouched self.old.streams.entries self.new.streams.entries }
+        ensures left { Left self.old.streams.entries self.new.streams.entries }
+        ensures silent { IfOk result IsSilent }
         ensures config { self.new.config ≡ self.old.config }
     {
         self.cancel(id)?;
@@ -344,6 +414,8 @@ impl Connection {
     // A session ended otherwise.
     fn session_lost(&mut self, id: u64) -> Result<Step<'static>, Stop>
         ensures own { Untouched self.old.streams.entries self.new.streams.entries }
+        ensures left { Left self.old.streams.entries self.new.streams.entries }
+        ensures silent { IfOk result IsSilent }
         ensures config { self.new.config ≡ self.old.config }
     {
         self.shut(id, Code::H3_REQUEST_CANCELLED, Why::SessionGone)?;

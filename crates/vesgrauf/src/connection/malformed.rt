@@ -1,6 +1,7 @@
 //! Requests that are malformed, or whose fields are too large.
-ghost use Rattle.std.specs.Prelude.{◌≡◌};
+ghost use Rattle.std.specs.Prelude.{◌≡◌, IfOk};
 ghost use Rattle.vesgrauf.specs.Own.{Untouched};
+ghost use Rattle.vesgrauf.specs.Theirs.{Left, IsSilent};
 ghost use Rattle.vesgrauf.specs.declared.config.OnMalformed.TheVariants as chosen;
 
 use crate::config::OnMalformed;
@@ -16,6 +17,8 @@ impl Connection {
     // A message is malformed: its stream is reset, after an answer or not (RFC 9114, section 4.1.2).
     pub(super) fn malformed_came(&mut self, id: u64, rule: Malformed) -> Result<Step<'static>, Stop>
         ensures own { self.old.config.on_malformed ≡ chosen.Reset → Untouched self.old.streams.entries self.new.streams.entries }
+        ensures left { Left self.old.streams.entries self.new.streams.entries }
+        ensures silent { IfOk result IsSilent }
         ensures config { self.new.config ≡ self.old.config }
     {
         let why = Why::Malformed(rule);
@@ -30,6 +33,8 @@ impl Connection {
     // A field section is larger than the limits (RFC 9114, section 4.2.2).
     pub(super) fn too_large_came(&mut self, id: u64) -> Result<Step<'static>, Stop>
         ensures own { self.old.config.on_malformed ≡ chosen.Reset → Untouched self.old.streams.entries self.new.streams.entries }
+        ensures left { Left self.old.streams.entries self.new.streams.entries }
+        ensures silent { IfOk result IsSilent }
         ensures config { self.new.config ≡ self.old.config }
     {
         if self.answers(id, StatusCode::REQUEST_HEADER_FIELDS_TOO_LARGE) {
@@ -42,9 +47,10 @@ impl Connection {
 
     // Answers a request with this status, if the configuration says so. Returns whether it did: without memory, and after
     // another final response, it does not.
-    #[tactic(auto, using(crate::proofs::OwnLemmas::untouched_set))]
+    #[tactic(auto, using(crate::proofs::OwnLemmas::untouched_set, crate::proofs::TheirsLemmas::left_set))]
     fn answers(&mut self, id: u64, status: StatusCode) -> bool
         ensures own { self.old.config.on_malformed ≡ chosen.Reset → Untouched self.old.streams.entries self.new.streams.entries }
+        ensures left { Left self.old.streams.entries self.new.streams.entries }
         ensures config { self.new.config ≡ self.old.config }
     {
         if !self.is_server() || self.config.on_malformed == OnMalformed::Reset {
@@ -62,6 +68,7 @@ impl Connection {
     // Reads no further on a stream that was answered, whose own half ends after what is queued.
     fn leave_answered(&mut self, id: u64, code: Code, why: Why) -> Result<(), Stop>
         ensures own { Untouched self.old.streams.entries self.new.streams.entries }
+        ensures left { Left self.old.streams.entries self.new.streams.entries }
         ensures config { self.new.config ≡ self.old.config }
     {
         self.tell_failure(id, &why)?;

@@ -3,6 +3,7 @@ ghost use Rattle.std.specs.Prelude.{◌≡◌, ◌⊎◌, false, true, is_some, 
 ghost use Rattle.vesgrauf_stream.specs.Writing.{Sends};
 ghost use Rattle.vesgrauf_stream.specs.Headers.{SendsTrailers, RefusesTrailers};
 ghost use Rattle.vesgrauf.specs.Own.{Untouched, UntouchedBut};
+ghost use Rattle.vesgrauf.specs.Theirs.{Left};
 ghost use Rattle.vesgrauf.specs.State.{stream_at, Changes, IsFor, IsStill, IsStillBut, SaysOrWaits, StaysFor, IsWhy, IsWhyOf, RefusesBytes, RefusesEnd, FinishesUnless, was_finished, was_told_full, is_over};
 ghost use Rattle.vesgrauf.specs.declared.refused.Refused.TheVariants as refused;
 
@@ -138,6 +139,7 @@ impl Connection {
     /// and `Memory`.
     pub fn respond(&mut self, id: u64, list: &FieldList, fin: bool) -> Result<(), Refused>
         ensures own { UntouchedBut id self.old.streams.entries self.new.streams.entries }
+        ensures left { Left self.old.streams.entries self.new.streams.entries }
         ensures config { self.new.config ≡ self.old.config }
     {
         self.begin_send(id)?;
@@ -175,6 +177,7 @@ impl Connection {
     // A response with this status was sent.
     fn answered(&mut self, id: u64, status: u32)
         ensures own { Untouched self.old.streams.entries self.new.streams.entries }
+        ensures left { Left self.old.streams.entries self.new.streams.entries }
         ensures config { self.new.config ≡ self.old.config }
     {
         if status < 200 {

@@ -3,11 +3,14 @@ ghost use Rattle.std.specs.Prelude.{◌≡◌, [], MatchBool, OnOk, OnErr, IfOk}
 ghost use Rattle.wtp_frames.specs.declared.endpoint.Side.TheVariants as side;
 ghost use Rattle.vesgrauf.specs.State.{open_session, room_for, may_wait, IsStill};
 ghost use Rattle.vesgrauf.specs.Own.{Sends, own_of, Untouched, UntouchedBut};
+ghost use Rattle.vesgrauf.specs.Theirs.{Left, Accepts, content_of};
+ghost use Rattle.wtp_webtransport.specs.Events.{told_of};
 ghost use Rattle.vesgrauf.specs.Ids.{next_own};
 
-use crate::connection::{Connection, Stop};
+use crate::connection::{Connection, Stop, internal};
 use crate::entry::{Entry, Member, Peer, SHARED};
 use crate::event::{Event, EventKind};
+use crate::input::Report;
 use crate::output::{Output, StreamKind};
 use crate::refused::Refused;
 use std::alloc::Global;
@@ -20,12 +23,59 @@ use wtp_webtransport::event::Event as Said;
 use wtp_webtransport::stream::Stream;
 
 impl Connection {
-    // Registers the next stream of the peer, of the kind of this one.
-    pub(super) fn accept_next(&mut self, id: u64) -> Result<(), Stop>
+    // Registers the streams of the peer up to that of a report. After the end of the connection none is.
+    pub(super) fn accept_for(&mut self, report: Report) -> Result<(), Stop>
         ensures own { Untouched self.old.streams.entries self.new.streams.entries }
+        ensures accepts { Accepts self.old.ids self.old.streams.entries self.new.ids self.new.streams.entries }
+        ensures config { self.new.config ≡ self.old.config }
+    {
+        if self.ended.is_some() {
+            return Ok(());
+        }
+        match report {
+            Report::Stream(id) | Report::Reset(id, _) | Report::Stopped(id, _) => self.accept(id),
+            _ => Ok(()),
+        }
+    }
+
+    // Registers the streams of the peer up to this one. An ID that cannot be is an error of QUIC.
+    fn accept(&mut self, id: u64) -> Result<(), Stop>
+        ensures own { Untouched self.old.streams.entries self.new.streams.entries }
+        ensures accepts { Accepts self.old.ids self.old.streams.entries self.new.ids self.new.streams.entries }
+        ensures config { self.new.config ≡ self.old.config }
+    {
+        if self.ids.is_own(id) {
+            return if self.ids.was_taken(id) {
+                Ok(())
+            } else {
+                Err(internal())
+            };
+        }
+        let next = self.ids.next_of_peer(id);
+        if id < next {
+            return Ok(());
+        }
+        let count = (id - next) / 4;
+        if id >= 1 << 62 || count >= self.config.max_streams {
+            return Err(internal());
+        }
+        for _stream in 0..count + 1 {
+            self.accept_next(id)?;
+        }
+        Ok(())
+    }
+
+    // Registers the next stream of the peer, of the kind of this one.
+    #[tactic(auto, using(crate::proofs::ReadsLemmas::accepts_insert))]
+    fn accept_next(&mut self, id: u64) -> Result<(), Stop>
+        ensures own { Untouched self.old.streams.entries self.new.streams.entries }
+        ensures accepts { Accepts self.old.ids self.old.streams.entries self.new.ids self.new.streams.entries }
         ensures config { self.new.config ≡ self.old.config }
     {
         let next = self.ids.next_of_peer(id);
+        if self.ids.was(next) {
+            return Err(internal());
+        }
         let stream = self.shared.accept(next);
         let writing = half_beside_peer(self.alloc, self.config.queue(), next);
         let mut entry = Entry::new(Reading::new(self.alloc, stream), Peer::Reads, writing);
@@ -36,10 +86,12 @@ impl Connection {
     }
 
     // Joins a stream with its session, by what is known of that.
-    #[tactic(auto, using(crate::proofs::OwnLemmas::untouched_set))]
+    #[tactic(auto, using(crate::proofs::OwnLemmas::untouched_set, crate::proofs::TheirsLemmas::left_set, crate::proofs::ReadsLemmas::joins_silent))]
     pub(super) fn join(&mut self, id: u64, session: u64) -> Result<Said<'static>, Stop>
         ensures own { Untouched self.old.streams.entries self.new.streams.entries }
+        ensures left { Left self.old.streams.entries self.new.streams.entries }
         ensures config { self.new.config ≡ self.old.config }
+        ensures silent { IfOk result (λ e. content_of (told_of e) ≡ []) }
     {
         let known = self.known_to(id, session);
         if matches!(known, Known::Open) {
@@ -52,9 +104,10 @@ impl Connection {
     }
 
     // A stream of the peer joined its session.
-    #[tactic(auto, using(crate::proofs::OwnLemmas::untouched_set))]
+    #[tactic(auto, using(crate::proofs::OwnLemmas::untouched_set, crate::proofs::TheirsLemmas::left_set))]
     pub(super) fn joined(&mut self, id: u64, session: u64)
         ensures own { Untouched self.old.streams.entries self.new.streams.entries }
+        ensures left { Left self.old.streams.entries self.new.streams.entries }
         ensures config { self.new.config ≡ self.old.config }
     {
         if let Some(entry) = self.streams.get_mut(&id) {
@@ -128,6 +181,7 @@ impl Connection {
     // Tells that there is room again for own streams of a kind, if that is owed.
     fn tell_openable(&mut self, kind: StreamKind) -> Result<(), Refused>
         ensures own { Untouched self.old.streams.entries self.new.streams.entries }
+        ensures left { Left self.old.streams.entries self.new.streams.entries }
         ensures config { self.new.config ≡ self.old.config }
     {
         let is_owed = match kind {
@@ -196,6 +250,7 @@ impl Connection {
     /// this one. `Memory`: nothing changes, and the call is to be made again.
     pub fn opened(&mut self, id: u64) -> Result<(), Refused>
         ensures own { Untouched self.old.streams.entries self.new.streams.entries }
+        ensures left { Left self.old.streams.entries self.new.streams.entries }
         ensures config { self.new.config ≡ self.old.config }
     {
         if !self.ids.opens(id) {
@@ -217,9 +272,10 @@ impl Connection {
     }
 
     // QUIC has opened an own stream that is not critical.
-    #[tactic(auto, using(crate::proofs::OwnLemmas::untouched_set))]
+    #[tactic(auto, using(crate::proofs::OwnLemmas::untouched_set, crate::proofs::TheirsLemmas::left_set))]
     fn opened_message(&mut self, id: u64) -> Result<(), Refused>
         ensures own { Untouched self.old.streams.entries self.new.streams.entries }
+        ensures left { Left self.old.streams.entries self.new.streams.entries }
         ensures config { self.new.config ≡ self.old.config }
     {
         let Some(entry) = self.streams.get_mut(&id) else {

@@ -3,6 +3,7 @@ ghost use Rattle.std.specs.Prelude.{◌≡◌, false, true, None, IfErr, IfSome,
 ghost use Rattle.vesgrauf.specs.State.{next_output, IsStill, ShowsNext, view_of, blocked_at, blocked_in, is_over};
 ghost use Rattle.vesgrauf.specs.declared.refused.Refused.TheVariants as refused;
 ghost use Rattle.vesgrauf.specs.Own.{Untouched, UntouchedBut};
+ghost use Rattle.vesgrauf.specs.Theirs.{Left, IsSilent};
 
 use crate::connection::{Connection, Step, Stop};
 use crate::event::EventKind;
@@ -35,9 +36,10 @@ impl Connection {
     /// # Errors
     ///
     /// `NotAsked` if there is none. `Memory`: nothing changes, and the call is to be made again.
-    #[tactic(auto, using(crate::proofs::OwnLemmas::untouched_set))]
+    #[tactic(auto, using(crate::proofs::OwnLemmas::untouched_set, crate::proofs::TheirsLemmas::left_set))]
     pub fn output_taken(&mut self) -> Result<(), Refused>
         ensures own { Untouched self.old.streams.entries self.new.streams.entries }
+        ensures left { Left self.old.streams.entries self.new.streams.entries }
         ensures config { self.new.config ≡ self.old.config }
     {
         if self.closes.is_some() {
@@ -137,6 +139,7 @@ impl Connection {
     // Notes that there may be room on a stream.
     fn note_room(&mut self, id: u64)
         ensures own { Untouched self.old.streams.entries self.new.streams.entries }
+        ensures left { Left self.old.streams.entries self.new.streams.entries }
         ensures config { self.new.config ≡ self.old.config }
     {
         // (one that is passed over is looked at once more)
@@ -150,9 +153,11 @@ impl Connection {
     }
 
     // Tells of the next stream that has room again.
-    #[tactic(auto, using(crate::proofs::OwnLemmas::untouched_set))]
+    #[tactic(auto, using(crate::proofs::OwnLemmas::untouched_set, crate::proofs::TheirsLemmas::left_set))]
     pub(super) fn next_writable<'a>(&mut self) -> Step<'a>
         ensures own { Untouched self.old.streams.entries self.new.streams.entries }
+        ensures left { Left self.old.streams.entries self.new.streams.entries }
+        ensures silent { IsSilent result }
         ensures config { self.new.config ≡ self.old.config }
     {
         for _stream in 0..self.full.len() {
@@ -185,9 +190,10 @@ impl Connection {
     ///
     /// `NotAsked` if QUIC did not take so many. `Memory`: nothing changes, and the call is to be made again. There is
     /// none if the stream is forgotten.
-    #[tactic(auto, using(crate::proofs::OwnLemmas::untouched_set))]
+    #[tactic(auto, using(crate::proofs::OwnLemmas::untouched_set, crate::proofs::TheirsLemmas::left_set))]
     pub fn acked(&mut self, id: u64, len: u64) -> Result<(), Refused>
         ensures own { Untouched self.old.streams.entries self.new.streams.entries }
+        ensures left { Left self.old.streams.entries self.new.streams.entries }
         ensures config { self.new.config ≡ self.old.config }
     {
         self.reserve()?;

@@ -1,8 +1,9 @@
 //! Sessions.
-ghost use Rattle.std.specs.Prelude.{◌≡◌, ◌⊎◌, true, Ok, Err, OnOk, OnErr, IfErr};
+ghost use Rattle.std.specs.Prelude.{◌≡◌, ◌⊎◌, true, Ok, Err, OnOk, OnErr, IfErr, IfOk};
 ghost use Rattle.vesgrauf_stream.specs.Writing.{Drains};
 ghost use Rattle.vesgrauf.specs.State.{IsStill, Changes, IsWhy, RefusesDrain, is_over, open_session};
 ghost use Rattle.vesgrauf.specs.Own.{Untouched, UntouchedBut};
+ghost use Rattle.vesgrauf.specs.Theirs.{Left, IsSilent};
 
 use crate::connection::{Connection, Step, Stop};
 use crate::entry::SHARED;
@@ -15,9 +16,11 @@ use wtp_messages::response::Asked;
 
 impl Connection {
     // A request for a session came. One above the limit is rejected.
-    #[tactic(auto, using(crate::proofs::OwnLemmas::untouched_set))]
+    #[tactic(auto, using(crate::proofs::OwnLemmas::untouched_set, crate::proofs::TheirsLemmas::left_set))]
     pub(super) fn session_came(&mut self, id: u64, list: FieldList) -> Result<Step<'static>, Stop>
         ensures own { Untouched self.old.streams.entries self.new.streams.entries }
+        ensures left { Left self.old.streams.entries self.new.streams.entries }
+        ensures silent { IfOk result IsSilent }
         ensures config { self.new.config ≡ self.old.config }
     {
         if self.sessions >= self.config.max_sessions {
@@ -36,7 +39,7 @@ impl Connection {
     }
 
     // The server accepted a session. It is lost if the server stopped the own half before.
-    #[tactic(auto, using(crate::proofs::OwnLemmas::untouched_set))]
+    #[tactic(auto, using(crate::proofs::OwnLemmas::untouched_set, crate::proofs::TheirsLemmas::left_set))]
     pub(super) fn session_ready(
         &mut self,
         id: u64,
@@ -44,6 +47,8 @@ impl Connection {
         list: FieldList,
     ) -> Result<Step<'static>, Stop>
         ensures own { Untouched self.old.streams.entries self.new.streams.entries }
+        ensures left { Left self.old.streams.entries self.new.streams.entries }
+        ensures silent { IfOk result IsSilent }
         ensures config { self.new.config ≡ self.old.config }
     {
         let Some(entry) = self.streams.get_mut(&id) else {
@@ -68,6 +73,8 @@ impl Connection {
         list: FieldList,
     ) -> Result<Step<'static>, Stop>
         ensures own { Untouched self.old.streams.entries self.new.streams.entries }
+        ensures left { Left self.old.streams.entries self.new.streams.entries }
+        ensures silent { IfOk result IsSilent }
         ensures config { self.new.config ≡ self.old.config }
     {
         self.end_own(id)?;
@@ -99,6 +106,7 @@ impl Connection {
     // sessions' own streams wait until then, since they may say that a session is over.
     pub(super) fn session_opened(&mut self) -> Option<u64>
         ensures own { Untouched self.old.streams.entries self.new.streams.entries }
+        ensures left { Left self.old.streams.entries self.new.streams.entries }
         ensures config { self.new.config ≡ self.old.config }
     {
         let session = self.datagrams.opened.front().copied()?;
@@ -140,6 +148,8 @@ impl Connection {
     // Tells what came before a session was open.
     pub(super) fn step_opened<'a>(&mut self, session: u64) -> Step<'a>
         ensures own { Untouched self.old.streams.entries self.new.streams.entries }
+        ensures left { Left self.old.streams.entries self.new.streams.entries }
+        ensures silent { IsSilent result }
         ensures config { self.new.config ≡ self.old.config }
     {
         if let Some(step) = self.early_of(session) {
@@ -187,7 +197,8 @@ impl Connection {
     ///
     /// Nothing changes. `Closed`; `NotOpen`; `Send` if the reason has more than 1,024 bytes; and `Memory`.
     pub fn close_session(&mut self, session: u64, code: u32, reason: &str) -> Result<(), Refused>
-        ensures { UntouchedBut session self.old.streams.entries self.new.streams.entries }
+        ensures own { UntouchedBut session self.old.streams.entries self.new.streams.entries }
+        ensures left { Left self.old.streams.entries self.new.streams.entries }
     {
         self.check_session(session)?;
         self.begin_send(session)?;
