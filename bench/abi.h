@@ -52,6 +52,20 @@ int64_t bench_dynamic_lines(const uint8_t *bytes, size_t len);
 int64_t bench_dynamic_encode_4k(const bench_pair *pairs, size_t count, uint8_t *out, size_t room);
 int64_t bench_dynamic_encode_64k(const bench_pair *pairs, size_t count, uint8_t *out, size_t room);
 enum { BENCH_FIELDS = 20 };
+/* Whole connections of a server, over what make_whole.c writes: after their answer, how many streams are open, how often
+   something is done then, and the capacity of the dynamic tables. The sizes of the field lists and the bytes of the content
+   that came, and the bytes that QUIC took of the streams of requests, which the client has at once. The same piece of content
+   on the streams in turn; a call that finds nothing to do; more requests; the same response on the streams; the same piece
+   of content to one stream, with a copy and without one; streams that are opened and reset; and requests with their
+   responses. */
+int64_t bench_whole_content(const uint8_t *bytes, size_t len);
+int64_t bench_whole_nothing(const uint8_t *bytes, size_t len);
+int64_t bench_whole_requests(const uint8_t *bytes, size_t len);
+int64_t bench_whole_responses(const uint8_t *bytes, size_t len);
+int64_t bench_whole_send(const uint8_t *bytes, size_t len);
+int64_t bench_whole_send_owned(const uint8_t *bytes, size_t len);
+int64_t bench_whole_open(const uint8_t *bytes, size_t len);
+int64_t bench_whole_exchange(const uint8_t *bytes, size_t len);
 /* 1 where the payload was taken. */
 int64_t bench_settings(const uint8_t *payload, size_t len);
 #endif

@@ -28,6 +28,7 @@ typedef struct {
   const bench_pair *pairs;
   int has_out;
   const input *inputs;
+  const input *less; /* or none: an input whose time is subtracted from that of the only one */
   size_t count;
   size_t bytes;     /* of an input, that the rate is counted in, or of what else */
   const char *unit; /* what else, as a frame */
@@ -55,17 +56,19 @@ static int64_t call(const task *t, const input *in, void *f) {
   return ((reads)f)(in->bytes, in->len);
 }
 
-static double seconds(const task *t, void *f, size_t turns) {
+static double seconds_of(const task *t, const input *inputs, void *f, size_t turns) {
   double start = now();
   for (size_t turn = 0; turn < turns; ++turn)
-    for (size_t i = 0; i < t->count; ++i) sink += call(t, t->inputs + i, f);
+    for (size_t i = 0; i < t->count; ++i) sink += call(t, inputs + i, f);
   return now() - start;
 }
 
+static double seconds(const task *t, void *f, size_t turns) { return seconds_of(t, t->inputs, f, turns); }
+
 /* Whether a library answers each input as it must; it may also lack the call, or take no such input. */
 static int answers(const task *t, void *f) {
-  for (size_t i = 0; i < t->count; ++i) {
-    const input *in = t->inputs + i;
+  for (size_t i = 0; i < t->count + !!t->less; ++i) {
+    const input *in = i < t->count ? t->inputs + i : t->less;
     int64_t got = call(t, in, f);
     if (got < 0) return 0;
     if ((in->wanted >= 0 && got != in->wanted) || (in->wanted_out && memcmp(out, in->wanted_out, (size_t)got))) {
@@ -80,7 +83,7 @@ static int answers(const task *t, void *f) {
 static void measure(const task *t, void **libraries, int count) {
   void *calls[LIBRARIES];
   size_t turns[LIBRARIES];
-  double least[LIBRARIES];
+  double least[LIBRARIES], less[LIBRARIES];
   int have = 0;
   for (int i = 0; i < count; ++i) {
     calls[i] = dlsym(libraries[i], t->symbol);
@@ -91,6 +94,7 @@ static void measure(const task *t, void **libraries, int count) {
     for (double d; (d = seconds(t, calls[i], turns[i])) < ROUND;)
       turns[i] = d < ROUND / 20 ? turns[i] * 8 : (size_t)((double)turns[i] * ROUND / d) + 1;
     least[i] = 1e9;
+    less[i] = t->less ? 1e9 : 0;
   }
   if (!have) return;
   for (int r = 0; r < ROUNDS; ++r)
@@ -98,7 +102,12 @@ static void measure(const task *t, void **libraries, int count) {
       if (!calls[i]) continue;
       double d = seconds(t, calls[i], turns[i]) / (double)turns[i] / (double)t->count;
       if (d < least[i]) least[i] = d;
+      if (!t->less) continue;
+      d = seconds_of(t, t->less, calls[i], turns[i]) / (double)turns[i];
+      if (d < less[i]) less[i] = d;
     }
+  for (int i = 0; i < count; ++i)
+    if (calls[i]) least[i] -= less[i];
   printf("%-28s", t->label);
   for (int i = 0; i < count; ++i) {
     double each = least[i] * 1e9 / (double)t->bytes;
@@ -179,6 +188,40 @@ static void messages(const char *folder, void **libraries, int count) {
   for (int s = 0; s < 4; ++s) measure_file(folder, sets[s][0], sets[s][2], sets[s][1], -1, MESSAGES, "message", libraries, count);
   for (int s = 0; s < 3; ++s)
     measure_file(folder, open[s].file, open[s].label, "bench_streams", -1, open[s].streams, "stream", libraries, count);
+}
+
+/* Whole connections, over what make_whole.c writes: what the second input of a row has more than the first. */
+static void connections(const char *folder, void **libraries, int count) {
+  static const struct { const char *label, *symbol, *file; size_t times; } rows[] = {
+      {"a piece in, 10 streams", "bench_whole_content", "piece-10", 10000},
+      {"a piece in, 10,000 streams", "bench_whole_content", "piece-10000", 100000},
+      {"a frame in, 10 streams", "bench_whole_content", "frame-10", 10000},
+      {"a frame in, 10,000 streams", "bench_whole_content", "frame-10000", 100000},
+      {"a piece out, 10 streams", "bench_whole_send", "send-10", 10000},
+      {"a piece out, 10,000 streams", "bench_whole_send", "send-10000", 100000},
+      {"16 KiB out, not copied", "bench_whole_send_owned", "send-16384", 1000},
+      {"open, close, 10 streams", "bench_whole_open", "open-10", 1000},
+      {"open, close, 10,000 streams", "bench_whole_open", "open-10000", 10000},
+      {"nothing to do", "bench_whole_nothing", "nothing", 1000},
+      {"a request in", "bench_whole_requests", "requests", 1000},
+      {"a response out", "bench_whole_responses", "responses", 1000},
+      {"request and response", "bench_whole_exchange", "exchange", 1000},
+      {"a request in, table", "bench_whole_requests", "requests-table", 1000},
+      {"a response out, table", "bench_whole_responses", "responses-table", 1000},
+      {"request and response, table", "bench_whole_exchange", "exchange-table", 1000}};
+  for (size_t r = 0; r < sizeof rows / sizeof *rows; ++r) {
+    input in[2];
+    for (int i = 0; i < 2; ++i) {
+      char name[64];
+      snprintf(name, sizeof name, "whole-%s-%s.bin", rows[r].file, i ? "less" : "more");
+      in[i] = (input){.bytes = load_input(folder, name, &in[i].len)};
+      in[i].wanted = number_at(in[i].bytes);
+    }
+    task t = {.label = rows[r].label, .symbol = rows[r].symbol, .inputs = in, .less = in + 1, .count = 1,
+              .bytes = rows[r].times, .unit = "turn"};
+    measure(&t, libraries, count);
+    for (int i = 0; i < 2; ++i) free((void *)in[i].bytes);
+  }
 }
 
 /* Header text in pieces of one length, and their codes, which come from the first library that has one. */
@@ -369,6 +412,7 @@ int main(int argc, char **argv) {
   frames(argv[1], libraries, count);
   requests(argv[1], libraries, count);
   messages(argv[1], libraries, count);
+  connections(argv[1], libraries, count);
   huffman(argv[1], libraries, count);
   sections(argv[1], libraries, count);
   dynamic(argv[1], libraries, count);

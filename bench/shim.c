@@ -79,3 +79,19 @@ int64_t bench_qpack_encode(const bench_pair *pairs, size_t count, uint8_t *out, 
 }
 
 int64_t bench_settings(const uint8_t *payload, size_t len) { return wt_bench_settings(payload, len); }
+
+/* A call over what make_whole.c writes. */
+#define WHOLE(NAME)                                                                                                    \
+  int64_t wt_bench_whole_##NAME(uint32_t streams, uint32_t count, uint32_t capacity, const uint8_t *parts, size_t len); \
+  int64_t bench_whole_##NAME(const uint8_t *bytes, size_t len) {                                                       \
+    return wt_bench_whole_##NAME(number_at(bytes + 4), number_at(bytes + 8), number_at(bytes + 12), bytes + 16, len - 16); \
+  }
+
+WHOLE(content)
+WHOLE(nothing)
+WHOLE(requests)
+WHOLE(responses)
+WHOLE(send)
+WHOLE(send_owned)
+WHOLE(open)
+WHOLE(exchange)

@@ -12,6 +12,7 @@ mod frames;
 mod messages;
 mod pair;
 mod parts;
+mod whole;
 
 use std::alloc::Global;
 use wtp_fields::huffman;
