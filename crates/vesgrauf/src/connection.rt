@@ -20,7 +20,7 @@ use crate::config::Config;
 use crate::connection::ids::Ids;
 use crate::critical::Critical;
 use crate::entry::{Entry, Member};
-use crate::event::{Event, EventKind, Failure};
+use crate::event::{Bytes, Event, EventKind, Failure};
 use crate::input::{Input, Report};
 use crate::output::Output;
 use std::alloc::{AllocError, AllocFailed, Global};
@@ -283,7 +283,18 @@ impl Connection {
                         return Ok(None);
                     }
                 }
-                Report::Stream(id) => return self.read_at_once(id, input),
+                Report::Stream(id) => {
+                    let mut other = None;
+                    if let Some(piece) = self.piece_at_once(id, input, &mut other) {
+                        return Ok(Some(Event {
+                            stream: id,
+                            session: piece.session,
+                            user: piece.user,
+                            kind: EventKind::Data(Bytes::Input(piece.bytes)),
+                        }));
+                    }
+                    return self.next_after_other(id, other, input);
+                }
                 _ => {}
             }
         }
@@ -291,6 +302,7 @@ impl Connection {
     }
 
     // Returns the next event, as `next_event` does, by as many steps as it takes.
+    #[inline(never)]
     fn next_by_steps<'a>(&mut self, input: &mut Input<'a>) -> Result<Option<Event<'a>>, AllocError>
         ensures own { self.old.config.on_malformed ≡ chosen.Reset → Untouched self.old.streams.entries self.new.streams.entries }
         ensures config { self.new.config ≡ self.old.config }

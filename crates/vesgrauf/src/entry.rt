@@ -148,6 +148,12 @@ impl Entry {
         self.peer == Peer::Over && self.is_opened && self.writing.is_done()
     }
 
+    // Returns whether the stream may be full once so many bytes are queued, and the head of their frame.
+    pub(crate) fn may_fill(&self, len: usize, mark: usize) -> bool {
+        let counted = self.writing.counted().saturating_add(len as u64);
+        counted.saturating_add(16) >= mark as u64
+    }
+
     // Queues content, or bytes of a stream of a session. Where the program was told that the stream is full, they are
     // refused as long as it is.
     pub(crate) fn send(

@@ -205,8 +205,12 @@ impl Connection {
             return Ok(());
         };
         entry.writing.acked(spares, len)?;
+        let is_done = entry.writing.is_done();
         self.note_room(id);
-        Ok(self.remove_if_done(id)?)
+        if is_done {
+            self.remove_if_done(id)?;
+        }
+        Ok(())
     }
 
     /// QUIC takes nothing of this for now, or does again. What is said of one scope does not change another: a stream
