@@ -284,8 +284,7 @@ impl Connection {
                     }
                 }
                 Report::Stream(id) => {
-                    let mut other = None;
-                    if let Some(piece) = self.piece_at_once(id, input, &mut other) {
+                    if let Some(piece) = self.piece_at_once(id, input) {
                         return Ok(Some(Event {
                             stream: id,
                             session: piece.session,
@@ -293,7 +292,7 @@ impl Connection {
                             kind: EventKind::Data(Bytes::Input(piece.bytes)),
                         }));
                     }
-                    return self.next_after_other(id, other, input);
+                    return self.read_at_once(id, input);
                 }
                 _ => {}
             }

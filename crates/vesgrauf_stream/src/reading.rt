@@ -120,26 +120,17 @@ impl Reading {
         Found::Heard(heard_in(received.event))
     }
 
-    /// Returns the piece of content, or of a stream of a session, that is next in the input, where nothing is kept. If
-    /// something else is heard, that is put into `other`.
+    /// Returns the piece of content, or of a stream of a session, that is next in the input, where nothing is kept: what
+    /// [`next`](Self::next) would return. With `None` nothing changes, and `next` says what is next.
+    #[inline(always)]
     pub fn next_piece<'a>(
         &mut self,
         shared: &mut Connection,
-        fields: &mut Fields,
         input: &mut Chunk<'a>,
-        other: &mut Option<Heard<'a>>,
     ) -> Option<&'a [u8]> {
-        let fin = self.ends_with(input);
-        let received = shared.receive(&mut self.stream, input.bytes, fin, fields);
-        input.consume(received.consumed);
-        match received.event {
-            Event::Data(bytes) => Some(bytes),
-            Event::StreamData(bytes) => Some(bytes),
-            event => {
-                *other = Some(heard_in(event));
-                None
-            }
-        }
+        let (consumed, piece) = shared.receive_piece(&mut self.stream, input.bytes)?;
+        input.consume(consumed);
+        Some(piece)
     }
 
     // Returns what is heard next in the bytes that are kept and some of the input.

@@ -155,6 +155,29 @@ impl Connection {
 }
 
 impl Connection {
+    /// Returns where in the bytes the piece of DATA, or of a stream of a session, is that
+    /// [`receive`](Self::receive) would return: where it begins, how long it is, and how many bytes of
+    /// its frame remain after it. With `None` something else is next.
+    #[inline(always)]
+    pub fn data_ahead(&self, stream: &Stream, bytes: &[u8]) -> Option<(usize, usize, u64)> {
+        if self.over {
+            return None;
+        }
+        match stream {
+            Stream::Frames(reader, _) => reader.data_ahead(bytes),
+            Stream::Session(_) => {
+                if bytes.is_empty() {
+                    None
+                } else {
+                    Some((0, bytes.len(), 0))
+                }
+            }
+            _ => None,
+        }
+    }
+}
+
+impl Connection {
     // Returns what is next, where the stream goes on.
     fn step(&mut self, stream: &mut Stream, bytes: &[u8]) -> Found
         ensures found { StepIsFound result self.old stream.old bytes.now self.new stream.new }

@@ -127,6 +127,15 @@ impl Stream {
         }
     }
 
+    /// Goes on after a piece of DATA that is
+    /// [ahead](crate::connection::Connection::data_ahead), after which so many bytes of its frame remain.
+    #[inline(always)]
+    pub fn pass_data(&mut self, remaining: u64) {
+        if let Stream::Frames(reader, _) = self {
+            reader.pass_data(remaining);
+        }
+    }
+
     /// Returns how many bytes of the payload of a frame that is returned in pieces, or skipped, are
     /// still to come: after a piece of DATA those of its frame. It is 0 of a stream that is none of
     /// frames.

@@ -143,6 +143,42 @@ impl Reader {
         }
     }
 
+    /// Returns where in the bytes the piece of DATA is that [`next`](Self::next) would return, from
+    /// within a frame or after the head of one: where it begins, how long it is, and how many bytes of its
+    /// frame remain after it. With `None` something else is next.
+    #[inline(always)]
+    pub fn data_ahead(&self, bytes: &[u8]) -> Option<(usize, usize, u64)> {
+        if bytes.is_empty() {
+            return None;
+        }
+        if self.remaining > 0 {
+            if !self.streamed || matches!(self.place, Place::Failed(_)) {
+                return None;
+            }
+            return Some(cut(0, self.remaining, bytes.len()));
+        }
+        match self.place {
+            Place::Body | Place::Tunnel => {}
+            _ => return None,
+        }
+        let (len, start) = data_head(bytes)?;
+        if len == 0 || start >= bytes.len() {
+            return None;
+        }
+        Some(cut(start, len, bytes.len() - start))
+    }
+
+    /// Goes on after a piece of DATA that is [ahead](Self::data_ahead), after which so many bytes of its
+    /// frame remain.
+    #[inline(always)]
+    pub fn pass_data(&mut self, remaining: u64) {
+        if self.remaining == 0 {
+            self.streamed = true;
+            self.idle = 0;
+        }
+        self.remaining = remaining;
+    }
+
     /// Says that the HEADERS that [`next`](Self::next) returned last are those of an interim
     /// response: the HEADERS of the final one are still to come (RFC 9114, section 4.1). Call it
     /// before the next call of `next`; which HEADERS these are is in their fields (RFC 9110, section
@@ -382,6 +418,29 @@ fn payload_move(streamed: bool, n: usize) -> Move
     } else {
         Move::Passed(n)
     }
+}
+
+// Returns where a piece of a payload is, of which so many bytes came and so many are to come: where it
+// begins, how long it is, and how many bytes remain after it.
+#[inline(always)]
+fn cut(start: usize, payload: u64, came: usize) -> (usize, usize, u64) {
+    if (came as u64) < payload {
+        (start, came, payload - came as u64)
+    } else {
+        (start, payload as usize, 0)
+    }
+}
+
+/// Returns the length of the DATA frame whose head, with a type of one byte, the bytes begin with, and
+/// the size of the head.
+#[inline(always)]
+fn data_head(bytes: &[u8]) -> Option<(u64, usize)> {
+    let (kind, rest) = bytes.split_first()?;
+    if *kind != 0 {
+        return None;
+    }
+    let (length, size) = first_varint(rest)?;
+    Some((length.into_inner(), size + 1))
 }
 
 /// Returns the type and the length at the start of the bytes, and the size of both.

@@ -170,6 +170,27 @@ impl Connection {
         self.next(stream, bytes, fin, fields)
     }
 
+    /// Returns the next piece of the content of a message or of a tunnel, or of a stream of a session, with
+    /// how many bytes are consumed, if that is next in the bytes: what [`receive`](Self::receive) would
+    /// return as `Data` or `StreamData`. With `None` nothing changed, and `receive` says what is next.
+    #[inline(always)]
+    pub fn receive_piece<'a>(
+        &mut self,
+        stream: &mut Stream,
+        bytes: &'a [u8],
+    ) -> Option<(usize, &'a [u8])> {
+        if self.over || !stream.gives_pieces() {
+            return None;
+        }
+        let (start, len, remaining) = self.streams.data_ahead(&stream.frames, bytes)?;
+        if !stream.counts(len as u64, remaining) {
+            return None;
+        }
+        stream.frames.pass_data(remaining);
+        self.read = None;
+        Some((start + len, &bytes[start..start + len]))
+    }
+
     // Returns what is next in bytes that are no instructions for the table.
     fn next<'a>(
         &mut self,

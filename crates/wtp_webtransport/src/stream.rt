@@ -225,6 +225,28 @@ impl Stream {
         }
     }
 
+    // Returns whether pieces of its content, or of its bytes, are given as they are.
+    #[inline(always)]
+    pub(crate) fn gives_pieces(&self) -> bool {
+        matches!(self.unread, Unread::Nothing)
+            && matches!(self.part, Part::Body(_) | Part::OfSession | Part::Tunnel)
+    }
+
+    // Counts a piece of a DATA frame, of which so many bytes remain after it. Returns whether what is left
+    // of an announced length was enough for both; else nothing changed.
+    #[inline(always)]
+    pub(crate) fn counts(&mut self, piece: u64, remaining: u64) -> bool {
+        match &mut self.part {
+            Part::Body(message) => match message.left() {
+                None => true,
+                Some(left) => {
+                    piece <= left && remaining <= left - piece && message.data(piece).is_ok()
+                }
+            },
+            _ => true,
+        }
+    }
+
     // Takes bytes up to the end of one capsule from the content of the session.
     pub(crate) fn next_capsule(
         &mut self,

@@ -3,12 +3,13 @@ ghost use Rattle.std.specs.Prelude.{◌≡◌};
 ghost use Rattle.vesgrauf.specs.Own.{Untouched};
 ghost use Rattle.vesgrauf.specs.declared.config.OnMalformed.TheVariants as chosen;
 
+use crate::connection::failing::is_failure;
 use crate::connection::{Connection, Step, Stop};
 use crate::entry::{Entry, Peer};
-use crate::event::Event;
+use crate::event::{Event, EventKind};
 use crate::input::{Input, Report};
 use std::alloc::AllocError;
-use wtp_webtransport::event::Event as Said;
+use vesgrauf_stream::bytes::Chunk;
 use vesgrauf_stream::heard::Heard;
 use vesgrauf_stream::reading::Found;
 
@@ -18,17 +19,6 @@ pub(super) struct Piece<'a> {
     pub(super) bytes: &'a [u8],
     pub(super) session: Option<u64>,
     pub(super) user: Option<u64>,
-}
-
-// Returns whether an error was heard.
-fn fails(heard: &Option<Heard<'_>>) -> bool {
-    match heard {
-        Some(Heard::Event(event)) => matches!(
-            event,
-            Said::ConnectionError(_) | Said::StreamError(_) | Said::Malformed(_) | Said::TooLarge(_)
-        ),
-        _ => false,
-    }
 }
 
 impl Connection {
@@ -51,48 +41,25 @@ impl Connection {
             && !self.is_leaving
     }
 
-    // Returns the piece of content that is next in bytes of a stream, where nothing is due before them: with one look-up.
-    // If something else is heard, that is put into `other`.
+    // Returns the piece of content that is next in bytes of a stream, where nothing is due before them: with one look-up,
+    // and without memory. With `None` nothing changes.
     #[inline(never)]
-    pub(super) fn piece_at_once<'a>(
-        &mut self,
-        id: u64,
-        input: &mut Input<'a>,
-        other: &mut Option<Heard<'a>>,
-    ) -> Option<Piece<'a>> {
-        if input.chunk.is_last()
-            || self.peer_decoder == Some(id)
-            || self.reserve_all().is_err()
-        {
-            return None;
-        }
+    pub(super) fn piece_at_once<'a>(&mut self, id: u64, input: &mut Input<'a>) -> Option<Piece<'a>> {
         let entry = self.streams.get_mut(&id)?;
-        if !is_plain(entry) {
+        if input.chunk.is_last() || !is_plain(entry) || !entry.is_told {
             return None;
         }
         let len = input.chunk.len();
-        let bytes = entry.reading.next_piece(
-            &mut self.shared,
-            &mut self.fields,
-            &mut input.chunk,
-            other,
-        );
+        let bytes = entry
+            .reading
+            .next_piece(&mut self.shared, &mut input.chunk)?;
         let left = input.chunk.len();
         let read = len.saturating_sub(left);
         input.credit = input.credit.saturating_add(read);
-        let Some(bytes) = bytes else {
-            if !fails(other) {
-                entry.offset = entry.offset.saturating_add(read as u64);
-            }
-            return None;
-        };
         entry.offset = entry.offset.saturating_add(read as u64);
         // (nothing follows a piece but more bytes, or the end)
         if left == 0 && self.held <= self.config.receive_buffer_all {
             input.report = Report::Nothing;
-        }
-        if !entry.is_told {
-            return None;
         }
         Some(Piece {
             bytes,
@@ -101,18 +68,68 @@ impl Connection {
         })
     }
 
-    // Returns the next event of bytes of a stream that begin with no piece, after this was heard.
+    // Returns the next event of bytes of a stream, as `next_by_steps` does, where nothing is due before them. A piece of
+    // content is read at once, with one look-up.
     #[inline(never)]
-    pub(super) fn next_after_other<'a>(
+    pub(super) fn read_at_once<'a>(
         &mut self,
         id: u64,
-        other: Option<Heard<'a>>,
         input: &mut Input<'a>,
-    ) -> Result<Option<Event<'a>>, AllocError> {
-        match other {
-            Some(heard) => self.next_after(id, Found::Heard(heard), input),
-            None => self.next_by_steps(input),
+    ) -> Result<Option<Event<'a>>, AllocError>
+        ensures own { self.old.config.on_malformed ≡ chosen.Reset → Untouched self.old.streams.entries self.new.streams.entries }
+        ensures config { self.new.config ≡ self.old.config }
+    {
+        if input.chunk.is_last() || self.peer_decoder == Some(id) {
+            return self.next_by_steps(input);
         }
+        if self.reserve_all().is_err() {
+            return Err(AllocError);
+        }
+        let len = input.chunk.len();
+        let Some(found) = self.read_plain(id, &mut input.chunk)? else {
+            return self.next_by_steps(input);
+        };
+        input.count(len);
+        match found {
+            Found::Heard(Heard::Data(bytes)) | Found::Heard(Heard::StreamData(bytes)) => {
+                // (nothing follows a piece but more bytes, or the end)
+                if input.chunk.len() == 0 && self.held <= self.config.receive_buffer_all {
+                    input.report = Report::Nothing;
+                }
+                match self.tell(id, EventKind::Data(bytes)) {
+                    Step::Told(event) => Ok(Some(event)),
+                    _ => self.next_by_steps(input),
+                }
+            }
+            found => self.next_after(id, found, input),
+        }
+    }
+
+    // Returns what is found in bytes of a stream that is read, of which nothing is kept and that waits for nothing.
+    #[tactic(auto, using(crate::proofs::OwnLemmas::untouched_set))]
+    fn read_plain<'a>(
+        &mut self,
+        id: u64,
+        chunk: &mut Chunk<'a>,
+    ) -> Result<Option<Found<'a>>, AllocError>
+        ensures own { Untouched self.old.streams.entries self.new.streams.entries }
+        ensures config { self.new.config ≡ self.old.config }
+    {
+        let Some(entry) = self.streams.get_mut(&id) else {
+            return Ok(None);
+        };
+        if !is_plain(entry) {
+            return Ok(None);
+        }
+        let len = chunk.len();
+        let found = entry
+            .reading
+            .next(self.alloc, &mut self.shared, &mut self.fields, chunk)?;
+        if !is_failure(&found) {
+            let read = len.saturating_sub(chunk.len());
+            entry.offset = entry.offset.saturating_add(read as u64);
+        }
+        Ok(Some(found))
     }
 
     // Returns the next event, as `next_by_steps` does, after this was found in bytes of a stream.
