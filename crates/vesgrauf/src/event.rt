@@ -11,9 +11,10 @@ use wtp_webtransport::fault::Fault;
 /// What happened. It borrows from the input alone, so that it may be answered while it is handled.
 #[derive(Debug, Drop)]
 pub struct Event<'a> {
-    /// The stream, or 0 for an event of the connection.
+    /// The stream, or 0 for an event of the connection. A client's first request has the ID 0, too: the kind tells them
+    /// apart.
     pub stream: u64,
-    /// The session that the stream belongs to, or whose own stream it is.
+    /// The session that the stream belongs to, or whose own stream it is: also of one that is not answered, or was refused.
     pub session: Option<u64>,
     /// The number that the program gave the stream, if it gave one.
     pub user: Option<u64>,

@@ -91,7 +91,7 @@ pub enum Shutdown {
 /// How much there is of what is bounded.
 #[derive(Clone, Copy, Debug, PartialEq, Eq)]
 pub struct Stats {
-    /// How many streams there are, but for the own critical ones.
+    /// How many streams there are, but for the own critical ones: the peer's are three where it uses a dynamic table.
     pub streams: usize,
     /// How many sessions there are, or may come to be.
     pub sessions: u32,
