@@ -150,8 +150,12 @@ impl Player {
         };
         let list = FieldList::response(self.alloc, status)?;
         let number = status.into_inner();
-        accept(on.respond(id, &list, !connects || number >= 300))?;
+        accept(on.respond(id, &list, !connects))?;
         if connects {
+            // (by `fin` of the response, what the peer sends on would be stopped)
+            if number >= 300 {
+                accept(on.finish(id))?;
+            }
             self.lines.number(id, "answered", u64::from(number))?;
         }
         Ok(())
