@@ -2,7 +2,7 @@
 connection of vesgrauf, in the same three ways. It tells no frames, no purposes of streams and no
 offsets; what it tells of each stream has to be what tools/session_model.py says of its bytes."""
 
-from connection_model import CRITICAL
+from connection_model import CRITICAL, DEFAULTS, LIMIT
 from message_bytes import section
 from random_sessions import CLOSED_CRITICAL, INCOMPLETE, SessionScript
 from random_streams import Batch
@@ -42,10 +42,23 @@ class WholeScript(SessionScript):
                     yield stream, event
 
     def can_be_played(self):
-        """Returns whether a client may ask for the sessions that it asks for, and no stream is
-        there twice of which there may be one."""
+        """Returns whether a client may ask for the sessions that it asks for, the server accepts its
+        sections, and no stream is there twice of which there may be one."""
         asks = not self.side.is_server and "session" in self.asked.values()
-        return not self.twins and (not asks or self.allows(self.settings))
+        return (
+            not self.twins
+            and (not asks or self.allows(self.settings))
+            and (self.side.is_server or self.accepts_requests())
+        )
+
+    def accepts_requests(self):
+        """Returns whether no request is larger than the server accepts (RFC 9114, section 4.2.2)."""
+        limit = dict(zip(DEFAULTS, self.settings or ())).get(LIMIT, "none")
+        sizes = (
+            sum(len(name) + len(value) + 32 for name, value in REQUESTS[asked])
+            for asked in self.asked.values()
+        )
+        return limit == "none" or all(size <= int(limit) for size in sizes)
 
     # ---- its script
 
