@@ -46,7 +46,8 @@ fn joining_of(event: &Said<'_>) -> Joining {
 impl Connection {
     // Handles what was heard on a stream.
     pub(super) fn heard<'a>(&mut self, id: u64, heard: Heard<'a>) -> Result<Step<'a>, Stop>
-        ensures own { self.old.config.on_malformed ≡ chosen.Reset → Untouched self.old.streams.entries self.new.streams.entries }
+        ensures own { self.old.config.on_malformed ≡ chosen.Reset
+            → Untouched self.old.streams.entries self.new.streams.entries }
         ensures config { self.new.config ≡ self.old.config }
     {
         match heard {
@@ -78,7 +79,8 @@ impl Connection {
 
     // Handles what a stream says.
     pub(super) fn said(&mut self, id: u64, event: Said<'static>) -> Result<Step<'static>, Stop>
-        ensures own { self.old.config.on_malformed ≡ chosen.Reset → Untouched self.old.streams.entries self.new.streams.entries }
+        ensures own { self.old.config.on_malformed ≡ chosen.Reset
+            → Untouched self.old.streams.entries self.new.streams.entries }
         ensures config { self.new.config ≡ self.old.config }
     {
         match event {

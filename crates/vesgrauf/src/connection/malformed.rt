@@ -16,7 +16,8 @@ use wtp_messages::response::Asked;
 impl Connection {
     // A message is malformed: its stream is reset, after an answer or not (RFC 9114, section 4.1.2).
     pub(super) fn malformed_came(&mut self, id: u64, rule: Malformed) -> Result<Step<'static>, Stop>
-        ensures own { self.old.config.on_malformed ≡ chosen.Reset → Untouched self.old.streams.entries self.new.streams.entries }
+        ensures own { self.old.config.on_malformed ≡ chosen.Reset
+            → Untouched self.old.streams.entries self.new.streams.entries }
         ensures config { self.new.config ≡ self.old.config }
     {
         let why = Why::Malformed(rule);
@@ -30,7 +31,8 @@ impl Connection {
 
     // A field section is larger than the limits (RFC 9114, section 4.2.2).
     pub(super) fn too_large_came(&mut self, id: u64) -> Result<Step<'static>, Stop>
-        ensures own { self.old.config.on_malformed ≡ chosen.Reset → Untouched self.old.streams.entries self.new.streams.entries }
+        ensures own { self.old.config.on_malformed ≡ chosen.Reset
+            → Untouched self.old.streams.entries self.new.streams.entries }
         ensures config { self.new.config ≡ self.old.config }
     {
         if self.answers(id, StatusCode::REQUEST_HEADER_FIELDS_TOO_LARGE) {
@@ -45,7 +47,8 @@ impl Connection {
     // another final response, it does not.
     #[tactic(auto, using(crate::proofs::OwnLemmas::untouched_set))]
     fn answers(&mut self, id: u64, status: StatusCode) -> bool
-        ensures own { self.old.config.on_malformed ≡ chosen.Reset → Untouched self.old.streams.entries self.new.streams.entries }
+        ensures own { self.old.config.on_malformed ≡ chosen.Reset
+            → Untouched self.old.streams.entries self.new.streams.entries }
         ensures config { self.new.config ≡ self.old.config }
     {
         if !self.is_server() || self.config.on_malformed == OnMalformed::Reset {

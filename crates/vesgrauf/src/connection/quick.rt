@@ -43,7 +43,8 @@ impl Connection {
         id: u64,
         input: &mut Input<'a>,
     ) -> Result<Option<Event<'a>>, AllocError>
-        ensures own { self.old.config.on_malformed ≡ chosen.Reset → Untouched self.old.streams.entries self.new.streams.entries }
+        ensures own { self.old.config.on_malformed ≡ chosen.Reset
+            → Untouched self.old.streams.entries self.new.streams.entries }
         ensures config { self.new.config ≡ self.old.config }
     {
         if input.chunk.is_last() || self.peer_decoder == Some(id) {
@@ -106,7 +107,8 @@ impl Connection {
         found: Found<'a>,
         input: &mut Input<'a>,
     ) -> Result<Option<Event<'a>>, AllocError>
-        ensures own { self.old.config.on_malformed ≡ chosen.Reset → Untouched self.old.streams.entries self.new.streams.entries }
+        ensures own { self.old.config.on_malformed ≡ chosen.Reset
+            → Untouched self.old.streams.entries self.new.streams.entries }
         ensures config { self.new.config ≡ self.old.config }
     {
         match self.found_in_input(id, found, input) {
@@ -125,7 +127,8 @@ impl Connection {
         found: Found<'a>,
         input: &mut Input<'a>,
     ) -> Result<Step<'a>, Stop>
-        ensures own { self.old.config.on_malformed ≡ chosen.Reset → Untouched self.old.streams.entries self.new.streams.entries }
+        ensures own { self.old.config.on_malformed ≡ chosen.Reset
+            → Untouched self.old.streams.entries self.new.streams.entries }
         ensures config { self.new.config ≡ self.old.config }
     {
         self.shared.acknowledge(id, &mut self.told)?;
