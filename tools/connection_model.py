@@ -28,6 +28,9 @@ FLAGS, OF_HTTP2 = {CONNECT, DATAGRAM, WEBTRANSPORT_ON}, {0x00, 0x02, 0x03, 0x04,
 # The errors of a stream (8.1).
 OF_STREAM = {0x10D, 0x10E, 0x170D7B68, 0x3994BD84}
 MAX_SECTION, MAX_SETTINGS, MAX_IDLE, MAX_INTERIMS = 65_536, 4096, 1024, 64
+# Those of QPACK: RFC 9204, section 4.1.1, asks for 62 bits, and RFC 7541, section 5.1, leaves it to
+# the decoder what it reads beyond them.
+MAX_INTEGER_BITS, MAX_INTEGER_BYTES = 64, 11
 # What comes of a stream by what became of its session.
 SESSION_FAULTS = {"over": 0x170D7B68, "refused": 0x3994BD84, "impossible": 0x108}
 CRITICAL = {"control", "encoder", "decoder"}
@@ -69,7 +72,8 @@ def settings_in(content, at, end):
 
 def decoder_fault(content):
     """Returns whether the instructions of a decoder stream are more than Stream Cancellations (RFC
-    9204, section 4.4). One that is cut is judged by the bytes that came."""
+    9204, section 4.4). Their integers have at most MAX_INTEGER_BYTES bytes and are below
+    2^MAX_INTEGER_BITS; one that is cut is judged by the bytes that came."""
     at = 0
     while at < len(content):
         if content[at] >> 6 != 1:
@@ -79,7 +83,7 @@ def decoder_fault(content):
         while more and at < len(content):
             value += (content[at] & 127) << shift
             more, shift, at = content[at] >= 128, shift + 7, at + 1
-            if value >= 1 << 62:
+            if value >> MAX_INTEGER_BITS or more and shift == 7 * (MAX_INTEGER_BYTES - 1):
                 return True
     return False
 

@@ -123,9 +123,9 @@ class Maker:
     def wrong_instruction(self):
         """Returns an instruction of QPACK that may not come, sometimes."""
         if self.has_errors and self.rng.random() < 0.1:
-            return self.rng.choice(
-                (b"\x37aaaa", b"\x3f\xe1\x1f", b"\x80", b"\x00", b"\x7f" + b"\xff" * 9)
-            )
+            # (of the latter two the first is still to be read to its end, and the last is too long)
+            wrong = (b"\x37aaaa", b"\x3f\xe1\x1f", b"\x80", b"\x00")
+            return self.rng.choice((*wrong, b"\x7f" + b"\xff" * 9, b"\x7f" + b"\xff" * 10))
         return b""
 
     def session(self):
