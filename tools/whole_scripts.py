@@ -147,13 +147,17 @@ class WholeConnection:
 
     def fault(self):
         """Returns what is wrong, or None."""
-        errors = set()
+        errors, due = set(), set()
         for stream in self.script.streams:
             wanted, code, error = self.wanted_of(stream)
             errors |= error
+            # (what follows a request for a session waits for SETTINGS, or for its answer: a reset
+            # that comes before them drops it, as RFC 9000, section 3.2, allows)
+            waits = any(event[0] == "asked" for event in wanted)
+            due |= set() if waits and stream.left_by else error
             if fault := self.stream_fault(stream, wanted, code):
                 return f"stream {stream.stream}: {fault}"
-        if (self.over is not None) != bool(errors) or errors and self.over not in errors:
+        if self.over not in (errors if due else errors | {None}):
             return f"the connection ends with {self.over}, and not one of {errors}"
         streams = {stream.stream for stream in self.script.streams}
         strange = {*self.told, *self.outputs} - streams
