@@ -1,7 +1,10 @@
+pub mod Closes
 pub mod Codes
 pub mod Config
 pub mod Ids
 pub mod Inputs
 pub mod Own
+pub mod Runs
 pub mod State
 pub mod Streams
+pub mod Theirs

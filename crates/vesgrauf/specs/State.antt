@@ -35,7 +35,7 @@ use Rattle.wtp_connection.specs.declared.connection.Known.TheVariants as known
 use Rattle.wtp_connection.specs.Streams.{known_alone}
 use Rattle.wtp_webtransport.specs.Sessions.{known_of}
 use Rattle.vesgrauf_queue.specs.State.{is_full, Shows}
-use Rattle.vesgrauf.specs.Streams.{IsDue, is_it, Says, shown_session}
+use Rattle.vesgrauf.specs.Streams.{IsDue, is_known, is_it, Says, shown_session}
 use Rattle.vesgrauf.specs.Codes.{number_of}
 use Rattle.vesgrauf.specs.declared.code.StreamCode.{StreamCode}
 use Rattle.vesgrauf.specs.declared.code.StreamCode.TheVariants as codes
@@ -71,7 +71,6 @@ pub record View : Type 0 where
   pub datagrams : List (Vec ℕ Global)
   pub budget : RequestBudget
   pub sessions : ℕ
-  pub peer_decoder : Option ℕ
   pub is_blocked : Bool
   pub is_configured : Bool
   pub is_leaving : Bool
@@ -94,7 +93,6 @@ view_of c = record {
   datagrams = c.datagrams.queue.items;
   budget = c.budget;
   sessions = c.sessions;
-  peer_decoder = c.peer_decoder;
   is_blocked = c.is_blocked;
   is_configured = c.is_configured;
   is_leaving = c.is_leaving;
@@ -414,8 +412,13 @@ pub record IsAfterEnd (c : Connection) : Type 0 where
 abbrev pub told_on : Option Entry → ℕ → EventKind → Step
 told_on None id k = step.More
 told_on (Some e) id k =
-    if e.is_told then step.Told (record { stream = id; session = shown_session id e; user = e.user; kind = k })
+    if is_known e.told then step.Told (record { stream = id; session = shown_session id e; user = e.user; kind = k })
     else step.More
+
+-- the program knows of the stream with this ID, and was not told that it is over
+abbrev pub knows_of : Option Entry → Bool
+knows_of None = false
+knows_of (Some e) = is_known e.told
 
 -- a step tells an event of which this is so, if it tells one
 abbrev pub IsTold : Step → (Event → Type 0) → Type 0

@@ -9,6 +9,8 @@ use Rattle.vesgrauf_stream.specs.declared.reading.Reading.{Reading}
 use Rattle.vesgrauf_stream.specs.declared.writing.Writing.{Writing}
 use Rattle.vesgrauf_stream.specs.Writing.{is_done as is_written}
 use Rattle.vesgrauf.specs.declared.entry.Entry.{Entry}
+use Rattle.vesgrauf.specs.declared.entry.Told.{Told}
+use Rattle.vesgrauf.specs.declared.entry.Told.TheVariants as told
 use Rattle.vesgrauf.specs.declared.entry.Peer.{Peer}
 use Rattle.vesgrauf.specs.declared.entry.Peer.TheVariants as peer
 
@@ -21,7 +23,7 @@ new_entry r p w = record {
   session = None;
   user = None;
   priority = record { urgency = 3; incremental = false };
-  is_told = false;
+  told = told.NotYet;
   is_opened = true;
   is_blocked = false;
   is_paused = false;
@@ -32,6 +34,7 @@ new_entry r p w = record {
   is_ended = false;
   has_tunnel = false;
   is_quiet = false;
+  is_decoder = false;
   withheld = 0;
   since = 0;
   offset = 0;
@@ -40,6 +43,16 @@ new_entry r p w = record {
   stops = None;
   stopped = None;
 }
+
+-- the program knows of it, and was not told that it is over
+abbrev pub is_known : Told → Bool
+is_known told.Known = true
+is_known other = false
+
+-- the program is told of it: one that is over stays so
+abbrev pub becomes_known : Told → Told
+becomes_known told.NotYet = told.Known
+becomes_known other = other
 
 -- its place in the order of sending
 abbrev pub kind_of_entry : Entry → Kind

@@ -7,6 +7,8 @@ mod endings;
 mod failing;
 mod heard;
 mod ids;
+mod leaving;
+mod looking;
 mod malformed;
 mod messages;
 mod opening;
@@ -14,7 +16,9 @@ mod quick;
 mod reading;
 mod sending;
 mod sessions;
+mod steps;
 mod table;
+mod waiting;
 
 use crate::config::Config;
 use crate::connection::ids::Ids;
@@ -74,8 +78,6 @@ pub struct Connection {
     budget: RequestBudget,
     /// How many sessions there are, or may come to be.
     sessions: u32,
-    /// The decoder stream of the peer.
-    peer_decoder: Option<u64>,
     /// How many streams are the peer's critical or ignored ones.
     quiet: usize,
     pending: Pending,
@@ -220,12 +222,13 @@ enum Step<'a> {
 
 impl Connection {
     ghost use Rattle.vesgrauf.specs.Own.{Untouched};
-    ghost use Rattle.vesgrauf.specs.State.{IsAfterEnd, IsSomeOk, is_last};
+    ghost use Rattle.vesgrauf.specs.State.{IsAfterEnd, IsSomeOk, is_last, is_over};
     ghost use Rattle.vesgrauf_queue.specs.State.{waiting};
     ghost use Rattle.vesgrauf.specs.Config.{announced};
     ghost use Rattle.wtp_sending.specs.Control.{settings_bytes};
+    ghost use Rattle.vesgrauf.specs.Theirs.{Left, Tells, TellsAll, IsSilent, told_in, told_by};
     ghost use Rattle.vesgrauf.specs.declared.config.OnMalformed.TheVariants as chosen;
-    ghost use Rattle.std.specs.Prelude.{◌≡◌, if◌then◌else◌, true, Some, None, [], IfOk};
+    ghost use Rattle.std.specs.Prelude.{◌≡◌, if◌then◌else◌, true, false, Some, None, [], IfOk};
 
     /// Creates a connection. Its first outputs open its control stream and, with a dynamic table, its decoder stream.
     ///
@@ -263,7 +266,6 @@ impl Connection {
             datagrams: DatagramQueue::new(alloc),
             budget: RequestBudget::with_excess(config.max_resets),
             sessions: 0,
-            peer_decoder: None,
             quiet: 0,
             pending: Pending::nothing(),
             held: 0,
@@ -292,6 +294,8 @@ impl Connection {
         ensures over { IsAfterEnd self.old → IsAfterEnd self.new }
         ensures own { self.old.config.on_malformed ≡ chosen.Reset
             → Untouched self.old.streams.entries self.new.streams.entries }
+        ensures told { is_over self.new ≡ false → IfOk result (λ e. TellsAll self.old.ids (told_by e)
+            self.old.streams.entries input.old self.new.streams.entries input.new) }
         ensures config { self.new.config ≡ self.old.config }
     {
         if self.is_quiet() {
@@ -308,65 +312,64 @@ impl Connection {
         self.next_by_steps(input)
     }
 
-    // Returns the next event, as `next_event` does, by as many steps as it takes.
-    fn next_by_steps<'a>(&mut self, input: &mut Input<'a>) -> Result<Option<Event<'a>>, AllocError>
-        ensures last { IsAfterEnd self.old → IsSomeOk result (λ e. is_last e.kind ≡ true) }
-        ensures over { IsAfterEnd self.old → IsAfterEnd self.new }
-        ensures own { self.old.config.on_malformed ≡ chosen.Reset
-            → Untouched self.old.streams.entries self.new.streams.entries }
-        ensures config { self.new.config ≡ self.old.config }
-    {
-        for _step in 0..u64::MAX {
-            if let Some(event) = self.events.pop_front() {
-                return Ok(Some(self.numbered(event)));
-            }
-            let stream = self.stream_at_hand(input);
-            let step = match self.ended {
-                Some(ended) => Ok(self.step_after_end(ended, input)),
-                None => self.step(input),
-            };
-            match step {
-                Ok(Step::Told(event)) => return Ok(Some(event)),
-                Ok(Step::Nothing) => return Ok(None),
-                Ok(Step::More) => {}
-                Err(Stop::Memory) => return Err(AllocError),
-                Err(Stop::Broken(code, fault)) => self.fail(stream, code, fault),
-            }
-        }
-        Ok(None)
-    }
-
-    // Returns an event that was queued, with the number that the program has given its stream since.
-    fn numbered<'a>(&self, event: Event<'a>) -> Event<'a>
-        ensures { result.kind ≡ event.entry.kind }
-    {
-        let mut event = event;
-        if let (EventKind::Stopped(_), Some(entry)) = (
-            &event.kind,
-            self.streams.get(&event.stream),
-        ) {
-            event.user = entry.user;
-        }
-        event
-    }
-
     // Takes one step.
+    #[tactic(auto, using(crate::proofs::StepLemmas::left_then_tells))]
     fn step<'a>(&mut self, input: &mut Input<'a>) -> Result<Step<'a>, Stop>
         ensures own { self.old.config.on_malformed ≡ chosen.Reset
             → Untouched self.old.streams.entries self.new.streams.entries }
+        ensures tells { IfOk result (λ s. Tells (told_in s)
+            self.old.streams.entries input.old self.new.streams.entries input.new) }
         ensures config { self.new.config ≡ self.old.config }
     {
         self.prepare()?;
+        self.step_due(input)
+    }
+
+    // Takes a step for a session that opened, or another.
+    fn step_due<'a>(&mut self, input: &mut Input<'a>) -> Result<Step<'a>, Stop>
+        ensures own { self.old.config.on_malformed ≡ chosen.Reset
+            → Untouched self.old.streams.entries self.new.streams.entries }
+        ensures tells { IfOk result (λ s. Tells (told_in s)
+            self.old.streams.entries input.old self.new.streams.entries input.new) }
+        ensures config { self.new.config ≡ self.old.config }
+    {
         if let Some(session) = self.session_opened() {
             return Ok(self.step_opened(session));
         }
+        self.step_read(input)
+    }
+
+    // Takes a step by what is kept of a stream that is read again, or by what the input reports.
+    fn step_read<'a>(&mut self, input: &mut Input<'a>) -> Result<Step<'a>, Stop>
+        ensures own { self.old.config.on_malformed ≡ chosen.Reset
+            → Untouched self.old.streams.entries self.new.streams.entries }
+        ensures tells { IfOk result (λ s. Tells (told_in s)
+            self.old.streams.entries input.old self.new.streams.entries input.new) }
+        ensures config { self.new.config ≡ self.old.config }
+    {
         if let Some(id) = self.pending.resumed {
             return self.read_kept(id);
         }
+        self.take_input(input)
+    }
+
+    // Takes a step by what the input reports.
+    #[tactic(auto, using(crate::proofs::ReadsLemmas::reported_tells))]
+    fn take_input<'a>(&mut self, input: &mut Input<'a>) -> Result<Step<'a>, Stop>
+        ensures own { self.old.config.on_malformed ≡ chosen.Reset
+            → Untouched self.old.streams.entries self.new.streams.entries }
+        ensures tells { IfOk result (λ s. Tells (told_in s)
+            self.old.streams.entries input.old self.new.streams.entries input.new) }
+        ensures config { self.new.config ≡ self.old.config }
+    {
         match input.report {
             Report::Nothing => self.step_alone(),
             Report::Stream(id) => self.stream_came(id, input),
-            Report::Datagram => self.datagram_came(input),
+            Report::Datagram => {
+                let step = self.datagram_came(input.chunk.all())?;
+                input.report = Report::Nothing;
+                Ok(step)
+            }
             _ => {
                 self.report_came(input.report)?;
                 input.report = Report::Nothing;
@@ -378,6 +381,7 @@ impl Connection {
     // Takes in a report without bytes.
     fn report_came(&mut self, report: Report) -> Result<(), Stop>
         ensures own { Untouched self.old.streams.entries self.new.streams.entries }
+        ensures left { Left self.old.streams.entries self.new.streams.entries }
         ensures config { self.new.config ≡ self.old.config }
     {
         match report {
@@ -405,9 +409,11 @@ impl Connection {
     // Does what is due before anything else, and reserves the memory that a step takes.
     fn prepare(&mut self) -> Result<(), Stop>
         ensures own { Untouched self.old.streams.entries self.new.streams.entries }
+        ensures left { Left self.old.streams.entries self.new.streams.entries }
         ensures config { self.new.config ≡ self.old.config }
     {
         self.reserve_all()?;
+        self.shared.increment(&mut self.told)?;
         self.begin_table()?;
         self.queue_instructions()?;
         self.check_instructions()
@@ -416,6 +422,8 @@ impl Connection {
     // Takes a step without an input.
     fn step_alone<'a>(&mut self) -> Result<Step<'a>, Stop>
         ensures own { Untouched self.old.streams.entries self.new.streams.entries }
+        ensures left { Left self.old.streams.entries self.new.streams.entries }
+        ensures silent { IfOk result IsSilent }
         ensures config { self.new.config ≡ self.old.config }
     {
         if let Some(first) = self.pending.unprocessed {

@@ -23,6 +23,17 @@ pub(crate) enum Peer {
     Over,
 }
 
+/// What the program knows of a stream, once it is told what is queued.
+#[derive(Clone, Copy, Debug, PartialEq, Eq)]
+pub(crate) enum Told {
+    /// Nothing: no event of it but failures was told or queued, and the program did not open it.
+    NotYet,
+    /// That it is there.
+    Known,
+    /// That it is over; or nothing, and nothing will be told. It stays so.
+    Over,
+}
+
 /// One stream of a connection.
 #[derive(Drop)]
 pub(crate) struct Entry {
@@ -38,8 +49,8 @@ pub(crate) struct Entry {
     pub(crate) user: Option<u64>,
     /// Its priority.
     pub(crate) priority: Priority,
-    /// Whether the program knows of it, and was not told that it is over.
-    pub(crate) is_told: bool,
+    /// What the program knows of it.
+    pub(crate) told: Told,
     /// Whether QUIC has opened it.
     pub(crate) is_opened: bool,
     /// Whether QUIC takes nothing of it.
@@ -56,10 +67,12 @@ pub(crate) struct Entry {
     pub(crate) has_session: bool,
     /// Whether the end of the peer's half came.
     pub(crate) is_ended: bool,
-    /// Whether the message asks for a tunnel other than a session.
+    /// Whether the message asks for a tunnel other than a session, which the server has not accepted, if this is one.
     pub(crate) has_tunnel: bool,
     /// Whether the peer keeps it for the connection: the control stream, those of QPACK, and those that are ignored.
     pub(crate) is_quiet: bool,
+    /// Whether its bytes are instructions for the own encoder: the peer's decoder stream (RFC 9204, section 4.2).
+    pub(crate) is_decoder: bool,
     /// How many of the bytes that are kept QUIC's windows were not extended by.
     pub(crate) withheld: usize,
     /// How many ticks there were when it named its session.
@@ -77,14 +90,16 @@ pub(crate) struct Entry {
 }
 
 impl Entry {
-    ghost use Rattle.std.specs.Prelude.{◌≡◌, ◌-◌, ◌&&◌, ◌↔◌, true, not, if◌then◌else◌, Some, IsTrue, IfOk, IfErr, OnOk, OnErr, length};
+    ghost use Rattle.vesgrauf.specs.Theirs.{Gone, theirs_of};
+    ghost use Rattle.vesgrauf.specs.declared.entry.Peer.TheVariants as peer;
+    ghost use Rattle.std.specs.Prelude.{◌≡◌, ◌-◌, ◌&&◌, ◌↔◌, true, false, not, if◌then◌else◌, Some, IsTrue, IfOk, IfErr, OnOk, OnErr, length};
     ghost use Rattle.vesgrauf_stream.specs.Reading.{kept_of};
     ghost use Rattle.vesgrauf_stream.specs.Writing.{Sends};
     ghost use Rattle.vesgrauf.specs.Own.{own_of, Took};
     ghost use Rattle.vesgrauf.specs.State.{OwnHalf, RefusesBytes, StaysOf};
     ghost use Rattle.vesgrauf_queue.specs.State.{IsIdle};
     ghost use Rattle.vesgrauf.specs.declared.refused.Refused.TheVariants as refused;
-    ghost use Rattle.vesgrauf.specs.Streams.{new_entry, kind_of_entry, may_send as may_send_is, is_done as is_done_is, shown_session};
+    ghost use Rattle.vesgrauf.specs.Streams.{new_entry, kind_of_entry, is_known as is_known_is, becomes_known, may_send as may_send_is, is_done as is_done_is, shown_session};
 
     // Creates the entry of a stream of which nothing came.
     pub(crate) fn new(reading: Reading, peer: Peer, writing: Writing) -> Self
@@ -97,7 +112,7 @@ impl Entry {
             session: None,
             user: None,
             priority: Priority::DEFAULT,
-            is_told: false,
+            told: Told::NotYet,
             is_opened: true,
             is_blocked: false,
             is_paused: false,
@@ -108,6 +123,7 @@ impl Entry {
             is_ended: false,
             has_tunnel: false,
             is_quiet: false,
+            is_decoder: false,
             withheld: 0,
             since: 0,
             offset: 0,
@@ -123,6 +139,22 @@ impl Entry {
         ensures { result ≡ kind_of_entry self.now }
     {
         Kind::Message(self.priority)
+    }
+
+    // Returns whether the program knows of it, and was not told that it is over.
+    pub(crate) fn is_known(&self) -> bool
+        ensures { result ≡ is_known_is self.now.told }
+    {
+        self.told == Told::Known
+    }
+
+    // The program is told of it. One that is over stays so.
+    pub(crate) fn know(&mut self)
+        ensures { self.new ≡ record self.old { told = becomes_known self.old.told } }
+    {
+        if self.told == Told::NotYet {
+            self.told = Told::Known;
+        }
     }
 
     // Returns whether it has another priority than it has unless the program says so.
@@ -154,6 +186,17 @@ impl Entry {
         ensures { result ≡ is_done_is self.now }
     {
         self.peer == Peer::Over && self.is_opened && self.writing.is_done()
+    }
+
+    // Returns whether the peer's half is read.
+    pub(crate) fn is_read(&self) -> bool
+        ensures reads { result ≡ true → self.now.peer ≡ peer.Reads }
+        ensures gone { result ≡ false → theirs_of self.now ≡ Gone }
+    {
+        match self.peer {
+            Peer::Reads => true,
+            Peer::Drops | Peer::Over => false,
+        }
     }
 
     // Queues content, or bytes of a stream of a session. Where the program was told that the stream is full, they are

@@ -4,6 +4,7 @@ use crate::output::StreamKind;
 pub use vesgrauf_stream::bytes::Bytes;
 use wtp_connection::settings::PeerSettings;
 use wtp_fields::fields::FieldList;
+use wtp_frames::endpoint::Side;
 use wtp_messages::malformed::Malformed;
 use wtp_webtransport::close::Close;
 use wtp_webtransport::fault::Fault;
@@ -67,8 +68,9 @@ pub enum EventKind<'a> {
     Reset(StreamCode),
     /// The peer asked to stop the own half, with this code. It is reset.
     Stopped(StreamCode),
-    /// The peer violated a rule on the stream, of which the program may not know. It comes if
-    /// [`tells_failures`](crate::config::Config) is set, before the `Closed` of a stream that the program knows of.
+    /// The peer violated a rule on the stream, of which the program may not know yet. It comes if
+    /// [`tells_failures`](crate::config::Config) is set, before the `Closed` of a stream that the program knows of, and
+    /// never after it.
     Failed(Failure),
     /// There is room again on the stream.
     Writable,
@@ -129,8 +131,39 @@ pub enum Why {
     ConnectionClosed,
 }
 
+impl Why {
+    ghost use Rattle.std.specs.Prelude.{◌≡◌, None, Some, MatchOption};
+    ghost use Rattle.vesgrauf.specs.Closes.{IsText, close_in};
+
+    /// Returns the code and the reason with which the peer closed the session of this stream, if it did.
+    pub fn session_close(&self) -> Option<(u32, &str)>
+        ensures { MatchOption result (close_in self.now ≡ None)
+            (λ x. IsText (close_in self.now) x.0 x.1.now) }
+    {
+        match self {
+            Why::Session(close) => {
+                let reason = str::from_utf8(close.reason()).unwrap_or("");
+                Some((close.code(), reason))
+            }
+            _ => None,
+        }
+    }
+}
+
 impl<'a> Event<'a> {
-    ghost use Rattle.std.specs.Prelude.{◌≡◌, None};
+    ghost use Rattle.std.specs.Prelude.{◌≡◌, ◌%◌, ◌==◌, None};
+    ghost use Rattle.vesgrauf.specs.Ids.{own_bit};
+
+    /// Returns whether this side opened the stream. Of an event of the connection it says nothing.
+    pub fn is_own(&self, side: Side) -> bool
+        ensures { result ≡ (self.now.stream % 2 == own_bit side) }
+    {
+        let bit = match side {
+            Side::Client => 0,
+            Side::Server => 1,
+        };
+        self.stream % 2 == bit
+    }
 
     // Creates an event of the connection.
     pub(crate) fn of_connection(kind: EventKind<'a>) -> Self

@@ -36,7 +36,7 @@ pub(crate) enum Report {
 impl<'a> Input<'a> {
     ghost use Rattle.std.specs.Prelude.{◌≡◌, false, []};
     ghost use Rattle.vesgrauf.specs.declared.input.Report.TheVariants.{Nothing, Stream, Reset, Stopped, Closed, Datagram, DatagramLimit, ConnectionClosed};
-    ghost use Rattle.vesgrauf.specs.Inputs.{Brings};
+    ghost use Rattle.vesgrauf.specs.Inputs.{Brings, IsSameOrRead};
 
     /// Bytes of a stream came. `fin`: the stream ends after them.
     pub fn stream(id: u64, bytes: &'a [u8], fin: bool) -> Self
@@ -121,14 +121,30 @@ impl<'a> Input<'a> {
     }
 
     // Counts what was taken in of `len` bytes.
-    pub(crate) fn count(&mut self, len: usize) {
+    pub(crate) fn count(&mut self, len: usize)
+        ensures report { self.new.report ≡ self.old.report }
+        ensures chunk { self.new.chunk ≡ self.old.chunk }
+    {
         self.credit = self
             .credit
             .saturating_add(len.saturating_sub(self.chunk.len()));
     }
 
+    // Nothing is left to report if all bytes are taken in, if that may be said, and if the stream does not end after them.
+    pub(crate) fn end_if_read(&mut self, may_end: bool)
+        ensures { IsSameOrRead self.old self.new }
+    {
+        if may_end && self.chunk.len() == 0 && !self.chunk.is_last() {
+            self.report = Report::Nothing;
+        }
+    }
+
     // Drops what is not taken in, and counts it.
-    pub(crate) fn drop_rest(&mut self) {
+    pub(crate) fn drop_rest(&mut self)
+        ensures report { self.new.report ≡ self.old.report }
+        ensures bytes { self.new.chunk.bytes.now ≡ [] }
+        ensures fin { self.new.chunk.fin ≡ self.old.chunk.fin }
+    {
         self.credit = self.credit.saturating_add(self.chunk.len());
         self.chunk = Chunk::new(&[], self.chunk.is_last());
     }

@@ -69,7 +69,7 @@ pub struct NotSent {
 }
 
 impl Refused {
-    ghost use Rattle.std.specs.Prelude.{◌≡◌};
+    ghost use Rattle.std.specs.Prelude.{◌≡◌, if◌then◌else◌, None, Some, Ok, Err, MatchResult};
     ghost use Rattle.vesgrauf.specs.State.{is_gone};
 
     /// Returns whether what the call is about is over: the connection, the session, the stream or its own half. The same
@@ -81,6 +81,27 @@ impl Refused {
             self,
             Refused::Closed | Refused::NoStream | Refused::Over | Refused::SessionGone
         )
+    }
+
+    /// Returns what a call returned, or `None` if what it is about is over: the peer may end that at any time.
+    ///
+    /// # Errors
+    ///
+    /// Any other reason for which the call is refused.
+    pub fn unless_gone<T>(answer: Result<T, Refused>) -> Result<Option<T>, Refused>
+        ensures { MatchResult answer (λ x. result ≡ Ok (Some x))
+            (λ e. result ≡ (if is_gone e then Ok None else Err e)) }
+    {
+        match answer {
+            Ok(value) => Ok(Some(value)),
+            Err(refused) => {
+                if refused.is_gone() {
+                    Ok(None)
+                } else {
+                    Err(refused)
+                }
+            }
+        }
     }
 }
 

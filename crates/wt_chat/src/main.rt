@@ -7,7 +7,7 @@ mod room;
 
 use crate::guests::{Guests, Todo};
 use crate::parts::{AFTERWARDS, ARRIVING, LEAVING, ONE_MORE, TALKING};
-use crate::room::{Phase, Room};
+use crate::room::Room;
 use anyhow::{Result, bail};
 use std::alloc::Global;
 use test_network::conditions::Conditions;
@@ -51,9 +51,9 @@ fn evening(alloc: Global, conditions: Conditions, seed: u64) -> Result<Vec<Strin
     play(alloc, &mut network, "arriving", &ARRIVING, &mut lines)?;
     play(alloc, &mut network, "one more", &ONE_MORE, &mut lines)?;
     play(alloc, &mut network, "talking", &TALKING, &mut lines)?;
-    network.server.close(Phase::Draining);
+    network.server.tick();
     play(alloc, &mut network, "leaving", &LEAVING, &mut lines)?;
-    network.server.close(Phase::Closed);
+    network.server.tick();
     play(alloc, &mut network, "closing", &[], &mut lines)?;
     play(alloc, &mut network, "afterwards", &AFTERWARDS, &mut lines)?;
     Ok(lines)

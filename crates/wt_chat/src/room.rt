@@ -5,8 +5,8 @@ use std::collections::{BTreeMap, VecDeque};
 use test_network::handler::Handler;
 use vesgrauf::connection::Connection;
 use vesgrauf::event::{Event, EventKind, Tunnel, Why};
-use vesgrauf::output::{Shutdown, StreamKind};
-use vesgrauf::{FieldList, Priority, StatusCode};
+use vesgrauf::output::StreamKind;
+use vesgrauf::{FieldList, Priority, Side, StatusCode};
 
 /// The most members, and the most lines that a member has not taken.
 const MAX_MEMBERS: usize = 3;
@@ -20,6 +20,9 @@ pub const TOO_LONG: u32 = 1;
 
 /// The code with which a session is closed whose member does not take its lines.
 const TOO_SLOW: u32 = 2;
+
+/// The tick at which members that did not leave are dismissed, once the room closes.
+const LAST_TICK: u32 = 10;
 
 /// Where the pages come from that may open sessions.
 const ORIGIN: &[u8] = b"https://chat.example";
@@ -50,23 +53,15 @@ enum Mail {
     Datagram(Vec<u8>),
 }
 
-/// How far the room is closed.
-#[derive(Clone, Copy, Debug, PartialEq, Eq)]
-pub enum Phase {
-    Open,
-    Draining,
-    Closed,
-}
-
 /// A room.
 #[derive(Drop)]
 pub struct Room {
     alloc: Global,
     /// What happened.
     pub log: Vec<String>,
-    /// How far the room is to be closed, and how far each connection knows of it.
-    phase: Phase,
-    told: BTreeMap<usize, Phase>,
+    /// How many ticks there were since the room closes, and how many each connection knows of.
+    ticks: u32,
+    told: BTreeMap<usize, u32>,
     members: BTreeMap<Place, Member>,
     /// What came of each line.
     lines: BTreeMap<Place, Vec<u8>>,
@@ -78,6 +73,7 @@ pub struct Room {
 
 impl Handler for Room {
     fn event(&mut self, peer: usize, on: &mut Connection, event: Event<'_>) -> Result<()> {
+        let is_own = event.is_own(Side::Server);
         let Event {
             stream,
             session,
@@ -100,14 +96,14 @@ impl Handler for Room {
             EventKind::Datagram(bytes) => self.hear_datagram(place, bytes.as_slice()),
             EventKind::Writable => self.download(on, place),
             EventKind::Stopped(_) => self.stop_download(place),
-            EventKind::Closed(why) => self.closed(place, session, &why),
+            EventKind::Closed(why) => self.closed(place, session, is_own, &why),
             EventKind::Idle => self.note("nothing is left on a connection"),
             _ => Ok(()),
         }
     }
 
     fn turn(&mut self, peer: usize, on: &mut Connection) -> Result<()> {
-        self.tell(peer, on)?;
+        self.wind_down(peer, on)?;
         let Some(mut mail) = self.mail.remove(&peer) else {
             return Ok(());
         };
@@ -131,7 +127,7 @@ impl Room {
         Room {
             alloc,
             log: Vec::new(alloc),
-            phase: Phase::Open,
+            ticks: 0,
             told: BTreeMap::new(alloc),
             members: BTreeMap::new(alloc),
             lines: BTreeMap::new(alloc),
@@ -140,9 +136,9 @@ impl Room {
         }
     }
 
-    /// Closes the room as far as this. Each connection is told at its next turn.
-    pub fn close(&mut self, phase: Phase) {
-        self.phase = phase;
+    /// Goes on with closing the room. Each connection is told at its next turn.
+    pub fn tick(&mut self) {
+        self.ticks = self.ticks.saturating_add(1);
     }
 
     /// Answers a request for a page.
@@ -323,23 +319,25 @@ impl Room {
     }
 
     /// Forgets a stream that is over. The own stream of a session is that of a member.
-    fn closed(&mut self, place: Place, session: Option<u64>, why: &Why) -> Result<()> {
+    fn closed(
+        &mut self,
+        place: Place,
+        session: Option<u64>,
+        is_own: bool,
+        why: &Why,
+    ) -> Result<()> {
         self.lines.remove(&place);
         self.downloads.remove(&place);
         if let Some(member) = self.members.remove(&place) {
-            let line = match why {
-                Why::Session(close) => {
-                    let reason = text(close.reason());
-                    format!(in self.alloc;
-                        "{} left with code {}: {reason}",
-                        member.name,
-                        close.code()
-                    )?
+            let name = member.name;
+            let line = match why.session_close() {
+                Some((code, reason)) => {
+                    format!(in self.alloc; "{name} left with code {code}: {reason}")?
                 }
-                _ => format!(in self.alloc; "{} is gone", member.name)?,
+                None => format!(in self.alloc; "{name} is gone")?,
             };
             self.log.push(line)?;
-        } else if let Some(session) = session {
+        } else if let (true, Some(session)) = (is_own, session) {
             let from = Place {
                 peer: place.peer,
                 stream: session,
@@ -354,32 +352,12 @@ impl Room {
 
 /// The end.
 impl Room {
-    /// Tells a connection how far the room is closed.
-    fn tell(&mut self, peer: usize, on: &mut Connection) -> Result<()> {
-        let told = match self.told.get(&peer) {
-            Some(told) => *told,
-            None => Phase::Open,
-        };
-        if told == self.phase {
-            return Ok(());
-        }
-        self.told.insert(peer, self.phase)?;
-        match self.phase {
-            Phase::Open => Ok(()),
-            Phase::Draining => {
-                on.shutdown(Shutdown::Notice)?;
-                self.drain(peer, on)
-            }
-            Phase::Closed => Ok(on.shutdown(Shutdown::Final)?),
-        }
-    }
-
-    /// Asks the members of a connection to leave.
-    fn drain(&mut self, peer: usize, on: &mut Connection) -> Result<()> {
-        for (place, _) in &self.members {
-            if place.peer == peer {
-                on.drain_session(place.stream)?;
-            }
+    /// Takes the next step to the end of a connection, if the room closes.
+    fn wind_down(&mut self, peer: usize, on: &mut Connection) -> Result<()> {
+        let told = self.told.get(&peer).copied().unwrap_or(0);
+        if told < self.ticks {
+            on.wind_down(told, LAST_TICK)?;
+            self.told.insert(peer, told.saturating_add(1))?;
         }
         Ok(())
     }

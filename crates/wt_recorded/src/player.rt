@@ -150,12 +150,9 @@ impl Player {
         };
         let list = FieldList::response(self.alloc, status)?;
         let number = status.into_inner();
+        // (by the end of a response that refuses a CONNECT, what the peer sends on would be stopped)
         accept(on.respond(id, &list, !connects))?;
         if connects {
-            // (by `fin` of the response, what the peer sends on would be stopped)
-            if number >= 300 {
-                accept(on.finish(id))?;
-            }
             self.lines.number(id, "answered", u64::from(number))?;
         }
         Ok(())

@@ -3,6 +3,7 @@ ghost use Rattle.std.specs.Prelude.{◌≡◌, is_some, is_ok, true, Some, None,
 ghost use Rattle.vesgrauf.specs.State.{code_on, named_at, Becomes, Pauses, Prioritizes, IsStill, IsRefusedBy, IsWhyNamed};
 ghost use Rattle.vesgrauf.specs.declared.refused.Refused.TheVariants as refused;
 ghost use Rattle.vesgrauf.specs.Own.{Untouched};
+ghost use Rattle.vesgrauf.specs.Theirs.{Left};
 
 use crate::code::StreamCode;
 use crate::connection::Connection;
@@ -22,6 +23,7 @@ impl Connection {
         ensures fits { OnOk result (is_ok (code_on self.old id code) ≡ true) }
         ensures refused { IfErr result (λ e. IsRefusedBy (code_on self.old id code) e self.old self.new) }
         ensures own { Untouched self.old.streams.entries self.new.streams.entries }
+        ensures left { Left self.old.streams.entries self.new.streams.entries }
         ensures config { self.new.config ≡ self.old.config }
     {
         let code = self.code_for(id, code)?;
@@ -43,6 +45,7 @@ impl Connection {
         ensures fits { OnOk result (is_ok (code_on self.old id code) ≡ true) }
         ensures refused { IfErr result (λ e. IsRefusedBy (code_on self.old id code) e self.old self.new) }
         ensures own { Untouched self.old.streams.entries self.new.streams.entries }
+        ensures left { Left self.old.streams.entries self.new.streams.entries }
         ensures config { self.new.config ≡ self.old.config }
     {
         let code = self.code_for(id, code)?;
@@ -63,6 +66,7 @@ impl Connection {
         ensures fits { OnOk result (is_ok (code_on self.old id code) ≡ true) }
         ensures refused { IfErr result (λ e. IsRefusedBy (code_on self.old id code) e self.old self.new) }
         ensures own { Untouched self.old.streams.entries self.new.streams.entries }
+        ensures left { Left self.old.streams.entries self.new.streams.entries }
         ensures config { self.new.config ≡ self.old.config }
     {
         let code = self.code_for(id, code)?;
@@ -79,6 +83,7 @@ impl Connection {
     // the stream.
     fn end_if_session(&mut self, id: u64, code: u64, always: bool) -> Result<(), AllocError>
         ensures own { Untouched self.old.streams.entries self.new.streams.entries }
+        ensures left { Left self.old.streams.entries self.new.streams.entries }
         ensures config { self.new.config ≡ self.old.config }
     {
         let has_session = match self.streams.get(&id) {

@@ -1,13 +1,16 @@
 //! Streams that are closed, and sessions that end.
-ghost use Rattle.std.specs.Prelude.{◌≡◌};
+ghost use Rattle.std.specs.Prelude.{◌≡◌, false, OnOk};
+ghost use Rattle.vesgrauf.specs.State.{stream_at, knows_of};
 ghost use Rattle.vesgrauf.specs.Own.{Untouched};
+ghost use Rattle.vesgrauf.specs.Theirs.{Left, Gone, theirs_at};
 
 use crate::code::StreamCode;
 use crate::connection::{Connection, Step};
-use crate::entry::{Member, Peer};
+use crate::entry::{Member, Peer, Told};
 use crate::event::{EventKind, Why};
 use crate::output::Output;
 use std::alloc::AllocError;
+use wtp_connection::connection::Known;
 use wtp_core::error::Code;
 
 /// The status of the answer that a CONNECT request gets by a reset: what follows it is read as of one that is refused.
@@ -17,22 +20,24 @@ impl Connection {
     // Closes both halves of a stream at once.
     pub(super) fn shut(&mut self, id: u64, code: Code, why: Why) -> Result<(), AllocError>
         ensures own { Untouched self.old.streams.entries self.new.streams.entries }
+        ensures left { Left self.old.streams.entries self.new.streams.entries }
         ensures config { self.new.config ≡ self.old.config }
     {
         let code = code.number().into_inner();
-        self.cancel(id)?;
         self.reset_own(id, code)?;
         self.stop_peer(id, code)?;
         self.end_session(id)?;
         self.tell_failure(id, &why)?;
         self.closed(id, why)?;
+        self.cancel_left(id);
         self.remove_if_done(id)
     }
 
     // Resets the own half.
-    #[tactic(auto, using(crate::proofs::OwnLemmas::untouched_set))]
+    #[tactic(auto, using(crate::proofs::OwnLemmas::untouched_set, crate::proofs::TheirsLemmas::left_set))]
     pub(super) fn reset_own(&mut self, id: u64, code: u64) -> Result<(), AllocError>
         ensures own { Untouched self.old.streams.entries self.new.streams.entries }
+        ensures left { Left self.old.streams.entries self.new.streams.entries }
         ensures config { self.new.config ≡ self.old.config }
     {
         let Some(entry) = self.streams.get_mut(&id) else {
@@ -56,9 +61,10 @@ impl Connection {
 
     // Resets an own half of which QUIC took the end, unless all of it is acknowledged: QUIC may still send some of it (RFC
     // 9000, section 3.5). Returns whether it is reset.
-    #[tactic(auto, using(crate::proofs::OwnLemmas::untouched_set))]
+    #[tactic(auto, using(crate::proofs::OwnLemmas::untouched_set, crate::proofs::TheirsLemmas::left_set))]
     pub(super) fn reset_ended(&mut self, id: u64, code: u64) -> Result<bool, AllocError>
         ensures own { Untouched self.old.streams.entries self.new.streams.entries }
+        ensures left { Left self.old.streams.entries self.new.streams.entries }
         ensures config { self.new.config ≡ self.old.config }
     {
         let Some(entry) = self.streams.get_mut(&id) else {
@@ -77,9 +83,10 @@ impl Connection {
     }
 
     // Asks the peer to stop its half, which is read no further.
-    #[tactic(auto, using(crate::proofs::OwnLemmas::untouched_set))]
+    #[tactic(auto, using(crate::proofs::OwnLemmas::untouched_set, crate::proofs::TheirsLemmas::left_set))]
     pub(super) fn stop_peer(&mut self, id: u64, code: u64) -> Result<(), AllocError>
         ensures own { Untouched self.old.streams.entries self.new.streams.entries }
+        ensures left { Left self.old.streams.entries self.new.streams.entries }
         ensures config { self.new.config ≡ self.old.config }
     {
         let Some(entry) = self.streams.get_mut(&id) else {
@@ -96,22 +103,24 @@ impl Connection {
             }
         }
         entry.reading.abandon(&mut self.shared);
-        entry.peer = Peer::Over;
-        self.drop_kept(id)
+        self.leave_peer(id, true)
     }
 
     // There is nothing left to stop: the end of the peer's half came, or a reset.
     pub(super) fn forget_stop(&mut self, id: u64)
         ensures own { Untouched self.old.streams.entries self.new.streams.entries }
+        ensures left { Left self.old.streams.entries self.new.streams.entries }
         ensures config { self.new.config ≡ self.old.config }
     {
         self.outputs.retain(|output| !is_stop(output, id));
     }
 
     // Reads the peer's half no further, whose end is still to come.
-    #[tactic(auto, using(crate::proofs::OwnLemmas::untouched_set))]
+    #[tactic(auto, using(crate::proofs::OwnLemmas::untouched_set, crate::proofs::TheirsLemmas::left_set))]
     pub(super) fn drop_peer(&mut self, id: u64) -> Result<(), AllocError>
         ensures own { Untouched self.old.streams.entries self.new.streams.entries }
+        ensures left { Left self.old.streams.entries self.new.streams.entries }
+        ensures gone { OnOk result (theirs_at self.new.streams.entries id ≡ Gone) }
         ensures config { self.new.config ≡ self.old.config }
     {
         let Some(entry) = self.streams.get_mut(&id) else {
@@ -121,24 +130,23 @@ impl Connection {
             return Ok(());
         }
         entry.reading.abandon(&mut self.shared);
-        entry.peer = if entry.is_ended {
-            Peer::Over
-        } else {
-            Peer::Drops
-        };
-        self.drop_kept(id)
+        let is_over = entry.is_ended;
+        self.leave_peer(id, is_over)
     }
 
-    // Drops what is kept of a stream.
-    #[tactic(auto, using(crate::proofs::OwnLemmas::untouched_set))]
-    pub(super) fn drop_kept(&mut self, id: u64) -> Result<(), AllocError>
+    // The peer's half is read no further: it is over, or what comes is dropped until its end. What is kept of it is dropped.
+    #[tactic(auto, using(crate::proofs::OwnLemmas::untouched_set, crate::proofs::TheirsLemmas::left_set, crate::proofs::ReadsLemmas::gone_set))]
+    fn leave_peer(&mut self, id: u64, is_over: bool) -> Result<(), AllocError>
         ensures own { Untouched self.old.streams.entries self.new.streams.entries }
+        ensures left { Left self.old.streams.entries self.new.streams.entries }
+        ensures gone { theirs_at self.new.streams.entries id ≡ Gone }
         ensures config { self.new.config ≡ self.old.config }
     {
         self.waiting.remove(&id);
         let Some(entry) = self.streams.get_mut(&id) else {
             return Ok(());
         };
+        entry.peer = if is_over { Peer::Over } else { Peer::Drops };
         let before = entry.credited();
         entry.reading.drop_kept();
         let owed = entry.withheld;
@@ -148,22 +156,22 @@ impl Connection {
     }
 
     // The peer's half is over.
-    #[tactic(auto, using(crate::proofs::OwnLemmas::untouched_set))]
+    #[tactic(auto, using(crate::proofs::OwnLemmas::untouched_set, crate::proofs::TheirsLemmas::left_set, crate::proofs::ReadsLemmas::gone_left))]
     pub(super) fn peer_is_over(&mut self, id: u64) -> Result<(), AllocError>
         ensures own { Untouched self.old.streams.entries self.new.streams.entries }
+        ensures left { Left self.old.streams.entries self.new.streams.entries }
+        ensures gone { OnOk result (theirs_at self.new.streams.entries id ≡ Gone) }
         ensures config { self.new.config ≡ self.old.config }
     {
-        if let Some(entry) = self.streams.get_mut(&id) {
-            entry.peer = Peer::Over;
-        }
-        self.drop_kept(id)?;
+        self.leave_peer(id, true)?;
         self.remove_if_done(id)
     }
 
     // Ends the own half after what is queued, if a message may end there.
-    #[tactic(auto, using(crate::proofs::OwnLemmas::untouched_set))]
+    #[tactic(auto, using(crate::proofs::OwnLemmas::untouched_set, crate::proofs::TheirsLemmas::left_set))]
     pub(super) fn end_own(&mut self, id: u64) -> Result<(), AllocError>
         ensures own { Untouched self.old.streams.entries self.new.streams.entries }
+        ensures left { Left self.old.streams.entries self.new.streams.entries }
         ensures config { self.new.config ≡ self.old.config }
     {
         let Some(entry) = self.streams.get_mut(&id) else {
@@ -180,9 +188,10 @@ impl Connection {
 
     // Ends the session whose own stream this is, if it is one: its streams are closed (draft-ietf-webtrans-http3-02,
     // section 5).
-    #[tactic(auto, using(crate::proofs::OwnLemmas::untouched_set))]
+    #[tactic(auto, using(crate::proofs::OwnLemmas::untouched_set, crate::proofs::TheirsLemmas::left_set))]
     pub(super) fn end_session(&mut self, session: u64) -> Result<(), AllocError>
         ensures own { Untouched self.old.streams.entries self.new.streams.entries }
+        ensures left { Left self.old.streams.entries self.new.streams.entries }
         ensures config { self.new.config ≡ self.old.config }
     {
         let Some(entry) = self.streams.get_mut(&session) else {
@@ -217,6 +226,7 @@ impl Connection {
     // reset.
     fn cut(&mut self, id: u64) -> Result<(), AllocError>
         ensures own { Untouched self.old.streams.entries self.new.streams.entries }
+        ensures left { Left self.old.streams.entries self.new.streams.entries }
         ensures config { self.new.config ≡ self.old.config }
     {
         let gone = Code::WEBTRANSPORT_SESSION_GONE;
@@ -255,23 +265,50 @@ impl Connection {
     }
 
     // Tells the program that a stream is over, if it knows of the stream.
-    #[tactic(auto, using(crate::proofs::OwnLemmas::untouched_set))]
+    #[tactic(auto, using(crate::proofs::OwnLemmas::untouched_set, crate::proofs::TheirsLemmas::left_set))]
     pub(super) fn closed(&mut self, id: u64, why: Why) -> Result<(), AllocError>
         ensures own { Untouched self.old.streams.entries self.new.streams.entries }
+        ensures left { Left self.old.streams.entries self.new.streams.entries }
         ensures config { self.new.config ≡ self.old.config }
+        ensures done { OnOk result (knows_of (stream_at self.new id) ≡ false) }
     {
         if let Step::Told(event) = self.tell(id, EventKind::Closed(why)) {
             self.events.push_back(event)?;
         }
         if let Some(entry) = self.streams.get_mut(&id) {
-            entry.is_told = false;
+            entry.told = Told::Over;
         }
         Ok(())
+    }
+
+    // QUIC took the end of the own half of a stream: what follows of a CONNECT that was refused is stopped.
+    pub(super) fn after_end(&mut self, id: u64) -> Result<(), AllocError>
+        ensures own { Untouched self.old.streams.entries self.new.streams.entries }
+        ensures left { Left self.old.streams.entries self.new.streams.entries }
+        ensures config { self.new.config ≡ self.old.config }
+    {
+        if self.has_refused(id) {
+            return self.stop_refused(id);
+        }
+        self.remove_if_done(id)
+    }
+
+    // Returns whether a server refused the CONNECT request on a stream, by a response that QUIC took to its end, and still
+    // reads what follows.
+    fn has_refused(&self, id: u64) -> bool {
+        let Some(entry) = self.streams.get(&id) else {
+            return false;
+        };
+        let known = entry.reading.known(&self.shared);
+        let refuses = entry.has_tunnel || entry.is_session && matches!(known, Known::Refused);
+        let is_sent = entry.writing.is_finished() && entry.writing.is_done();
+        self.is_server() && refuses && is_sent && entry.peer == Peer::Reads
     }
 
     // Forgets a stream of which both halves are over.
     pub(super) fn remove_if_done(&mut self, id: u64) -> Result<(), AllocError>
         ensures own { Untouched self.old.streams.entries self.new.streams.entries }
+        ensures left { Left self.old.streams.entries self.new.streams.entries }
         ensures config { self.new.config ≡ self.old.config }
     {
         let Some(entry) = self.streams.get(&id) else {
@@ -295,6 +332,7 @@ impl Connection {
     // Forgets a stream.
     pub(super) fn remove(&mut self, id: u64)
         ensures own { Untouched self.old.streams.entries self.new.streams.entries }
+        ensures left { Left self.old.streams.entries self.new.streams.entries }
         ensures config { self.new.config ≡ self.old.config }
     {
         let Some(entry) = self.streams.remove(&id) else {

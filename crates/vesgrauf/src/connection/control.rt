@@ -6,6 +6,7 @@ ghost use Rattle.vesgrauf_queue.specs.State.{counted, waiting};
 ghost use Rattle.vesgrauf.specs.Config.{announced};
 ghost use Rattle.wtp_sending.specs.Control.{settings_bytes};
 ghost use Rattle.vesgrauf.specs.Own.{Untouched};
+ghost use Rattle.vesgrauf.specs.Theirs.{Left, IsSilent};
 
 use crate::connection::{Connection, Ended, Step, Stop};
 use crate::event::{Event, EventKind};
@@ -175,6 +176,8 @@ impl Connection {
     // Closes the connection, of which nothing is left.
     pub(super) fn shut_down<'a>(&mut self) -> Step<'a>
         ensures own { Untouched self.old.streams.entries self.new.streams.entries }
+        ensures left { Left self.old.streams.entries self.new.streams.entries }
+        ensures silent { IsSilent result }
         ensures config { self.new.config ≡ self.old.config }
     {
         let code = Code::H3_NO_ERROR.number().into_inner();

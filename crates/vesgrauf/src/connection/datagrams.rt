@@ -3,10 +3,10 @@ ghost use Rattle.std.specs.Prelude.{◌≡◌, ◌-◌, ◌++◌, [], Ok, Some, 
 ghost use Rattle.vesgrauf.specs.State.{Adds, head, open_session, HeadOf, KeepsDatagrams, KeepsOthers, SendsDatagram};
 ghost use Rattle.vesgrauf.specs.Own.{Untouched};
 ghost use Rattle.vesgrauf.specs.declared.refused.Refused.TheVariants as refused;
+ghost use Rattle.vesgrauf.specs.Theirs.{Left, IsSilent, IsSilentIf};
 
 use crate::connection::{Connection, DatagramQueue, Step, Stop};
 use crate::event::{Event, EventKind, Why};
-use crate::input::{Input, Report};
 use crate::refused::Refused;
 use std::alloc::{AllocError, Global};
 use std::mem;
@@ -62,38 +62,41 @@ impl DatagramQueue {
 
 impl Connection {
     // Takes in a datagram.
-    pub(super) fn datagram_came<'a>(&mut self, input: &mut Input<'a>) -> Result<Step<'a>, Stop>
+    pub(super) fn datagram_came<'a>(&mut self, bytes: &'a [u8]) -> Result<Step<'a>, Stop>
         ensures own { Untouched self.old.streams.entries self.new.streams.entries }
+        ensures left { Left self.old.streams.entries self.new.streams.entries }
+        ensures silent { IfOk result IsSilent }
         ensures config { self.new.config ≡ self.old.config }
     {
-        let found = match self.shared.datagram(input.chunk.all()) {
+        let found = match self.shared.datagram(bytes) {
             Ok(found) => found,
             Err(fault) => return Err(Stop::from(fault)),
         };
         let Some((session, payload)) = found else {
-            input.report = Report::Nothing;
             return Ok(Step::More);
         };
-        let step = match self.known(session).datagram_for() {
-            DatagramFor::Deliver => self.tell(session, EventKind::Datagram(Bytes::Input(payload))),
+        match self.known(session).datagram_for() {
+            DatagramFor::Deliver => {
+                Ok(self.tell(session, EventKind::Datagram(Bytes::Input(payload))))
+            }
             DatagramFor::Early => {
                 self.datagrams.keep_early(session, payload)?;
-                Step::More
+                Ok(Step::More)
             }
-            DatagramFor::Discard => Step::More,
+            DatagramFor::Discard => Ok(Step::More),
             DatagramFor::EndStream => {
                 let fault = Fault::Streams(StreamsFault::Datagram);
                 self.shut(session, Code::H3_DATAGRAM_ERROR, Why::Fault(fault))?;
-                Step::More
+                Ok(Step::More)
             }
-        };
-        input.report = Report::Nothing;
-        Ok(step)
+        }
     }
 
     // Takes a datagram that came before its session was open: it is dropped if the session is refused.
     pub(super) fn early_of<'a>(&mut self, session: u64) -> Option<Step<'a>>
         ensures own { Untouched self.old.streams.entries self.new.streams.entries }
+        ensures left { Left self.old.streams.entries self.new.streams.entries }
+        ensures silent { IsSilentIf result }
         ensures config { self.new.config ≡ self.old.config }
     {
         let payload = self.datagrams.take_early(session)?;
@@ -182,6 +185,7 @@ impl Connection {
     pub fn datagram_sent(&mut self) -> Result<(), Refused>
         ensures refused { IfErr result (λ e. e ≡ refused.Memory) }
         ensures own { Untouched self.old.streams.entries self.new.streams.entries }
+        ensures left { Left self.old.streams.entries self.new.streams.entries }
         ensures config { self.new.config ≡ self.old.config }
     {
         self.reserve()?;

@@ -1,13 +1,14 @@
 //! Streams that the peer resets, or asks to stop.
-ghost use Rattle.std.specs.Prelude.{◌≡◌, true, false};
+ghost use Rattle.std.specs.Prelude.{◌≡◌, true, false, IfOk};
 ghost use Rattle.std.specs.List.{filter};
-ghost use Rattle.vesgrauf.specs.State.{head, go_on, is_over, is_last, IsAfterEnd, IsTold, EndsUnless, closes_stream};
+ghost use Rattle.vesgrauf.specs.State.{head, go_on, is_over, is_last, IsAfterEnd, IsTold, EndsUnless, closes_stream, stream_at, knows_of};
 ghost use Rattle.vesgrauf.specs.Own.{Untouched};
+ghost use Rattle.vesgrauf.specs.Theirs.{Left, IsSilent};
 
 use crate::code::StreamCode;
 use crate::connection::failing::EXCESSIVE_LOAD;
 use crate::connection::{Connection, Ended, Step, Stop, internal};
-use crate::entry::Peer;
+use crate::entry::{Peer, Told};
 use crate::event::{Event, EventKind, Why};
 use crate::input::{Input, Report};
 use crate::output::Output;
@@ -21,12 +22,12 @@ use wtp_webtransport::event::Event as Said;
 
 impl Connection {
     // The peer reset a stream.
-    #[tactic(auto, using(crate::proofs::OwnLemmas::untouched_set))]
+    #[tactic(auto, using(crate::proofs::OwnLemmas::untouched_set, crate::proofs::TheirsLemmas::left_set))]
     pub(super) fn reset_came(&mut self, id: u64, code: u64) -> Result<(), Stop>
         ensures own { Untouched self.old.streams.entries self.new.streams.entries }
+        ensures left { Left self.old.streams.entries self.new.streams.entries }
         ensures config { self.new.config ≡ self.old.config }
     {
-        self.accept(id)?;
         match self.peer_of(id) {
             Peer::Over => return Ok(self.forget_stop(id)),
             Peer::Drops => return Ok(self.peer_is_over(id)?),
@@ -50,19 +51,21 @@ impl Connection {
     // Handles what the reset of the peer's half says of the stream.
     fn half_reset(&mut self, id: u64, shown: StreamCode, event: Said<'static>) -> Result<(), Stop>
         ensures own { Untouched self.old.streams.entries self.new.streams.entries }
+        ensures left { Left self.old.streams.entries self.new.streams.entries }
         ensures config { self.new.config ≡ self.old.config }
     {
-        self.cancel(id)?;
         self.queue_event(id, EventKind::Reset(shown))?;
         self.half_ended(id, event)?;
         self.lose_session(id)?;
         self.leave_untold(id)?;
+        self.cancel_left(id);
         Ok(self.peer_is_over(id)?)
     }
 
     // The peer reset the own stream of a session that is still to come, or one side stopped it: it does not come.
     pub(super) fn lose_session(&mut self, id: u64) -> Result<(), AllocError>
         ensures own { Untouched self.old.streams.entries self.new.streams.entries }
+        ensures left { Left self.old.streams.entries self.new.streams.entries }
         ensures config { self.new.config ≡ self.old.config }
     {
         let has_session = match self.streams.get(&id) {
@@ -78,12 +81,13 @@ impl Connection {
     // Resets the own half of a stream that the peer reset before the program was told of it: nothing will be sent on it.
     fn leave_untold(&mut self, id: u64) -> Result<(), AllocError>
         ensures own { Untouched self.old.streams.entries self.new.streams.entries }
+        ensures left { Left self.old.streams.entries self.new.streams.entries }
         ensures config { self.new.config ≡ self.old.config }
     {
         let Some(entry) = self.streams.get(&id) else {
             return Ok(());
         };
-        if entry.is_told || entry.writing.is_ended() {
+        if entry.is_known() || entry.writing.is_ended() {
             return Ok(());
         }
         let code = Code::H3_REQUEST_INCOMPLETE.number().into_inner();
@@ -91,9 +95,10 @@ impl Connection {
     }
 
     // The peer asked to stop the own half of a stream.
-    #[tactic(auto, using(crate::proofs::OwnLemmas::untouched_set))]
+    #[tactic(auto, using(crate::proofs::OwnLemmas::untouched_set, crate::proofs::TheirsLemmas::left_set))]
     pub(super) fn stop_came(&mut self, id: u64, code: u64) -> Result<(), Stop>
         ensures own { Untouched self.old.streams.entries self.new.streams.entries }
+        ensures left { Left self.old.streams.entries self.new.streams.entries }
         ensures config { self.new.config ≡ self.old.config }
     {
         if let Some(own) = self.own_purpose(id) {
@@ -102,7 +107,6 @@ impl Connection {
                 None => Ok(()),
             };
         }
-        self.accept(id)?;
         let shown = self.shown_code(id, code)?;
         let Some(entry) = self.streams.get_mut(&id) else {
             return Ok(());
@@ -119,19 +123,29 @@ impl Connection {
         self.half_stopped(id, code, shown)
     }
 
-    // Handles what the stop of the own half says of the stream.
-    #[tactic(auto, using(crate::proofs::OwnLemmas::untouched_set))]
-    fn half_stopped(&mut self, id: u64, code: u64, shown: StreamCode) -> Result<(), Stop>
+    // The own half of a stream is stopped. Returns what the stream says, or `None` if there is none.
+    #[tactic(auto, using(crate::proofs::OwnLemmas::untouched_set, crate::proofs::TheirsLemmas::left_set))]
+    fn note_stop(&mut self, id: u64, code: u64) -> Option<Said<'static>>
         ensures own { Untouched self.old.streams.entries self.new.streams.entries }
+        ensures left { Left self.old.streams.entries self.new.streams.entries }
         ensures config { self.new.config ≡ self.old.config }
     {
-        let Some(entry) = self.streams.get_mut(&id) else {
-            return Ok(());
-        };
-        if !entry.is_told {
+        let entry = self.streams.get_mut(&id)?;
+        if !entry.is_known() {
             entry.stopped = Some(code);
         }
-        let event = entry.reading.stop(&mut self.shared);
+        Some(entry.reading.stop(&mut self.shared))
+    }
+
+    // Handles what the stop of the own half says of the stream.
+    fn half_stopped(&mut self, id: u64, code: u64, shown: StreamCode) -> Result<(), Stop>
+        ensures own { Untouched self.old.streams.entries self.new.streams.entries }
+        ensures left { Left self.old.streams.entries self.new.streams.entries }
+        ensures config { self.new.config ≡ self.old.config }
+    {
+        let Some(event) = self.note_stop(id, code) else {
+            return Ok(());
+        };
         self.queue_event(id, EventKind::Stopped(shown))?;
         self.half_ended(id, event)?;
         if self.is_server() {
@@ -141,9 +155,10 @@ impl Connection {
     }
 
     // Tells the program of a stop that came before it knew of the stream. A session that was stopped does not come to be.
-    #[tactic(auto, using(crate::proofs::OwnLemmas::untouched_set))]
+    #[tactic(auto, using(crate::proofs::OwnLemmas::untouched_set, crate::proofs::TheirsLemmas::left_set))]
     pub(super) fn tell_stop(&mut self, id: u64) -> Result<(), Stop>
         ensures own { Untouched self.old.streams.entries self.new.streams.entries }
+        ensures left { Left self.old.streams.entries self.new.streams.entries }
         ensures config { self.new.config ≡ self.old.config }
     {
         let Some(entry) = self.streams.get_mut(&id) else {
@@ -160,6 +175,7 @@ impl Connection {
     // Handles what the end of one half says of the stream.
     fn half_ended(&mut self, id: u64, event: Said<'static>) -> Result<(), Stop>
         ensures own { Untouched self.old.streams.entries self.new.streams.entries }
+        ensures left { Left self.old.streams.entries self.new.streams.entries }
         ensures config { self.new.config ≡ self.old.config }
     {
         match event {
@@ -175,9 +191,10 @@ impl Connection {
     }
 
     // Counts a request that its client gives up before its answer (RFC 9114, section 10.5).
-    #[tactic(auto, using(crate::proofs::OwnLemmas::untouched_set))]
+    #[tactic(auto, using(crate::proofs::OwnLemmas::untouched_set, crate::proofs::TheirsLemmas::left_set))]
     fn give_up(&mut self, id: u64) -> Result<(), Stop>
         ensures own { Untouched self.old.streams.entries self.new.streams.entries }
+        ensures left { Left self.old.streams.entries self.new.streams.entries }
         ensures config { self.new.config ≡ self.old.config }
     {
         let Some(entry) = self.streams.get_mut(&id) else {
@@ -202,6 +219,7 @@ impl Connection {
         kind: EventKind<'static>,
     ) -> Result<(), AllocError>
         ensures own { Untouched self.old.streams.entries self.new.streams.entries }
+        ensures left { Left self.old.streams.entries self.new.streams.entries }
         ensures config { self.new.config ≡ self.old.config }
     {
         if let Step::Told(event) = self.tell(id, kind) {
@@ -239,9 +257,10 @@ impl Connection {
     }
 
     // QUIC has closed a stream: what is kept of the own half is freed. What the peer sent is still read.
-    #[tactic(auto, using(crate::proofs::OwnLemmas::untouched_set))]
+    #[tactic(auto, using(crate::proofs::OwnLemmas::untouched_set, crate::proofs::TheirsLemmas::left_set))]
     pub(super) fn stream_closed(&mut self, id: u64) -> Result<(), AllocError>
         ensures own { Untouched self.old.streams.entries self.new.streams.entries }
+        ensures left { Left self.old.streams.entries self.new.streams.entries }
         ensures config { self.new.config ≡ self.old.config }
     {
         let Some(entry) = self.streams.get_mut(&id) else {
@@ -256,6 +275,8 @@ impl Connection {
     // Leaves a request that the server does not process.
     pub(super) fn leave_unprocessed<'a>(&mut self, first: u64) -> Result<Step<'a>, Stop>
         ensures own { Untouched self.old.streams.entries self.new.streams.entries }
+        ensures left { Left self.old.streams.entries self.new.streams.entries }
+        ensures silent { IfOk result IsSilent }
         ensures config { self.new.config ≡ self.old.config }
     {
         let Some(id) = self.first_request(first) else {
@@ -301,11 +322,14 @@ impl Connection {
 
     // Takes a step after the end of the connection: what comes is dropped, and each stream that the program knows of is
     // told to be over.
+    #[tactic(auto, using(crate::proofs::OwnLemmas::untouched_set, crate::proofs::TheirsLemmas::left_set))]
     pub(super) fn step_after_end<'a>(&mut self, ended: Ended, input: &mut Input<'a>) -> Step<'a>
         ensures last { IsTold result (λ e. is_last e.kind ≡ true) }
         ensures over { is_over self.old ≡ true → is_over self.new ≡ true }
         ensures events { self.new.events ≡ self.old.events }
         ensures own { Untouched self.old.streams.entries self.new.streams.entries }
+        ensures left { Left self.old.streams.entries self.new.streams.entries }
+        ensures silent { IsSilent result }
         ensures config { self.new.config ≡ self.old.config }
     {
         if matches!(input.report, Report::ConnectionClosed(_)) {
@@ -328,18 +352,25 @@ impl Connection {
     }
 
     // Tells that a stream is over, since the connection is.
-    #[tactic(auto, using(crate::proofs::OwnLemmas::untouched_set))]
+    #[tactic(auto, using(crate::proofs::OwnLemmas::untouched_set, crate::proofs::TheirsLemmas::left_set))]
     fn tell_last(&mut self, id: u64) -> Step<'static>
         ensures last { IsTold result (λ e. is_last e.kind ≡ true) }
+        ensures known { IsTold result (λ e. (e.stream ≡ id) × (knows_of (stream_at self.old id) ≡ true)) }
+        ensures done { knows_of (stream_at self.new id) ≡ false }
         ensures ended { self.new.ended ≡ self.old.ended }
         ensures events { self.new.events ≡ self.old.events }
         ensures own { Untouched self.old.streams.entries self.new.streams.entries }
+        ensures left { Left self.old.streams.entries self.new.streams.entries }
+        ensures silent { IsSilent result }
         ensures config { self.new.config ≡ self.old.config }
     {
         let Some(entry) = self.streams.get_mut(&id) else {
             return Step::More;
         };
-        entry.is_told = false;
+        if !entry.is_known() {
+            return Step::More;
+        }
+        entry.told = Told::Over;
         Step::Told(Event {
             stream: id,
             session: entry.session_shown(id),
@@ -353,7 +384,7 @@ impl Connection {
         let cursor = self.pending.cursor;
         let mut streams = self.streams.range(cursor..);
         while let Some((id, entry)) = streams.next() {
-            if entry.is_told {
+            if entry.is_known() {
                 return Some(*id);
             }
         }

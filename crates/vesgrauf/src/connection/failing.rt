@@ -1,8 +1,11 @@
 //! Rules that the peer violates, and where.
-ghost use Rattle.std.specs.Prelude.{◌≡◌};
+ghost use Rattle.std.specs.Prelude.{◌≡◌, true};
+ghost use Rattle.vesgrauf.specs.State.{is_over};
 ghost use Rattle.vesgrauf.specs.Own.{Untouched};
+ghost use Rattle.vesgrauf.specs.Theirs.{Left};
 
 use crate::connection::Connection;
+use crate::entry::Told;
 use crate::event::{Event, EventKind, Failure, Rule, Why};
 use crate::input::{Input, Report};
 use std::alloc::AllocError;
@@ -54,6 +57,8 @@ impl Connection {
     // Ends the connection by an error of this stream, if it is one of a stream.
     pub(super) fn fail(&mut self, stream: Option<u64>, code: u64, fault: Option<Fault>)
         ensures own { Untouched self.old.streams.entries self.new.streams.entries }
+        ensures left { Left self.old.streams.entries self.new.streams.entries }
+        ensures over { is_over self.new ≡ true }
         ensures config { self.new.config ≡ self.old.config }
     {
         if let Some(fault) = fault {
@@ -70,9 +75,11 @@ impl Connection {
         self.break_off(code);
     }
 
-    // Tells of the rule that the peer violated on a stream, if the program is to know of it.
+    // Tells of the rule that the peer violated on a stream, if the program is to know of it: nothing follows the last event
+    // of a stream.
     pub(super) fn tell_failure(&mut self, id: u64, why: &Why) -> Result<(), AllocError>
         ensures own { Untouched self.old.streams.entries self.new.streams.entries }
+        ensures left { Left self.old.streams.entries self.new.streams.entries }
         ensures config { self.new.config ≡ self.old.config }
     {
         let Some(rule) = rule_of(why) else {
@@ -84,6 +91,9 @@ impl Connection {
         let Some(entry) = self.streams.get(&id) else {
             return Ok(());
         };
+        if entry.told == Told::Over {
+            return Ok(());
+        }
         let failure = Failure {
             rule,
             stream: Some(id),
@@ -99,9 +109,10 @@ impl Connection {
     }
 
     // Counts bytes of a stream that were read.
-    #[tactic(auto, using(crate::proofs::OwnLemmas::untouched_set))]
+    #[tactic(auto, using(crate::proofs::OwnLemmas::untouched_set, crate::proofs::TheirsLemmas::left_set))]
     pub(super) fn count_read(&mut self, id: u64, len: usize)
         ensures own { Untouched self.old.streams.entries self.new.streams.entries }
+        ensures left { Left self.old.streams.entries self.new.streams.entries }
         ensures config { self.new.config ≡ self.old.config }
     {
         if let Some(entry) = self.streams.get_mut(&id) {

@@ -1,11 +1,14 @@
 //! What is heard on a stream, and what follows from it.
-ghost use Rattle.std.specs.Prelude.{◌≡◌};
+ghost use Rattle.std.specs.Prelude.{◌≡◌, [], false, IfOk};
 ghost use Rattle.vesgrauf.specs.Own.{Untouched};
 ghost use Rattle.vesgrauf.specs.State.{stream_at, told_on};
+ghost use Rattle.vesgrauf.specs.Theirs.{Left, Hands, IsSilent, IsOf, told_in, content_in, content_of, piece_of};
+ghost use Rattle.vesgrauf_stream.specs.Reading.{bytes_of};
+ghost use Rattle.wtp_webtransport.specs.Events.{told_of};
 ghost use Rattle.vesgrauf.specs.declared.config.OnMalformed.TheVariants as chosen;
 
 use crate::connection::failing::NO_DATAGRAMS;
-use crate::connection::{Connection, Step, Stop};
+use crate::connection::{Connection, Step, Stop, internal};
 use crate::event::{Event, EventKind, Tunnel, Why};
 use crate::output::StreamKind;
 use std::alloc::AllocError;
@@ -43,30 +46,59 @@ fn joining_of(event: &Said<'_>) -> Joining {
     }
 }
 
+// Returns whether an event is content.
+fn says_content(event: &Said<'_>) -> bool
+    ensures { result ≡ false → content_of (told_of event.now) ≡ [] }
+{
+    matches!(event, Said::Data(_) | Said::StreamData(_))
+}
+
 impl Connection {
     // Handles what was heard on a stream.
+    #[tactic(auto, using(crate::proofs::ReadsLemmas::left_hands))]
     pub(super) fn heard<'a>(&mut self, id: u64, heard: Heard<'a>) -> Result<Step<'a>, Stop>
         ensures own { self.old.config.on_malformed ≡ chosen.Reset
             → Untouched self.old.streams.entries self.new.streams.entries }
+        ensures left { Left self.old.streams.entries self.new.streams.entries }
+        ensures hands { IfOk result (λ s. Hands id (content_in heard.entry) (told_in s)
+            self.old.streams.entries self.new.streams.entries) }
         ensures config { self.new.config ≡ self.old.config }
     {
         match heard {
-            Heard::Data(bytes) | Heard::StreamData(bytes) => {
-                Ok(self.tell(id, EventKind::Data(bytes)))
-            }
+            Heard::Data(bytes) => self.content_came(id, bytes),
+            Heard::StreamData(bytes) => self.content_came(id, bytes),
             Heard::Frame(_, _) => Ok(Step::More),
             Heard::Event(event) => self.said(id, event),
         }
     }
 
+    // Tells content of a stream. One that the program does not know of is read no further.
+    #[tactic(auto, using(crate::proofs::ReadsLemmas::told_hands, crate::proofs::ReadsLemmas::gone_hands))]
+    pub(super) fn content_came<'a>(&mut self, id: u64, bytes: Bytes<'a>) -> Result<Step<'a>, Stop>
+        ensures own { Untouched self.old.streams.entries self.new.streams.entries }
+        ensures left { Left self.old.streams.entries self.new.streams.entries }
+        ensures hands { IfOk result (λ s. Hands id (bytes_of bytes.entry) (told_in s)
+            self.old.streams.entries self.new.streams.entries) }
+        ensures config { self.new.config ≡ self.old.config }
+    {
+        match self.tell(id, EventKind::Data(bytes)) {
+            Step::Told(event) => Ok(Step::Told(event)),
+            _ => {
+                self.drop_peer(id)?;
+                Ok(Step::More)
+            }
+        }
+    }
+
     // Tells the program something of a stream, if it knows of the stream.
     pub(super) fn tell<'a>(&self, id: u64, kind: EventKind<'a>) -> Step<'a>
-        ensures { result ≡ told_on (stream_at self.now id) id kind.entry }
+        ensures told { result ≡ told_on (stream_at self.now id) id kind.entry }
+        ensures is { IsOf id (piece_of kind.entry) result }
     {
         let Some(entry) = self.streams.get(&id) else {
             return Step::More;
         };
-        if !entry.is_told {
+        if !entry.is_known() {
             return Step::More;
         }
         Step::Told(Event {
@@ -77,17 +109,33 @@ impl Connection {
         })
     }
 
-    // Handles what a stream says.
+    // Handles what a stream says. (Content is heard as such, and not as what a stream says.)
     pub(super) fn said(&mut self, id: u64, event: Said<'static>) -> Result<Step<'static>, Stop>
         ensures own { self.old.config.on_malformed ≡ chosen.Reset
             → Untouched self.old.streams.entries self.new.streams.entries }
+        ensures left { Left self.old.streams.entries self.new.streams.entries }
+        ensures hands { IfOk result (λ s. Hands id (content_of (told_of event.entry)) (told_in s)
+            self.old.streams.entries self.new.streams.entries) }
+        ensures config { self.new.config ≡ self.old.config }
+    {
+        if says_content(&event) {
+            return Err(internal());
+        }
+        self.said_else(id, event)
+    }
+
+    // Handles what a stream says: anything but content.
+    fn said_else(&mut self, id: u64, event: Said<'static>) -> Result<Step<'static>, Stop>
+        ensures own { self.old.config.on_malformed ≡ chosen.Reset
+            → Untouched self.old.streams.entries self.new.streams.entries }
+        ensures left { Left self.old.streams.entries self.new.streams.entries }
+        ensures silent { IfOk result IsSilent }
         ensures config { self.new.config ≡ self.old.config }
     {
         match event {
             Said::Settings(settings, _) => self.settings_came(settings),
             Said::GoAway(first) => Ok(self.goaway_came(first)),
             Said::Inserted(_) => {
-                self.shared.increment(&mut self.told)?;
                 self.wake();
                 Ok(Step::More)
             }
@@ -115,21 +163,31 @@ impl Connection {
     }
 
     // A stream names its session.
-    #[tactic(auto, using(crate::proofs::OwnLemmas::untouched_set))]
+    #[tactic(auto, using(crate::proofs::OwnLemmas::untouched_set, crate::proofs::TheirsLemmas::left_set))]
     fn session_named(&mut self, id: u64, session: u64) -> Result<Step<'static>, Stop>
         ensures own { Untouched self.old.streams.entries self.new.streams.entries }
+        ensures left { Left self.old.streams.entries self.new.streams.entries }
+        ensures silent { IfOk result IsSilent }
         ensures config { self.new.config ≡ self.old.config }
     {
         if let Some(entry) = self.streams.get_mut(&id) {
             entry.since = self.ticks;
         }
-        let event = self.join(id, session)?;
-        self.join_came(id, joining_of(&event))
+        match self.join(id, session) {
+            Ok(event) => self.join_came(id, joining_of(&event)),
+            Err(stop) => {
+                // (without memory it joins later)
+                self.wake();
+                Err(stop)
+            }
+        }
     }
 
     // Handles what became of a stream that is to join its session.
     fn join_came(&mut self, id: u64, joining: Joining) -> Result<Step<'static>, Stop>
         ensures own { Untouched self.old.streams.entries self.new.streams.entries }
+        ensures left { Left self.old.streams.entries self.new.streams.entries }
+        ensures silent { IfOk result IsSilent }
         ensures config { self.new.config ≡ self.old.config }
     {
         match joining {
@@ -148,18 +206,24 @@ impl Connection {
     }
 
     // A datagram of a session came in a capsule.
-    fn capsule_came(&self, id: u64, payload: Vec<u8>) -> Step<'static> {
+    fn capsule_came(&self, id: u64, payload: Vec<u8>) -> Step<'static>
+        ensures { IsSilent result }
+    {
         self.tell(id, EventKind::Datagram(Bytes::Kept(payload)))
     }
 
     // The peer asks to end a session soon.
-    fn draining_came(&self, id: u64) -> Step<'static> {
+    fn draining_came(&self, id: u64) -> Step<'static>
+        ensures { IsSilent result }
+    {
         self.tell(id, EventKind::Draining)
     }
 
     // SETTINGS of the peer came.
     fn settings_came(&mut self, settings: PeerSettings) -> Result<Step<'static>, Stop>
         ensures own { Untouched self.old.streams.entries self.new.streams.entries }
+        ensures left { Left self.old.streams.entries self.new.streams.entries }
+        ensures silent { IfOk result IsSilent }
         ensures config { self.new.config ≡ self.old.config }
     {
         if settings.h3_datagram && self.datagrams.limit == 0 {
@@ -174,6 +238,8 @@ impl Connection {
     // GOAWAY of the peer came.
     fn goaway_came(&mut self, first: u64) -> Step<'static>
         ensures own { Untouched self.old.streams.entries self.new.streams.entries }
+        ensures left { Left self.old.streams.entries self.new.streams.entries }
+        ensures silent { IsSilent result }
         ensures config { self.new.config ≡ self.old.config }
     {
         if !self.is_server() {
@@ -185,6 +251,8 @@ impl Connection {
     // The stream is for this.
     fn purpose_came(&mut self, id: u64, purpose: Purpose) -> Result<Step<'static>, Stop>
         ensures own { Untouched self.old.streams.entries self.new.streams.entries }
+        ensures left { Left self.old.streams.entries self.new.streams.entries }
+        ensures silent { IfOk result IsSilent }
         ensures config { self.new.config ≡ self.old.config }
     {
         match purpose {
@@ -193,7 +261,7 @@ impl Connection {
                 return self.reject(id, goaway);
             }
             Purpose::Decoder => {
-                self.peer_decoder = Some(id);
+                self.note_decoder(id);
                 self.note_quiet(id);
             }
             _ => self.note_quiet(id),
@@ -201,10 +269,23 @@ impl Connection {
         Ok(Step::More)
     }
 
+    // The bytes of the stream are instructions for the own encoder.
+    #[tactic(auto, using(crate::proofs::OwnLemmas::untouched_set, crate::proofs::TheirsLemmas::left_set))]
+    fn note_decoder(&mut self, id: u64)
+        ensures own { Untouched self.old.streams.entries self.new.streams.entries }
+        ensures left { Left self.old.streams.entries self.new.streams.entries }
+        ensures config { self.new.config ≡ self.old.config }
+    {
+        if let Some(entry) = self.streams.get_mut(&id) {
+            entry.is_decoder = true;
+        }
+    }
+
     // The stream is one that is open as long as the connection, or ignored.
-    #[tactic(auto, using(crate::proofs::OwnLemmas::untouched_set))]
+    #[tactic(auto, using(crate::proofs::OwnLemmas::untouched_set, crate::proofs::TheirsLemmas::left_set))]
     fn note_quiet(&mut self, id: u64)
         ensures own { Untouched self.old.streams.entries self.new.streams.entries }
+        ensures left { Left self.old.streams.entries self.new.streams.entries }
         ensures config { self.new.config ≡ self.old.config }
     {
         if let Some(entry) = self.streams.get_mut(&id) {
@@ -225,9 +306,11 @@ impl Connection {
 
     // Rejects the request on a stream if its ID is this one or above it: that of the own GOAWAY, or its own where there are
     // too many sessions.
-    #[tactic(auto, using(crate::proofs::OwnLemmas::untouched_set))]
+    #[tactic(auto, using(crate::proofs::OwnLemmas::untouched_set, crate::proofs::TheirsLemmas::left_set))]
     pub(super) fn reject(&mut self, id: u64, first: Option<u64>) -> Result<Step<'static>, Stop>
         ensures own { Untouched self.old.streams.entries self.new.streams.entries }
+        ensures left { Left self.old.streams.entries self.new.streams.entries }
+        ensures silent { IfOk result IsSilent }
         ensures config { self.new.config ≡ self.old.config }
     {
         let Some(entry) = self.streams.get_mut(&id) else {
@@ -250,6 +333,8 @@ impl Connection {
         list: FieldList,
     ) -> Result<Step<'static>, Stop>
         ensures own { Untouched self.old.streams.entries self.new.streams.entries }
+        ensures left { Left self.old.streams.entries self.new.streams.entries }
+        ensures silent { IfOk result IsSilent }
         ensures config { self.new.config ≡ self.old.config }
     {
         match kind {
@@ -270,6 +355,8 @@ impl Connection {
     // A request came that asks for no session.
     fn request_came(&mut self, id: u64, list: FieldList) -> Step<'static>
         ensures own { Untouched self.old.streams.entries self.new.streams.entries }
+        ensures left { Left self.old.streams.entries self.new.streams.entries }
+        ensures silent { IsSilent result }
         ensures config { self.new.config ≡ self.old.config }
     {
         let connects = list.first(b":method") == Some(b"CONNECT");
@@ -289,23 +376,25 @@ impl Connection {
     }
 
     // A request came that asks for this.
-    #[tactic(auto, using(crate::proofs::OwnLemmas::untouched_set))]
+    #[tactic(auto, using(crate::proofs::OwnLemmas::untouched_set, crate::proofs::TheirsLemmas::left_set))]
     pub(super) fn note_request(&mut self, id: u64, asked: Asked)
         ensures own { Untouched self.old.streams.entries self.new.streams.entries }
+        ensures left { Left self.old.streams.entries self.new.streams.entries }
         ensures config { self.new.config ≡ self.old.config }
     {
         if let Some(entry) = self.streams.get_mut(&id) {
             entry.writing.ask(asked);
             entry.has_tunnel = asked == Asked::Connect;
-            entry.is_told = true;
+            entry.know();
             entry.is_awaited = true;
         }
     }
 
     // The final response to a request that asked for no session came.
-    #[tactic(auto, using(crate::proofs::OwnLemmas::untouched_set))]
+    #[tactic(auto, using(crate::proofs::OwnLemmas::untouched_set, crate::proofs::TheirsLemmas::left_set))]
     fn response_came(&mut self, id: u64, status: u32) -> Result<(), AllocError>
         ensures own { Untouched self.old.streams.entries self.new.streams.entries }
+        ensures left { Left self.old.streams.entries self.new.streams.entries }
         ensures config { self.new.config ≡ self.old.config }
     {
         let Some(entry) = self.streams.get_mut(&id) else {
@@ -322,8 +411,11 @@ impl Connection {
     }
 
     // The peer's half ended.
+    #[tactic(auto, using(crate::proofs::OwnLemmas::untouched_set, crate::proofs::TheirsLemmas::left_set))]
     fn end_came(&mut self, id: u64) -> Result<Step<'static>, Stop>
         ensures own { Untouched self.old.streams.entries self.new.streams.entries }
+        ensures left { Left self.old.streams.entries self.new.streams.entries }
+        ensures silent { IfOk result IsSilent }
         ensures config { self.new.config ≡ self.old.config }
     {
         let step = self.tell(id, EventKind::End);
@@ -333,9 +425,10 @@ impl Connection {
     }
 
     // All sections of a stream were read.
-    #[tactic(auto, using(crate::proofs::OwnLemmas::untouched_set))]
+    #[tactic(auto, using(crate::proofs::TheirsLemmas::left_set, crate::proofs::OwnLemmas::untouched_set))]
     fn forget_cancel(&mut self, id: u64)
         ensures own { Untouched self.old.streams.entries self.new.streams.entries }
+        ensures left { Left self.old.streams.entries self.new.streams.entries }
         ensures config { self.new.config ≡ self.old.config }
     {
         if let Some(entry) = self.streams.get_mut(&id) {
@@ -347,18 +440,22 @@ impl Connection {
     // (draft-ietf-webtrans-http3-02, section 5).
     fn session_closed(&mut self, id: u64, close: Close) -> Result<Step<'static>, Stop>
         ensures own { Untouched self.old.streams.entries self.new.streams.entries }
+        ensures left { Left self.old.streams.entries self.new.streams.entries }
+        ensures silent { IfOk result IsSilent }
         ensures config { self.new.config ≡ self.old.config }
     {
-        self.cancel(id)?;
         self.end_own(id)?;
         self.end_session(id)?;
         self.closed(id, Why::Session(close))?;
+        self.cancel_left(id);
         Ok(Step::More)
     }
 
     // A session ended otherwise.
     fn session_lost(&mut self, id: u64) -> Result<Step<'static>, Stop>
         ensures own { Untouched self.old.streams.entries self.new.streams.entries }
+        ensures left { Left self.old.streams.entries self.new.streams.entries }
+        ensures silent { IfOk result IsSilent }
         ensures config { self.new.config ≡ self.old.config }
     {
         self.shut(id, Code::H3_REQUEST_CANCELLED, Why::SessionGone)?;

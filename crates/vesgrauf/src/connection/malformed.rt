@@ -1,6 +1,7 @@
 //! Requests that are malformed, or whose fields are too large.
-ghost use Rattle.std.specs.Prelude.{◌≡◌};
+ghost use Rattle.std.specs.Prelude.{◌≡◌, IfOk};
 ghost use Rattle.vesgrauf.specs.Own.{Untouched};
+ghost use Rattle.vesgrauf.specs.Theirs.{Left, IsSilent};
 ghost use Rattle.vesgrauf.specs.declared.config.OnMalformed.TheVariants as chosen;
 
 use crate::config::OnMalformed;
@@ -18,6 +19,8 @@ impl Connection {
     pub(super) fn malformed_came(&mut self, id: u64, rule: Malformed) -> Result<Step<'static>, Stop>
         ensures own { self.old.config.on_malformed ≡ chosen.Reset
             → Untouched self.old.streams.entries self.new.streams.entries }
+        ensures left { Left self.old.streams.entries self.new.streams.entries }
+        ensures silent { IfOk result IsSilent }
         ensures config { self.new.config ≡ self.old.config }
     {
         let why = Why::Malformed(rule);
@@ -33,6 +36,8 @@ impl Connection {
     pub(super) fn too_large_came(&mut self, id: u64) -> Result<Step<'static>, Stop>
         ensures own { self.old.config.on_malformed ≡ chosen.Reset
             → Untouched self.old.streams.entries self.new.streams.entries }
+        ensures left { Left self.old.streams.entries self.new.streams.entries }
+        ensures silent { IfOk result IsSilent }
         ensures config { self.new.config ≡ self.old.config }
     {
         if self.answers(id, StatusCode::REQUEST_HEADER_FIELDS_TOO_LARGE) {
@@ -45,10 +50,11 @@ impl Connection {
 
     // Answers a request with this status, if the configuration says so. Returns whether it did: without memory, and after
     // another final response, it does not.
-    #[tactic(auto, using(crate::proofs::OwnLemmas::untouched_set))]
+    #[tactic(auto, using(crate::proofs::OwnLemmas::untouched_set, crate::proofs::TheirsLemmas::left_set))]
     fn answers(&mut self, id: u64, status: StatusCode) -> bool
         ensures own { self.old.config.on_malformed ≡ chosen.Reset
             → Untouched self.old.streams.entries self.new.streams.entries }
+        ensures left { Left self.old.streams.entries self.new.streams.entries }
         ensures config { self.new.config ≡ self.old.config }
     {
         if !self.is_server() || self.config.on_malformed == OnMalformed::Reset {
@@ -66,13 +72,14 @@ impl Connection {
     // Reads no further on a stream that was answered, whose own half ends after what is queued.
     fn leave_answered(&mut self, id: u64, code: Code, why: Why) -> Result<(), AllocError>
         ensures own { Untouched self.old.streams.entries self.new.streams.entries }
+        ensures left { Left self.old.streams.entries self.new.streams.entries }
         ensures config { self.new.config ≡ self.old.config }
     {
         self.tell_failure(id, &why)?;
-        self.cancel(id)?;
         self.stop_peer(id, code.number().into_inner())?;
         self.end_session(id)?;
         self.closed(id, why)?;
+        self.cancel_left(id);
         self.remove_if_done(id)
     }
 }

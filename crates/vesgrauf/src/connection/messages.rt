@@ -3,11 +3,12 @@ ghost use Rattle.std.specs.Prelude.{◌≡◌, ◌⊎◌, false, true, is_some, 
 ghost use Rattle.vesgrauf_stream.specs.Writing.{Sends};
 ghost use Rattle.vesgrauf_stream.specs.Headers.{SendsTrailers, RefusesTrailers};
 ghost use Rattle.vesgrauf.specs.Own.{Untouched, UntouchedBut};
+ghost use Rattle.vesgrauf.specs.Theirs.{Left};
 ghost use Rattle.vesgrauf.specs.State.{stream_at, Changes, IsFor, IsStill, IsStillBut, IsRefused, SaysOrWaits, StaysFor, IsWhy, IsWhyOf, RefusesBytes, RefusesEnd, FinishesUnless, was_finished, was_told_full, is_over, open_session};
 ghost use Rattle.vesgrauf.specs.declared.refused.Refused.TheVariants as refused;
 
 use crate::connection::{Connection, Stop};
-use crate::entry::{Entry, Peer, SHARED};
+use crate::entry::{Entry, Peer, SHARED, Told};
 use crate::output::StreamKind;
 use crate::refused::{NotSent, Refused};
 use std::alloc::AllocError;
@@ -109,7 +110,7 @@ impl Connection {
         writing.request(&mut self.tools, session, allows, list, fin)?;
         let stream = self.shared.open(asked);
         let mut entry = Entry::new(Reading::new(self.alloc, stream), Peer::Reads, writing);
-        entry.is_told = true;
+        entry.told = Told::Known;
         entry.is_opened = false;
         entry.may_cancel = true;
         entry.is_session = asked == Asked::Session;
@@ -142,6 +143,7 @@ impl Connection {
     pub fn respond(&mut self, id: u64, list: &FieldList, fin: bool) -> Result<(), Refused>
         ensures refused { IfErr result (λ e. (e ≡ refused.Memory) ⊎ IsStillBut self.old self.new) }
         ensures own { UntouchedBut id self.old.streams.entries self.new.streams.entries }
+        ensures left { Left self.old.streams.entries self.new.streams.entries }
         ensures config { self.new.config ≡ self.old.config }
     {
         self.begin_send(id)?;
@@ -153,10 +155,11 @@ impl Connection {
     }
 
     // Queues the HEADERS of a response, and maybe the end.
-    #[tactic(auto, using(std::proofs::lemmas::Map::Steps::set_value_same))]
+    #[tactic(auto, using(crate::proofs::TheirsLemmas::left_set, std::proofs::lemmas::Map::Steps::set_value_same))]
     fn put_response(&mut self, id: u64, list: &FieldList, fin: bool) -> Result<(), Refused>
         ensures kept { OnErr result (IsStill self.old self.new) }
         ensures own { UntouchedBut id self.old.streams.entries self.new.streams.entries }
+        ensures left { Left self.old.streams.entries self.new.streams.entries }
         ensures config { self.new.config ≡ self.old.config }
     {
         let session = session_id(id);
@@ -177,6 +180,7 @@ impl Connection {
     // A response was sent: what follows for its stream, and for a session.
     fn responded(&mut self, id: u64, list: &FieldList, fin: bool) -> Result<(), AllocError>
         ensures own { Untouched self.old.streams.entries self.new.streams.entries }
+        ensures left { Left self.old.streams.entries self.new.streams.entries }
         ensures config { self.new.config ≡ self.old.config }
     {
         if let Some(status) = status_of(list) {
@@ -203,19 +207,21 @@ impl Connection {
     }
 
     // Reads no further on the stream of a CONNECT that was refused: nothing that follows has a meaning.
-    fn stop_refused(&mut self, id: u64) -> Result<(), AllocError>
+    pub(super) fn stop_refused(&mut self, id: u64) -> Result<(), AllocError>
         ensures own { Untouched self.old.streams.entries self.new.streams.entries }
+        ensures left { Left self.old.streams.entries self.new.streams.entries }
         ensures config { self.new.config ≡ self.old.config }
     {
         let code = Code::H3_NO_ERROR.number().into_inner();
-        self.cancel(id)?;
         self.stop_peer(id, code)?;
+        self.cancel_left(id);
         self.remove_if_done(id)
     }
 
     // A response with this status was sent.
     fn answered(&mut self, id: u64, status: u32)
         ensures own { Untouched self.old.streams.entries self.new.streams.entries }
+        ensures left { Left self.old.streams.entries self.new.streams.entries }
         ensures config { self.new.config ≡ self.old.config }
     {
         if status < 200 {
@@ -225,6 +231,7 @@ impl Connection {
             return;
         };
         entry.reading.answer(status);
+        entry.has_tunnel = entry.has_tunnel && status >= 300;
         if entry.is_awaited {
             entry.is_awaited = false;
             self.budget.answered();

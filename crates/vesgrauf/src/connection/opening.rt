@@ -4,11 +4,14 @@ ghost use Rattle.wtp_frames.specs.declared.endpoint.Side.TheVariants as side;
 ghost use Rattle.vesgrauf.specs.declared.refused.Refused.TheVariants as refused;
 ghost use Rattle.vesgrauf.specs.State.{open_session, room_for, may_wait, IsStill, IsRefused};
 ghost use Rattle.vesgrauf.specs.Own.{Sends, own_of, Untouched, UntouchedBut};
+ghost use Rattle.vesgrauf.specs.Theirs.{Left, Accepts, Unread, content_of, theirs_of};
+ghost use Rattle.wtp_webtransport.specs.Events.{told_of};
 ghost use Rattle.vesgrauf.specs.Ids.{next_own, opens};
 
-use crate::connection::{Connection, Stop};
-use crate::entry::{Entry, Member, Peer, SHARED};
+use crate::connection::{Connection, Stop, internal};
+use crate::entry::{Entry, Member, Peer, SHARED, Told};
 use crate::event::{Event, EventKind};
+use crate::input::Report;
 use crate::output::{Output, StreamKind};
 use crate::refused::Refused;
 use std::alloc::{AllocError, Global};
@@ -21,26 +24,84 @@ use wtp_webtransport::event::Event as Said;
 use wtp_webtransport::stream::Stream;
 
 impl Connection {
-    // Registers the next stream of the peer, of the kind of this one.
-    pub(super) fn accept_next(&mut self, id: u64) -> Result<(), Stop>
+    // Registers the streams of the peer up to that of a report.
+    pub(super) fn accept_for(&mut self, report: Report) -> Result<(), Stop>
         ensures own { Untouched self.old.streams.entries self.new.streams.entries }
+        ensures accepts { Accepts self.old.ids self.old.streams.entries self.new.ids self.new.streams.entries }
+        ensures config { self.new.config ≡ self.old.config }
+    {
+        match report {
+            Report::Stream(id) | Report::Reset(id, _) | Report::Stopped(id, _) => self.accept(id),
+            _ => Ok(()),
+        }
+    }
+
+    // Registers the streams of the peer up to this one. An ID that cannot be is an error of QUIC.
+    fn accept(&mut self, id: u64) -> Result<(), Stop>
+        ensures own { Untouched self.old.streams.entries self.new.streams.entries }
+        ensures accepts { Accepts self.old.ids self.old.streams.entries self.new.ids self.new.streams.entries }
+        ensures config { self.new.config ≡ self.old.config }
+    {
+        if self.ids.is_own(id) {
+            return if self.ids.was_taken(id) {
+                Ok(())
+            } else {
+                Err(internal())
+            };
+        }
+        let next = self.ids.next_of_peer(id);
+        if id < next {
+            return Ok(());
+        }
+        let count = (id - next) / 4;
+        if id >= 1 << 62 || count >= self.config.max_streams {
+            return Err(internal());
+        }
+        for _stream in 0..count + 1 {
+            self.accept_next(id)?;
+        }
+        Ok(())
+    }
+
+    // Registers the next stream of the peer, of the kind of this one.
+    #[tactic(auto, using(crate::proofs::ReadsLemmas::accepts_insert))]
+    fn accept_next(&mut self, id: u64) -> Result<(), Stop>
+        ensures own { Untouched self.old.streams.entries self.new.streams.entries }
+        ensures accepts { Accepts self.old.ids self.old.streams.entries self.new.ids self.new.streams.entries }
         ensures config { self.new.config ≡ self.old.config }
     {
         let next = self.ids.next_of_peer(id);
-        let stream = self.shared.accept(next);
-        let writing = half_beside_peer(self.alloc, self.config.queue(), next);
-        let mut entry = Entry::new(Reading::new(self.alloc, stream), Peer::Reads, writing);
-        entry.may_cancel = next % 4 == 0;
+        if self.ids.was(next) {
+            return Err(internal());
+        }
+        let entry = self.entry_of_peer(next);
         self.streams.insert(next, entry)?;
         self.ids.see_next(StreamKind::of(id));
         Ok(())
     }
 
+    // Returns the entry of a stream of the peer, of which nothing came.
+    fn entry_of_peer(&mut self, id: u64) -> Entry
+        ensures blank { own_of result.writing ≡ Sends 0 [] }
+        ensures nothing { theirs_of result ≡ Unread [] false }
+        ensures config { self.new.config ≡ self.old.config }
+        ensures ids { self.new.ids ≡ self.old.ids }
+        ensures streams { self.new.streams ≡ self.old.streams }
+    {
+        let stream = self.shared.accept(id);
+        let writing = half_beside_peer(self.alloc, self.config.queue(), id);
+        let mut entry = Entry::new(Reading::new(self.alloc, stream), Peer::Reads, writing);
+        entry.may_cancel = id % 4 == 0;
+        entry
+    }
+
     // Joins a stream with its session, by what is known of that.
-    #[tactic(auto, using(crate::proofs::OwnLemmas::untouched_set))]
+    #[tactic(auto, using(crate::proofs::OwnLemmas::untouched_set, crate::proofs::TheirsLemmas::left_set, crate::proofs::ReadsLemmas::joins_silent))]
     pub(super) fn join(&mut self, id: u64, session: u64) -> Result<Said<'static>, Stop>
         ensures own { Untouched self.old.streams.entries self.new.streams.entries }
+        ensures left { Left self.old.streams.entries self.new.streams.entries }
         ensures config { self.new.config ≡ self.old.config }
+        ensures silent { IfOk result (λ e. content_of (told_of e) ≡ []) }
     {
         let known = self.known_to(id, session);
         if matches!(known, Known::Open) {
@@ -53,16 +114,17 @@ impl Connection {
     }
 
     // A stream of the peer joined its session.
-    #[tactic(auto, using(crate::proofs::OwnLemmas::untouched_set))]
+    #[tactic(auto, using(crate::proofs::OwnLemmas::untouched_set, crate::proofs::TheirsLemmas::left_set))]
     pub(super) fn joined(&mut self, id: u64, session: u64)
         ensures own { Untouched self.old.streams.entries self.new.streams.entries }
+        ensures left { Left self.old.streams.entries self.new.streams.entries }
         ensures config { self.new.config ≡ self.old.config }
     {
         if let Some(entry) = self.streams.get_mut(&id) {
             entry.session = Some(session);
             entry.priority = SHARED;
             entry.may_cancel = false;
-            entry.is_told = true;
+            entry.know();
             entry.writing.belong();
         }
     }
@@ -101,7 +163,7 @@ impl Connection {
         let mut entry = Entry::new(Reading::new(self.alloc, stream), peer, writing);
         entry.session = Some(session);
         entry.priority = SHARED;
-        entry.is_told = true;
+        entry.told = Told::Known;
         entry.is_opened = false;
         self.add_member(session, id, entry)?;
         self.ids.take(kind);
@@ -130,6 +192,7 @@ impl Connection {
     // Tells that there is room again for own streams of a kind, if that is owed.
     fn tell_openable(&mut self, kind: StreamKind) -> Result<(), AllocError>
         ensures own { Untouched self.old.streams.entries self.new.streams.entries }
+        ensures left { Left self.old.streams.entries self.new.streams.entries }
         ensures config { self.new.config ≡ self.old.config }
     {
         let is_owed = match kind {
@@ -197,6 +260,7 @@ impl Connection {
         ensures refused { IfErr result (λ e. (e ≡ refused.Memory)
             ⊎ ((opens self.old.ids id ≡ false) × (e ≡ refused.NotAsked) × (self.new ≡ self.old))) }
         ensures own { Untouched self.old.streams.entries self.new.streams.entries }
+        ensures left { Left self.old.streams.entries self.new.streams.entries }
         ensures config { self.new.config ≡ self.old.config }
     {
         if !self.ids.opens(id) {
@@ -218,9 +282,10 @@ impl Connection {
     }
 
     // QUIC has opened an own stream that is not critical.
-    #[tactic(auto, using(crate::proofs::OwnLemmas::untouched_set))]
+    #[tactic(auto, using(crate::proofs::OwnLemmas::untouched_set, crate::proofs::TheirsLemmas::left_set))]
     fn opened_message(&mut self, id: u64) -> Result<(), AllocError>
         ensures own { Untouched self.old.streams.entries self.new.streams.entries }
+        ensures left { Left self.old.streams.entries self.new.streams.entries }
         ensures config { self.new.config ≡ self.old.config }
     {
         let Some(entry) = self.streams.get_mut(&id) else {

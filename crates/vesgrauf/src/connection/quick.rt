@@ -1,16 +1,17 @@
 //! What is read at once: a piece of content, where nothing else is due.
-ghost use Rattle.std.specs.Prelude.{◌≡◌, true, false};
+ghost use Rattle.std.specs.Prelude.{◌≡◌, true, false, Ok, None, IfOk};
 ghost use Rattle.vesgrauf.specs.State.{is_over};
 ghost use Rattle.vesgrauf.specs.Own.{Untouched};
+ghost use Rattle.vesgrauf.specs.Theirs.{ReadsOn, Passes, Tells, TellsAll, told_in, told_if, told_by, content_if, content_in, content_found};
+ghost use Rattle.vesgrauf.specs.declared.input.Report.TheVariants as report;
+ghost use Rattle.vesgrauf_stream.specs.Reading.{bytes_of};
 ghost use Rattle.vesgrauf.specs.declared.config.OnMalformed.TheVariants as chosen;
 
-use crate::connection::failing::is_failure;
-use crate::connection::{Connection, Step, Stop};
-use crate::entry::{Entry, Peer};
-use crate::event::{Event, EventKind};
-use crate::input::{Input, Report};
+use crate::connection::{Connection, Step, Stop, internal};
+use crate::event::Event;
+use crate::input::Input;
 use std::alloc::AllocError;
-use vesgrauf_stream::bytes::Chunk;
+use vesgrauf_stream::bytes::{Bytes, Chunk};
 use vesgrauf_stream::heard::Heard;
 use vesgrauf_stream::reading::Found;
 
@@ -45,82 +46,83 @@ impl Connection {
     ) -> Result<Option<Event<'a>>, AllocError>
         ensures own { self.old.config.on_malformed ≡ chosen.Reset
             → Untouched self.old.streams.entries self.new.streams.entries }
+        ensures told { input.old.report ≡ report.Stream id → is_over self.new ≡ false
+            → IfOk result (λ e. TellsAll self.old.ids (told_by e)
+            self.old.streams.entries input.old self.new.streams.entries input.new) }
         ensures config { self.new.config ≡ self.old.config }
     {
-        if input.chunk.is_last() || self.peer_decoder == Some(id) {
+        if input.chunk.is_last() {
             return self.next_by_steps(input);
         }
         if self.reserve_all().is_err() {
             return Err(AllocError);
         }
-        let len = input.chunk.len();
-        let Some(found) = self.read_plain(id, &mut input.chunk)? else {
-            return self.next_by_steps(input);
-        };
-        input.count(len);
-        match found {
-            Found::Heard(Heard::Data(bytes)) | Found::Heard(Heard::StreamData(bytes)) => {
-                // (nothing follows a piece but more bytes, or the end)
-                if input.chunk.len() == 0 && self.held <= self.config.receive_buffer_all {
-                    input.report = Report::Nothing;
-                }
-                match self.tell(id, EventKind::Data(bytes)) {
-                    Step::Told(event) => Ok(Some(event)),
-                    _ => self.next_by_steps(input),
-                }
+        self.read_now(id, input)
+    }
+
+    // Returns the next event of bytes of a stream that is not said to end.
+    fn read_now<'a>(
+        &mut self,
+        id: u64,
+        input: &mut Input<'a>,
+    ) -> Result<Option<Event<'a>>, AllocError>
+        ensures own { self.old.config.on_malformed ≡ chosen.Reset
+            → Untouched self.old.streams.entries self.new.streams.entries }
+        ensures told { input.old.report ≡ report.Stream id → is_over self.new ≡ false
+            → IfOk result (λ e. TellsAll self.old.ids (told_by e)
+            self.old.streams.entries input.old self.new.streams.entries input.new) }
+        ensures config { self.new.config ≡ self.old.config }
+    {
+        match self.step_at_once(id, input) {
+            Ok(None) => self.next_by_steps(input),
+            Ok(Some(Step::Told(event))) => Ok(Some(event)),
+            Ok(Some(Step::More)) => self.take_steps(input),
+            Ok(Some(Step::Nothing)) => self.take_steps(input),
+            Err(Stop::Memory) => Err(AllocError),
+            Err(Stop::Broken(code, fault)) => {
+                self.fail(Some(id), code, fault);
+                self.take_steps(input)
             }
-            found => self.next_after(id, found, input),
+        }
+    }
+
+    // Takes a step by bytes of a stream that is read, of which nothing is kept and that waits for nothing.
+    fn step_at_once<'a>(&mut self, id: u64, input: &mut Input<'a>) -> Result<Option<Step<'a>>, Stop>
+        ensures own { self.old.config.on_malformed ≡ chosen.Reset
+            → Untouched self.old.streams.entries self.new.streams.entries }
+        ensures tells { input.old.report ≡ report.Stream id → IfOk result (λ s. Tells (told_if s)
+            self.old.streams.entries input.old self.new.streams.entries input.new) }
+        ensures none { result ≡ Ok None → (input.new ≡ input.old) × (self.new.ids ≡ self.old.ids) }
+        ensures config { self.new.config ≡ self.old.config }
+    {
+        let len = input.chunk.len();
+        match self.read_plain(id, &mut input.chunk)? {
+            None => Ok(None),
+            Some(found) => {
+                input.count(len);
+                Ok(Some(self.found_in_input(id, found, input)?))
+            }
         }
     }
 
     // Returns what is found in bytes of a stream that is read, of which nothing is kept and that waits for nothing.
-    #[tactic(auto, using(crate::proofs::OwnLemmas::untouched_set))]
-    fn read_plain<'a>(
-        &mut self,
-        id: u64,
-        chunk: &mut Chunk<'a>,
-    ) -> Result<Option<Found<'a>>, AllocError>
+    #[tactic(auto, using(crate::proofs::OwnLemmas::untouched_set, crate::proofs::ReadsLemmas::reads_set, crate::proofs::ReadsLemmas::left_reads, crate::proofs::StepLemmas::left_itself))]
+    fn read_plain<'a>(&mut self, id: u64, chunk: &mut Chunk<'a>) -> Result<Option<Found<'a>>, Stop>
         ensures own { Untouched self.old.streams.entries self.new.streams.entries }
+        ensures reads { IfOk result (λ found. ReadsOn id (content_if found) self.old.streams.entries chunk.old
+            self.new.streams.entries chunk.new) }
+        ensures none { result ≡ Ok None → chunk.new ≡ chunk.old }
+        ensures ids { self.new.ids ≡ self.old.ids }
         ensures config { self.new.config ≡ self.old.config }
     {
         let Some(entry) = self.streams.get_mut(&id) else {
             return Ok(None);
         };
-        if !is_plain(entry) {
-            return Ok(None);
-        }
-        let len = chunk.len();
-        let found = entry
-            .reading
-            .next(self.alloc, &mut self.shared, &mut self.fields, chunk)?;
-        if !is_failure(&found) {
-            let read = len.saturating_sub(chunk.len());
-            entry.offset = entry.offset.saturating_add(read as u64);
-        }
-        Ok(Some(found))
-    }
-
-    // Returns the next event, as `next_by_steps` does, after this was found in bytes of a stream.
-    fn next_after<'a>(
-        &mut self,
-        id: u64,
-        found: Found<'a>,
-        input: &mut Input<'a>,
-    ) -> Result<Option<Event<'a>>, AllocError>
-        ensures own { self.old.config.on_malformed ≡ chosen.Reset
-            → Untouched self.old.streams.entries self.new.streams.entries }
-        ensures config { self.new.config ≡ self.old.config }
-    {
-        match self.found_in_input(id, found, input) {
-            Ok(Step::Told(event)) => return Ok(Some(event)),
-            Ok(_) => {}
-            Err(Stop::Memory) => return Err(AllocError),
-            Err(Stop::Broken(code, fault)) => self.fail(Some(id), code, fault),
-        }
-        self.next_by_steps(input)
+        Ok(entry.look_plain(self.alloc, &mut self.shared, &mut self.fields, chunk)?)
     }
 
     // Handles what was found in bytes of a stream.
+    #[tactic(auto, using(crate::proofs::ReadsLemmas::more_passes))]
     fn found_in_input<'a>(
         &mut self,
         id: u64,
@@ -129,21 +131,73 @@ impl Connection {
     ) -> Result<Step<'a>, Stop>
         ensures own { self.old.config.on_malformed ≡ chosen.Reset
             → Untouched self.old.streams.entries self.new.streams.entries }
+        ensures passes { input.old.report ≡ report.Stream id
+            → IfOk result (λ s. Passes id (content_found found.entry) (told_in s)
+            self.old.streams.entries input.old self.new.streams.entries input.new) }
         ensures config { self.new.config ≡ self.old.config }
     {
-        self.shared.acknowledge(id, &mut self.told)?;
         match found {
-            Found::Heard(heard) => self.heard_in_input(id, heard, input),
+            Found::Heard(heard) => self.heard_at_once(id, heard, input),
             Found::Again => Ok(Step::More),
         }
     }
-}
 
-// Returns whether a stream is read, nothing of it is kept, its end did not come, and it waits for nothing.
-fn is_plain(entry: &Entry) -> bool {
-    entry.peer == Peer::Reads
-        && !entry.is_paused
-        && entry.reading.len() == 0
-        && !entry.reading.has_end()
-        && entry.reading.waits().is_none()
+    // Handles what was heard in bytes of a stream: a piece of content at once.
+    fn heard_at_once<'a>(
+        &mut self,
+        id: u64,
+        heard: Heard<'a>,
+        input: &mut Input<'a>,
+    ) -> Result<Step<'a>, Stop>
+        ensures own { self.old.config.on_malformed ≡ chosen.Reset
+            → Untouched self.old.streams.entries self.new.streams.entries }
+        ensures passes { input.old.report ≡ report.Stream id
+            → IfOk result (λ s. Passes id (content_in heard.entry) (told_in s)
+            self.old.streams.entries input.old self.new.streams.entries input.new) }
+        ensures config { self.new.config ≡ self.old.config }
+    {
+        match heard {
+            Heard::Data(bytes) => self.piece_came(id, bytes, input),
+            Heard::StreamData(bytes) => self.piece_came(id, bytes, input),
+            heard => self.heard_else(id, heard, input),
+        }
+    }
+
+    // Tells a piece of content. Nothing follows it but more bytes, or the end.
+    #[tactic(auto, using(crate::proofs::ReadsLemmas::taken_passes))]
+    fn piece_came<'a>(
+        &mut self,
+        id: u64,
+        bytes: Bytes<'a>,
+        input: &mut Input<'a>,
+    ) -> Result<Step<'a>, Stop>
+        ensures own { Untouched self.old.streams.entries self.new.streams.entries }
+        ensures passes { IfOk result (λ s. Passes id (bytes_of bytes.entry) (told_in s)
+            self.old.streams.entries input.old self.new.streams.entries input.new) }
+        ensures config { self.new.config ≡ self.old.config }
+    {
+        input.end_if_read(self.held <= self.config.receive_buffer_all);
+        self.content_came(id, bytes)
+    }
+
+    // Handles what was heard in bytes of a stream: anything but a piece of content.
+    fn heard_else<'a>(
+        &mut self,
+        id: u64,
+        heard: Heard<'a>,
+        input: &mut Input<'a>,
+    ) -> Result<Step<'a>, Stop>
+        ensures own { self.old.config.on_malformed ≡ chosen.Reset
+            → Untouched self.old.streams.entries self.new.streams.entries }
+        ensures passes { input.old.report ≡ report.Stream id
+            → IfOk result (λ s. Passes id (content_in heard.entry) (told_in s)
+            self.old.streams.entries input.old self.new.streams.entries input.new) }
+        ensures config { self.new.config ≡ self.old.config }
+    {
+        // (without memory for it, what the section says would be lost)
+        if self.shared.acknowledge(id, &mut self.told).is_err() {
+            return Err(internal());
+        }
+        self.heard_in_input(id, heard, input)
+    }
 }

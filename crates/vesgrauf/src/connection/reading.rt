@@ -1,10 +1,12 @@
 //! Bytes of streams that came, and those that wait.
-ghost use Rattle.std.specs.Prelude.{◌≡◌};
-ghost use Rattle.vesgrauf.specs.State.{IsStill, known_in};
+ghost use Rattle.std.specs.Prelude.{◌≡◌, ◌≤◌, false, true, [], length, IfOk, OnOk};
+ghost use Rattle.vesgrauf.specs.State.{IsStill};
 ghost use Rattle.vesgrauf.specs.Own.{Untouched};
+ghost use Rattle.vesgrauf.specs.Theirs.{Left, Same, ReadsOn, ReadsKept, Hands, Passes, TellsKept, Tells, Gone, theirs_at, told_in, content_in, content_by, content_found};
+ghost use Rattle.vesgrauf.specs.declared.input.Report.TheVariants as report;
 ghost use Rattle.vesgrauf.specs.declared.config.OnMalformed.TheVariants as chosen;
 
-use crate::connection::failing::{EXCESSIVE_LOAD, is_failure};
+use crate::connection::failing::EXCESSIVE_LOAD;
 use crate::connection::{Connection, Step, Stop, internal};
 use crate::entry::Peer;
 use crate::input::{Input, Report};
@@ -13,14 +15,12 @@ use std::alloc::AllocError;
 use vesgrauf_stream::bytes::Chunk;
 use vesgrauf_stream::heard::Heard;
 use vesgrauf_stream::reading::Found;
-use wtp_connection::connection::Known;
 use wtp_connection::fault::Fault as StreamsFault;
-use wtp_frames::endpoint::Side;
-use wtp_webtransport::event::{Event as Said, Waits};
+use wtp_webtransport::event::Event as Said;
 use wtp_webtransport::fault::Fault;
 
 impl Connection {
-    // Takes in bytes of a stream, or the first of them.
+    // Takes in bytes of a stream.
     pub(super) fn stream_came<'a>(
         &mut self,
         id: u64,
@@ -28,16 +28,41 @@ impl Connection {
     ) -> Result<Step<'a>, Stop>
         ensures own { self.old.config.on_malformed ≡ chosen.Reset
             → Untouched self.old.streams.entries self.new.streams.entries }
+        ensures tells { input.old.report ≡ report.Stream id → IfOk result (λ s. Tells (told_in s)
+            self.old.streams.entries input.old self.new.streams.entries input.new) }
         ensures config { self.new.config ≡ self.old.config }
     {
-        self.accept(id)?;
-        if self.peer_decoder == Some(id) {
+        self.instruct(id, input)?;
+        self.note_end(id, input.chunk.is_last());
+        self.bytes_came(id, input)
+    }
+
+    // Passes bytes to the own encoder that are instructions for it.
+    #[tactic(auto, using(crate::proofs::ReadsLemmas::left_same, crate::proofs::StepLemmas::left_itself))]
+    fn instruct(&mut self, id: u64, input: &mut Input<'_>) -> Result<(), Stop>
+        ensures own { Untouched self.old.streams.entries self.new.streams.entries }
+        ensures left { Left self.old.streams.entries self.new.streams.entries }
+        ensures same { input.old.report ≡ report.Stream id
+            → OnOk result (Same self.old.streams.entries input.old self.new.streams.entries input.new) }
+        ensures report { input.new.report ≡ input.old.report }
+        ensures config { self.new.config ≡ self.old.config }
+    {
+        if self.is_decoder(id) {
             self.read_decoder_stream(id, input)?;
         }
-        if input.chunk.is_last() {
-            self.note_end(id);
-        }
-        if self.peer_of(id) != Peer::Reads {
+        Ok(())
+    }
+
+    // Takes in bytes of a stream that are not for the own encoder.
+    #[tactic(auto, using(crate::proofs::ReadsLemmas::more_tells, crate::proofs::ReadsLemmas::left_more_tells))]
+    fn bytes_came<'a>(&mut self, id: u64, input: &mut Input<'a>) -> Result<Step<'a>, Stop>
+        ensures own { self.old.config.on_malformed ≡ chosen.Reset
+            → Untouched self.old.streams.entries self.new.streams.entries }
+        ensures tells { input.old.report ≡ report.Stream id → IfOk result (λ s. Tells (told_in s)
+            self.old.streams.entries input.old self.new.streams.entries input.new) }
+        ensures config { self.new.config ≡ self.old.config }
+    {
+        if !self.is_read(id) {
             self.drop_input(id, input)?;
             return Ok(Step::More);
         }
@@ -49,20 +74,28 @@ impl Connection {
         self.read_input(id, input)
     }
 
-    // The end of the peer's half of a stream came.
-    #[tactic(auto, using(crate::proofs::OwnLemmas::untouched_set))]
-    fn note_end(&mut self, id: u64)
+    // Notes whether the end of the peer's half of a stream came.
+    #[tactic(auto, using(crate::proofs::OwnLemmas::untouched_set, crate::proofs::TheirsLemmas::left_set))]
+    fn note_end(&mut self, id: u64, is_last: bool)
         ensures own { Untouched self.old.streams.entries self.new.streams.entries }
+        ensures left { Left self.old.streams.entries self.new.streams.entries }
         ensures config { self.new.config ≡ self.old.config }
     {
+        if !is_last {
+            return;
+        }
         if let Some(entry) = self.streams.get_mut(&id) {
             entry.is_ended = true;
         }
     }
 
     // Drops bytes of a stream that is not read.
+    #[tactic(auto, using(crate::proofs::ReadsLemmas::dropped_same))]
     fn drop_input<'a>(&mut self, id: u64, input: &mut Input<'a>) -> Result<(), AllocError>
         ensures own { Untouched self.old.streams.entries self.new.streams.entries }
+        ensures left { Left self.old.streams.entries self.new.streams.entries }
+        ensures same { input.old.report ≡ report.Stream id → theirs_at self.old.streams.entries id ≡ Gone
+            → OnOk result (Same self.old.streams.entries input.old self.new.streams.entries input.new) }
         ensures config { self.new.config ≡ self.old.config }
     {
         if input.chunk.is_last() {
@@ -80,6 +113,8 @@ impl Connection {
     fn read_input<'a>(&mut self, id: u64, input: &mut Input<'a>) -> Result<Step<'a>, Stop>
         ensures own { self.old.config.on_malformed ≡ chosen.Reset
             → Untouched self.old.streams.entries self.new.streams.entries }
+        ensures tells { input.old.report ≡ report.Stream id → IfOk result (λ s. Tells (told_in s)
+            self.old.streams.entries input.old self.new.streams.entries input.new) }
         ensures config { self.new.config ≡ self.old.config }
     {
         let len = input.chunk.len();
@@ -92,6 +127,7 @@ impl Connection {
     }
 
     // Handles what was heard in bytes of a stream.
+    #[tactic(auto, using(crate::proofs::ReadsLemmas::same_more_passes, crate::proofs::ReadsLemmas::left_more_passes, crate::proofs::ReadsLemmas::hands_passes))]
     pub(super) fn heard_in_input<'a>(
         &mut self,
         id: u64,
@@ -100,6 +136,9 @@ impl Connection {
     ) -> Result<Step<'a>, Stop>
         ensures own { self.old.config.on_malformed ≡ chosen.Reset
             → Untouched self.old.streams.entries self.new.streams.entries }
+        ensures passes { input.old.report ≡ report.Stream id
+            → IfOk result (λ s. Passes id (content_in heard.entry) (told_in s)
+            self.old.streams.entries input.old self.new.streams.entries input.new) }
         ensures config { self.new.config ≡ self.old.config }
     {
         match heard {
@@ -122,88 +161,115 @@ impl Connection {
     pub(super) fn read_kept<'a>(&mut self, id: u64) -> Result<Step<'a>, Stop>
         ensures own { self.old.config.on_malformed ≡ chosen.Reset
             → Untouched self.old.streams.entries self.new.streams.entries }
+        ensures tells { IfOk result (λ s. TellsKept (told_in s) self.old.streams.entries self.new.streams.entries) }
         ensures config { self.new.config ≡ self.old.config }
     {
-        if self.peer_of(id) != Peer::Reads || self.is_paused(id) {
+        if !self.is_read(id) || self.is_paused(id) {
             self.pending.resumed = None;
             return Ok(Step::More);
         }
-        let mut nothing = Chunk::new(&[], false);
-        match self.read(id, &mut nothing)? {
+        match self.read_rest(id)? {
             None => Ok(Step::More),
-            Some(Heard::Event(Said::More)) => {
+            Some(heard) => self.heard_in_kept(id, heard),
+        }
+    }
+
+    // Handles what was heard in what is kept of a stream.
+    #[tactic(auto, using(crate::proofs::ReadsLemmas::more_hands))]
+    fn heard_in_kept<'a>(&mut self, id: u64, heard: Heard<'a>) -> Result<Step<'a>, Stop>
+        ensures own { self.old.config.on_malformed ≡ chosen.Reset
+            → Untouched self.old.streams.entries self.new.streams.entries }
+        ensures hands { IfOk result (λ s. Hands id (content_in heard.entry) (told_in s)
+            self.old.streams.entries self.new.streams.entries) }
+        ensures config { self.new.config ≡ self.old.config }
+    {
+        match heard {
+            Heard::Event(Said::More) => {
                 self.pending.resumed = None;
                 self.waiting.remove(&id);
                 self.credit_kept(id)?;
                 Ok(Step::More)
             }
-            Some(Heard::Event(Said::Waits(wait))) => {
+            Heard::Event(Said::Waits(wait)) => {
                 self.wait_for(id, wait)?;
                 self.pending.resumed = None;
                 Ok(Step::More)
             }
-            Some(heard) => self.heard(id, heard),
+            heard => self.heard(id, heard),
+        }
+    }
+
+    // Returns what is heard next in what is kept of a stream.
+    fn read_rest<'a>(&mut self, id: u64) -> Result<Option<Heard<'a>>, Stop>
+        ensures own { Untouched self.old.streams.entries self.new.streams.entries }
+        ensures reads { IfOk result (λ heard. ReadsKept id (content_by heard)
+            self.old.streams.entries self.new.streams.entries) }
+        ensures config { self.new.config ≡ self.old.config }
+    {
+        let mut nothing = Chunk::new(&[], false);
+        let heard = self.read(id, &mut nothing)?;
+        if is_nothing(&nothing) {
+            Ok(heard)
+        } else {
+            Err(internal())
         }
     }
 
     // Returns what is heard next on a stream: nothing yet, if more of its bytes are to be looked at.
-    #[tactic(auto, using(crate::proofs::OwnLemmas::untouched_set))]
+    #[tactic(auto, using(crate::proofs::ReadsLemmas::reads_left, crate::proofs::ReadsLemmas::left_reads))]
     fn read<'a>(&mut self, id: u64, chunk: &mut Chunk<'a>) -> Result<Option<Heard<'a>>, Stop>
         ensures own { Untouched self.old.streams.entries self.new.streams.entries }
+        ensures reads { IfOk result (λ heard. ReadsOn id (content_by heard) self.old.streams.entries chunk.old
+            self.new.streams.entries chunk.new) }
         ensures config { self.new.config ≡ self.old.config }
     {
         if let Some(session) = self.session_awaited(id) {
             let event = self.join(id, session)?;
             return Ok(Some(Heard::Event(event)));
         }
-        let Some(entry) = self.streams.get_mut(&id) else {
-            return Ok(None);
-        };
-        let before = entry.credited();
-        let kept = entry.reading.len();
-        let len = chunk.len();
-        let found = entry
-            .reading
-            .next(self.alloc, &mut self.shared, &mut self.fields, chunk)?;
-        let left = entry.reading.len();
-        if !is_failure(&found) {
-            let read = kept
-                .saturating_add(len)
-                .saturating_sub(left.saturating_add(chunk.len()));
-            entry.offset = entry.offset.saturating_add(read as u64);
-        }
-        let owed = entry.withheld.min(kept.saturating_sub(left));
-        entry.withheld = entry.withheld.saturating_sub(owed);
-        let after = entry.credited();
-        self.count_held(before, after);
+        let (found, owed) = self.look(id, chunk)?;
         self.credit(id, owed)?;
-        self.shared.acknowledge(id, &mut self.told)?;
+        // (without memory for it, what the section says would be lost)
+        if self.shared.acknowledge(id, &mut self.told).is_err() {
+            return Err(internal());
+        }
         match found {
             Found::Heard(heard) => Ok(Some(heard)),
             Found::Again => Ok(None),
         }
     }
 
+    // Returns what is found next on a stream, and by how many bytes QUIC's windows are then to be extended.
+    #[tactic(auto, using(crate::proofs::OwnLemmas::untouched_set, crate::proofs::ReadsLemmas::reads_set, crate::proofs::ReadsLemmas::left_reads, crate::proofs::StepLemmas::left_itself))]
+    fn look<'a>(&mut self, id: u64, chunk: &mut Chunk<'a>) -> Result<(Found<'a>, usize), Stop>
+        ensures own { Untouched self.old.streams.entries self.new.streams.entries }
+        ensures reads { IfOk result (λ r. ReadsOn id (content_found r.0) self.old.streams.entries chunk.old
+            self.new.streams.entries chunk.new) }
+        ensures config { self.new.config ≡ self.old.config }
+    {
+        let Some(entry) = self.streams.get_mut(&id) else {
+            return Ok((Found::Again, 0));
+        };
+        let before = entry.credited();
+        let kept = entry.reading.len();
+        let len = chunk.len();
+        let found = entry.look(self.alloc, &mut self.shared, &mut self.fields, chunk)?;
+        let owed = entry.count_looked(&found, kept, len, chunk.len());
+        let after = entry.credited();
+        self.held = counted(self.held, before, after);
+        Ok((found, owed))
+    }
+
     // Extends QUIC's windows by bytes that had waited.
     pub(super) fn credit(&mut self, id: u64, len: usize) -> Result<(), AllocError>
         ensures own { Untouched self.old.streams.entries self.new.streams.entries }
+        ensures left { Left self.old.streams.entries self.new.streams.entries }
         ensures config { self.new.config ≡ self.old.config }
     {
         if len > 0 {
             self.outputs.push_back(Output::Credit(id, len))?;
         }
         Ok(())
-    }
-
-    // Returns the session that a stream waits for.
-    pub(super) fn session_awaited(&self, id: u64) -> Option<u64> {
-        match self.streams.get(&id) {
-            Some(entry) => match entry.reading.waits() {
-                Some(Waits::Session(session)) => Some(session),
-                _ => None,
-            },
-            None => None,
-        }
     }
 
     // Returns how many more bytes of a stream that waits QUIC's windows are extended by. Half of `receive_buffer_all` is
@@ -222,10 +288,12 @@ impl Connection {
 
     // Keeps the bytes of the input, whose stream needs more, waits or is paused. QUIC's windows are extended by at most
     // `most` of them.
-    #[tactic(auto, using(crate::proofs::OwnLemmas::untouched_set))]
+    #[tactic(auto, using(crate::proofs::OwnLemmas::untouched_set, crate::proofs::TheirsLemmas::left_set, crate::proofs::ReadsLemmas::keep_set, crate::proofs::ReadsLemmas::same_left))]
     fn keep<'a>(&mut self, id: u64, input: &mut Input<'a>, most: usize) -> Result<(), Stop>
         ensures own { self.old.config.on_malformed ≡ chosen.Reset
             → Untouched self.old.streams.entries self.new.streams.entries }
+        ensures same { input.old.report ≡ report.Stream id
+            → OnOk result (Same self.old.streams.entries input.old self.new.streams.entries input.new) }
         ensures config { self.new.config ≡ self.old.config }
     {
         let Some(entry) = self.streams.get_mut(&id) else {
@@ -240,15 +308,16 @@ impl Connection {
         entry.withheld = entry.withheld.saturating_add(len - credit);
         let after = entry.credited();
         input.credit = input.credit.saturating_add(credit);
-        self.count_held(before, after);
+        self.held = counted(self.held, before, after);
         self.check_kept(id)
     }
 
     // Extends QUIC's windows by all that is kept of a stream: it is a frame that is cut, and the rest is to come.
-    #[tactic(auto, using(crate::proofs::OwnLemmas::untouched_set))]
+    #[tactic(auto, using(crate::proofs::OwnLemmas::untouched_set, crate::proofs::TheirsLemmas::left_set))]
     fn credit_kept(&mut self, id: u64) -> Result<(), Stop>
         ensures own { self.old.config.on_malformed ≡ chosen.Reset
             → Untouched self.old.streams.entries self.new.streams.entries }
+        ensures left { Left self.old.streams.entries self.new.streams.entries }
         ensures config { self.new.config ≡ self.old.config }
     {
         let Some(entry) = self.streams.get_mut(&id) else {
@@ -265,10 +334,11 @@ impl Connection {
     }
 
     // Checks the bounds of what is kept of a stream, and of all.
-    #[tactic(auto, using(crate::proofs::OwnLemmas::untouched_set))]
+    #[tactic(auto, using(crate::proofs::OwnLemmas::untouched_set, crate::proofs::TheirsLemmas::left_set))]
     fn check_kept(&mut self, id: u64) -> Result<(), Stop>
         ensures own { self.old.config.on_malformed ≡ chosen.Reset
             → Untouched self.old.streams.entries self.new.streams.entries }
+        ensures left { Left self.old.streams.entries self.new.streams.entries }
         ensures config { self.new.config ≡ self.old.config }
     {
         if self.held > self.config.receive_buffer_all {
@@ -295,128 +365,17 @@ impl Connection {
     pub(super) fn count_held(&mut self, before: usize, after: usize)
         ensures { IsStill self.old self.new }
     {
-        self.held = self.held.saturating_sub(before).saturating_add(after);
-    }
-
-    // Notes that a stream is read again later.
-    pub(super) fn wait(&mut self, id: u64) -> Result<(), AllocError>
-        ensures own { Untouched self.old.streams.entries self.new.streams.entries }
-        ensures config { self.new.config ≡ self.old.config }
-    {
-        self.waiting.insert(id)?;
-        Ok(())
-    }
-
-    // Notes that a stream waits for this. Too many that wait for the dynamic table are an error (RFC 9204, section
-    // 2.1.2).
-    fn wait_for(&mut self, id: u64, wait: Waits) -> Result<(), Stop>
-        ensures own { Untouched self.old.streams.entries self.new.streams.entries }
-        ensures config { self.new.config ≡ self.old.config }
-    {
-        self.wait(id)?;
-        if matches!(wait, Waits::Table(_)) && self.has_too_many_blocked() {
-            if let Said::ConnectionError(fault) = self.shared.too_many_blocked() {
-                return Err(Stop::from(fault));
-            }
-        }
-        Ok(())
-    }
-
-    // Returns whether more streams wait for the dynamic table than may.
-    fn has_too_many_blocked(&self) -> bool {
-        let mut left = u64::from(self.config.qpack_blocked_streams);
-        for id in &self.waiting {
-            if self.is_blocked_by_table(*id) {
-                let Some(less) = left.checked_sub(1) else {
-                    return true;
-                };
-                left = less;
-            }
-        }
-        false
-    }
-
-    // Returns whether a stream waits for more insertions than there were.
-    fn is_blocked_by_table(&self, id: u64) -> bool {
-        match self.streams.get(&id) {
-            Some(entry) => match entry.reading.waits() {
-                Some(Waits::Table(required)) => self.shared.insert_count() < required,
-                _ => false,
-            },
-            None => false,
-        }
-    }
-
-    // Looks at the next of the streams that wait.
-    pub(super) fn wake_next<'a>(&mut self) -> Step<'a>
-        ensures own { Untouched self.old.streams.entries self.new.streams.entries }
-        ensures config { self.new.config ≡ self.old.config }
-    {
-        let Some(id) = self.next_waiting() else {
-            self.pending.is_woken = false;
-            self.pending.cursor = 0;
-            return Step::More;
-        };
-        self.pending.cursor = id.saturating_add(1);
-        if self.is_past(id) {
-            self.pending.resumed = Some(id);
-        }
-        Step::More
-    }
-
-    pub(super) fn next_waiting(&self) -> Option<u64> {
-        let cursor = self.pending.cursor;
-        self.waiting.range(cursor..).next().copied()
-    }
-
-    // Returns whether the wait of a stream is over.
-    fn is_past(&self, id: u64) -> bool {
-        let Some(entry) = self.streams.get(&id) else {
-            return false;
-        };
-        if entry.is_paused {
-            return false;
-        }
-        match entry.reading.waits() {
-            None => true,
-            Some(Waits::Settings) => self.is_configured,
-            Some(Waits::Answer) => false,
-            Some(Waits::Session(session)) => !matches!(self.known_to(id, session), Known::Coming),
-            Some(Waits::Table(required)) => required <= self.shared.insert_count(),
-        }
-    }
-
-    // Looks at the streams that wait once more.
-    pub(super) fn wake(&mut self)
-        ensures { IsStill self.old self.new }
-    {
-        self.pending.is_woken = true;
-        self.pending.cursor = 0;
-    }
-
-    // Returns what is known of a session. At a client any of its requests is over that has no stream left, and was that of
-    // a session for all that is known.
-    pub(super) fn known(&self, session: u64) -> Known
-        ensures { result ≡ known_in self.now session }
-    {
-        match self.streams.get(&session) {
-            Some(entry) => entry.reading.known(&self.shared),
-            None => match self.config.side {
-                Side::Server => self.shared.known_without_stream(session),
-                Side::Client => {
-                    if session % 4 == 0 && self.ids.was(session) {
-                        Known::Over
-                    } else {
-                        Known::Impossible
-                    }
-                }
-            },
-        }
+        self.held = counted(self.held, before, after);
     }
 
     // Passes what came on the decoder stream of the peer to the own encoder.
+    #[tactic(auto, using(crate::proofs::ReadsLemmas::dropped_same))]
     fn read_decoder_stream<'a>(&mut self, id: u64, input: &mut Input<'a>) -> Result<(), Stop>
         ensures own { Untouched self.old.streams.entries self.new.streams.entries }
+        ensures left { Left self.old.streams.entries self.new.streams.entries }
+        ensures same { input.old.report ≡ report.Stream id → theirs_at self.old.streams.entries id ≡ Gone
+            → OnOk result (Same self.old.streams.entries input.old self.new.streams.entries input.new) }
+        ensures report { input.new.report ≡ input.old.report }
         ensures config { self.new.config ≡ self.old.config }
     {
         match self
@@ -444,36 +403,42 @@ impl Connection {
         }
     }
 
+    // Returns whether the peer's half of a stream is read.
+    fn is_read(&self, id: u64) -> bool
+        ensures { result ≡ false → theirs_at self.now.streams.entries id ≡ Gone }
+    {
+        match self.streams.get(&id) {
+            Some(entry) => entry.is_read(),
+            None => false,
+        }
+    }
+
+    // Returns whether a stream is the peer's decoder stream.
+    fn is_decoder(&self, id: u64) -> bool
+        ensures { result ≡ true → theirs_at self.now.streams.entries id ≡ Gone }
+    {
+        match self.streams.get(&id) {
+            Some(entry) => entry.is_decoder,
+            None => false,
+        }
+    }
+
     fn is_paused(&self, id: u64) -> bool {
         match self.streams.get(&id) {
             Some(entry) => entry.is_paused,
             None => false,
         }
     }
+}
 
-    // Registers the streams of the peer up to this one. An ID that cannot be is an error of QUIC.
-    pub(super) fn accept(&mut self, id: u64) -> Result<(), Stop>
-        ensures own { Untouched self.old.streams.entries self.new.streams.entries }
-        ensures config { self.new.config ≡ self.old.config }
-    {
-        if self.ids.is_own(id) {
-            return if self.ids.was_taken(id) {
-                Ok(())
-            } else {
-                Err(internal())
-            };
-        }
-        let next = self.ids.next_of_peer(id);
-        if id < next {
-            return Ok(());
-        }
-        let count = (id - next) / 4;
-        if id >= 1 << 62 || count >= self.config.max_streams {
-            return Err(internal());
-        }
-        for _stream in 0..count + 1 {
-            self.accept_next(id)?;
-        }
-        Ok(())
-    }
+// Returns how many bytes are kept of all streams, where those of one were so many before.
+fn counted(held: usize, before: usize, after: usize) -> usize {
+    held.saturating_sub(before).saturating_add(after)
+}
+
+// Returns whether no bytes are left, and no end.
+fn is_nothing(chunk: &Chunk<'_>) -> bool
+    ensures { result ≡ true → (length chunk.now.bytes.now ≤ 0) × (chunk.now.fin ≡ false) }
+{
+    chunk.len() == 0 && !chunk.is_last()
 }

@@ -3,6 +3,7 @@ ghost use Rattle.std.specs.Prelude.{◌≡◌, false, true, None, IfErr, IfSome,
 ghost use Rattle.vesgrauf.specs.State.{next_output, IsStill, IsRefused, ShowsNext, view_of, blocked_at, blocked_in, is_over, is_own};
 ghost use Rattle.vesgrauf.specs.declared.refused.Refused.TheVariants as refused;
 ghost use Rattle.vesgrauf.specs.Own.{own_at, Took, TookAlone, Untouched, UntouchedBut};
+ghost use Rattle.vesgrauf.specs.Theirs.{Left, IsSilent};
 
 use crate::connection::{Connection, Step};
 use crate::event::EventKind;
@@ -36,10 +37,11 @@ impl Connection {
     /// # Errors
     ///
     /// `NotAsked` if there is none. `Memory`: nothing changes, and the call is to be made again.
-    #[tactic(auto, using(crate::proofs::OwnLemmas::untouched_set))]
+    #[tactic(auto, using(crate::proofs::OwnLemmas::untouched_set, crate::proofs::TheirsLemmas::left_set))]
     pub fn output_taken(&mut self) -> Result<(), Refused>
         ensures refused { IfErr result (λ e. IsRefused e self.old self.new) }
         ensures own { Untouched self.old.streams.entries self.new.streams.entries }
+        ensures left { Left self.old.streams.entries self.new.streams.entries }
         ensures config { self.new.config ≡ self.old.config }
     {
         if self.closes.is_some() {
@@ -143,7 +145,7 @@ impl Connection {
     {
         self.note_room(id);
         if is_done {
-            self.remove_if_done(id)?;
+            self.after_end(id)?;
         }
         Ok(())
     }
@@ -172,6 +174,7 @@ impl Connection {
     // Notes that there may be room on a stream.
     fn note_room(&mut self, id: u64)
         ensures own { Untouched self.old.streams.entries self.new.streams.entries }
+        ensures left { Left self.old.streams.entries self.new.streams.entries }
         ensures config { self.new.config ≡ self.old.config }
     {
         // (one that is passed over is looked at once more)
@@ -185,9 +188,11 @@ impl Connection {
     }
 
     // Tells of the next stream that has room again.
-    #[tactic(auto, using(crate::proofs::OwnLemmas::untouched_set))]
+    #[tactic(auto, using(crate::proofs::OwnLemmas::untouched_set, crate::proofs::TheirsLemmas::left_set))]
     pub(super) fn next_writable<'a>(&mut self) -> Step<'a>
         ensures own { Untouched self.old.streams.entries self.new.streams.entries }
+        ensures left { Left self.old.streams.entries self.new.streams.entries }
+        ensures silent { IsSilent result }
         ensures config { self.new.config ≡ self.old.config }
     {
         for _stream in 0..self.full.len() {
@@ -220,10 +225,11 @@ impl Connection {
     ///
     /// `NotAsked` if QUIC did not take so many. `Memory`: nothing changes, and the call is to be made again. There is
     /// none if the stream is forgotten.
-    #[tactic(auto, using(crate::proofs::OwnLemmas::untouched_set, std::proofs::lemmas::Map::Steps::set_value_same))]
+    #[tactic(auto, using(crate::proofs::OwnLemmas::untouched_set, crate::proofs::TheirsLemmas::left_set, std::proofs::lemmas::Map::Steps::set_value_same))]
     pub fn acked(&mut self, id: u64, len: u64) -> Result<(), Refused>
         ensures refused { IfErr result (λ e. IsRefused e self.old self.new) }
         ensures own { Untouched self.old.streams.entries self.new.streams.entries }
+        ensures left { Left self.old.streams.entries self.new.streams.entries }
         ensures config { self.new.config ≡ self.old.config }
     {
         self.reserve()?;
@@ -242,7 +248,7 @@ impl Connection {
         };
         entry.writing.acked(spares, len)?;
         self.note_room(id);
-        Ok(self.remove_if_done(id)?)
+        Ok(self.after_end(id)?)
     }
 
     /// QUIC takes nothing of this for now, or does again. What is said of one scope does not change another: a stream

@@ -1,8 +1,9 @@
 //! Sessions.
-ghost use Rattle.std.specs.Prelude.{◌≡◌, ◌⊎◌, true, Ok, Err, OnOk, OnErr, IfErr};
+ghost use Rattle.std.specs.Prelude.{◌≡◌, ◌⊎◌, true, Ok, Err, OnOk, OnErr, IfErr, IfOk};
 ghost use Rattle.vesgrauf_stream.specs.Writing.{Drains};
 ghost use Rattle.vesgrauf.specs.State.{IsStill, IsRefused, Changes, IsWhy, RefusesDrain, is_over, open_session};
 ghost use Rattle.vesgrauf.specs.Own.{Untouched, UntouchedBut};
+ghost use Rattle.vesgrauf.specs.Theirs.{Left, IsSilent};
 
 use crate::connection::{Connection, Step, Stop};
 use crate::entry::SHARED;
@@ -16,8 +17,11 @@ use wtp_messages::response::Asked;
 
 impl Connection {
     // A request for a session came. One above the limit is rejected.
+    #[tactic(auto, using(crate::proofs::OwnLemmas::untouched_set, crate::proofs::TheirsLemmas::left_set))]
     pub(super) fn session_came(&mut self, id: u64, list: FieldList) -> Result<Step<'static>, Stop>
         ensures own { Untouched self.old.streams.entries self.new.streams.entries }
+        ensures left { Left self.old.streams.entries self.new.streams.entries }
+        ensures silent { IfOk result IsSilent }
         ensures config { self.new.config ≡ self.old.config }
     {
         if self.sessions >= self.config.max_sessions {
@@ -30,9 +34,10 @@ impl Connection {
     }
 
     // The request on a stream asks for a session.
-    #[tactic(auto, using(crate::proofs::OwnLemmas::untouched_set))]
+    #[tactic(auto, using(crate::proofs::TheirsLemmas::left_set, crate::proofs::OwnLemmas::untouched_set))]
     fn begin_session(&mut self, id: u64)
         ensures own { Untouched self.old.streams.entries self.new.streams.entries }
+        ensures left { Left self.old.streams.entries self.new.streams.entries }
         ensures config { self.new.config ≡ self.old.config }
     {
         self.note_request(id, Asked::Session);
@@ -45,7 +50,7 @@ impl Connection {
     }
 
     // The server accepted a session. It is lost if the server stopped the own half before.
-    #[tactic(auto, using(crate::proofs::OwnLemmas::untouched_set))]
+    #[tactic(auto, using(crate::proofs::OwnLemmas::untouched_set, crate::proofs::TheirsLemmas::left_set))]
     pub(super) fn session_ready(
         &mut self,
         id: u64,
@@ -53,6 +58,8 @@ impl Connection {
         list: FieldList,
     ) -> Result<Step<'static>, Stop>
         ensures own { Untouched self.old.streams.entries self.new.streams.entries }
+        ensures left { Left self.old.streams.entries self.new.streams.entries }
+        ensures silent { IfOk result IsSilent }
         ensures config { self.new.config ≡ self.old.config }
     {
         let Some(entry) = self.streams.get_mut(&id) else {
@@ -77,6 +84,8 @@ impl Connection {
         list: FieldList,
     ) -> Result<Step<'static>, Stop>
         ensures own { Untouched self.old.streams.entries self.new.streams.entries }
+        ensures left { Left self.old.streams.entries self.new.streams.entries }
+        ensures silent { IfOk result IsSilent }
         ensures config { self.new.config ≡ self.old.config }
     {
         self.end_own(id)?;
@@ -95,7 +104,7 @@ impl Connection {
     // Returns whether a stream has waited since before the last tick but one for a session that no request asks for.
     fn is_late(&self, id: u64, session: u64) -> bool {
         let is_asked = match self.streams.get(&session) {
-            Some(entry) => entry.is_told,
+            Some(entry) => entry.is_known(),
             None => false,
         };
         match self.streams.get(&id) {
@@ -108,6 +117,7 @@ impl Connection {
     // sessions' own streams wait until then, since they may say that a session is over.
     pub(super) fn session_opened(&mut self) -> Option<u64>
         ensures own { Untouched self.old.streams.entries self.new.streams.entries }
+        ensures left { Left self.old.streams.entries self.new.streams.entries }
         ensures config { self.new.config ≡ self.old.config }
     {
         let session = self.datagrams.opened.front().copied()?;
@@ -149,6 +159,8 @@ impl Connection {
     // Tells what came before a session was open.
     pub(super) fn step_opened<'a>(&mut self, session: u64) -> Step<'a>
         ensures own { Untouched self.old.streams.entries self.new.streams.entries }
+        ensures left { Left self.old.streams.entries self.new.streams.entries }
+        ensures silent { IsSilent result }
         ensures config { self.new.config ≡ self.old.config }
     {
         if let Some(step) = self.early_of(session) {
@@ -200,6 +212,7 @@ impl Connection {
         ensures open { OnOk result (open_session self.old session ≡ Ok tt) }
         ensures refused { IfErr result (λ e. IsRefused e self.old self.new) }
         ensures own { UntouchedBut session self.old.streams.entries self.new.streams.entries }
+        ensures left { Left self.old.streams.entries self.new.streams.entries }
     {
         self.check_session(session)?;
         self.put_close(session, code, reason)?;
@@ -207,10 +220,11 @@ impl Connection {
     }
 
     // Queues the end of a session.
-    #[tactic(auto, using(std::proofs::lemmas::Map::Steps::set_value_same))]
+    #[tactic(auto, using(crate::proofs::TheirsLemmas::left_set, std::proofs::lemmas::Map::Steps::set_value_same))]
     fn put_close(&mut self, session: u64, code: u32, reason: &str) -> Result<(), Refused>
         ensures kept { OnErr result (IsStill self.old self.new) }
         ensures own { UntouchedBut session self.old.streams.entries self.new.streams.entries }
+        ensures left { Left self.old.streams.entries self.new.streams.entries }
         ensures config { self.new.config ≡ self.old.config }
     {
         self.begin_send(session)?;
@@ -231,6 +245,7 @@ impl Connection {
     // The end of a session is queued: what follows for its streams.
     fn session_ended(&mut self, session: u64) -> Result<(), AllocError>
         ensures own { Untouched self.old.streams.entries self.new.streams.entries }
+        ensures left { Left self.old.streams.entries self.new.streams.entries }
         ensures config { self.new.config ≡ self.old.config }
     {
         self.end_session(session)?;

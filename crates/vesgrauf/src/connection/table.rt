@@ -3,11 +3,13 @@ ghost use Rattle.std.specs.Prelude.{◌≡◌, OnOk, IfErr};
 ghost use Rattle.vesgrauf.specs.State.{IsStill, Instructs, SaysAll, SaysOrWaits, view_of, with_begun};
 ghost use Rattle.vesgrauf.specs.declared.connection.Stop.TheVariants as stop;
 ghost use Rattle.vesgrauf.specs.Own.{Untouched};
+ghost use Rattle.vesgrauf.specs.Theirs.{Left};
 
 use crate::connection::failing::EXCESSIVE_LOAD;
 use crate::connection::{Connection, Stop};
 use crate::output::StreamKind;
 use std::alloc::AllocError;
+use wtp_core::error::Code;
 use wtp_dynamic_encoder::proposal::Policy;
 
 /// No table is used if the peer allows one as large as this: no entry has such an index.
@@ -36,6 +38,7 @@ impl Connection {
     // Begins the own dynamic table, if the peer's SETTINGS came and allow one.
     pub(super) fn begin_table(&mut self) -> Result<(), Stop>
         ensures own { Untouched self.old.streams.entries self.new.streams.entries }
+        ensures left { Left self.old.streams.entries self.new.streams.entries }
         ensures config { self.new.config ≡ self.old.config }
     {
         if !self.pending.begins_table {
@@ -124,9 +127,10 @@ impl Connection {
     }
 
     // Tells the peer's encoder that a stream is left, once (RFC 9204, section 2.2.2.2).
-    #[tactic(auto, using(crate::proofs::OwnLemmas::untouched_set))]
+    #[tactic(auto, using(crate::proofs::OwnLemmas::untouched_set, crate::proofs::TheirsLemmas::left_set))]
     pub(super) fn cancel(&mut self, id: u64) -> Result<(), AllocError>
         ensures own { Untouched self.old.streams.entries self.new.streams.entries }
+        ensures left { Left self.old.streams.entries self.new.streams.entries }
         ensures config { self.new.config ≡ self.old.config }
     {
         let Some(entry) = self.streams.get_mut(&id) else {
@@ -138,5 +142,17 @@ impl Connection {
         self.shared.cancel(id, &mut self.told)?;
         entry.may_cancel = false;
         Ok(())
+    }
+
+    // Tells the peer's encoder so of a stream that is left already. Without memory for it the connection ends: nothing would
+    // tell it later.
+    pub(super) fn cancel_left(&mut self, id: u64)
+        ensures own { Untouched self.old.streams.entries self.new.streams.entries }
+        ensures left { Left self.old.streams.entries self.new.streams.entries }
+        ensures config { self.new.config ≡ self.old.config }
+    {
+        if self.cancel(id).is_err() {
+            self.fail(None, Code::H3_INTERNAL_ERROR.number().into_inner(), None);
+        }
     }
 }

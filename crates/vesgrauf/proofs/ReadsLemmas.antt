@@ -1,0 +1,792 @@
+-- What is read of the peer's halves of streams, one call after the other.
+use Rattle.std.proofs.Common.{◌≡◌, ◌⊎◌, ◌++◌, ◌||◌, ◌<◌, ◌≤◌, ◌&&◌, ℕ, List, [], ◌∷◌, Option, None, Some, Bool, true, false, cond, refl, arith, inl, inr, sym, ap, ◌∙◌, drop, take, length, append_assoc, append-nil, length-append, length-take, subst, le_trans, Ordering, Less, Equal, Greater}
+use Rattle.std.specs.Prelude.{◌==◌, ◌%◌, ◌+◌, min, nat_lt}
+use Rattle.std.proofs.lemmas.Bool.Decides.{nat_tests}
+use Rattle.std.specs.Ordering.{nat_cmp, is_eq, MatchOrdering}
+use Rattle.std.specs.Cmp.{nat_cmp_is}
+use Rattle.std.specs.Map.{lookup, set_value}
+use Rattle.std.specs.BTreeMap.{is_at}
+use Rattle.std.proofs.lemmas.Cmp.{ranked, nat_cmp_total, eq_by_cmp_equiv}
+use Rattle.std.proofs.lemmas.Map.{lookup-set_value}
+use Rattle.std.proofs.lemmas.List.{take-append-le, drop-append-le}
+use Rattle.wtp_webtransport.specs.declared.connection.Connection.{Connection as Shared}
+use Rattle.wtp_webtransport.specs.Events.{Told as Say}
+use Rattle.wtp_webtransport.specs.Events as say
+use Rattle.wtp_webtransport.specs.Tables.{Call}
+use Rattle.wtp_webtransport.proofs.PlaceLemmas.{called_within}
+use Rattle.vesgrauf_stream.specs.Reading.{Hears, Keeps, Says, without_payload, kept_of, unread, is_ended}
+use Rattle.vesgrauf_stream.specs.declared.bytes.Chunk.{Chunk}
+use Rattle.vesgrauf_stream.specs.declared.reading.Reading.{Reading}
+use Rattle.vesgrauf_stream.specs.declared.reading.Found.{Found}
+use Rattle.vesgrauf_stream.specs.declared.reading.Found.TheVariants as found
+use Rattle.vesgrauf.specs.declared.entry.Entry.{Entry}
+use Rattle.vesgrauf.specs.declared.entry.Peer.{Peer}
+use Rattle.vesgrauf.specs.declared.event.Event.{Event}
+use Rattle.vesgrauf.specs.declared.entry.Peer.TheVariants as peer
+use Rattle.vesgrauf.specs.declared.input.Input.{Input}
+use Rattle.vesgrauf.specs.declared.input.Report.{Report}
+use Rattle.vesgrauf.specs.declared.input.Report.TheVariants as report
+use Rattle.vesgrauf.specs.declared.connection.ids.Ids.{Ids}
+use Rattle.vesgrauf.specs.Ids.{was, seen, own_bit, kind_of, next_own, next_peer}
+use Rattle.vesgrauf.specs.declared.output.StreamKind.{StreamKind}
+use Rattle.vesgrauf.specs.declared.output.StreamKind.TheVariants as kind
+use Rattle.vesgrauf.specs.Theirs.{Theirs, Gone, Unread, theirs_by, theirs_of, theirs_in, theirs_at, IsLeft, Left, Piece, IsCall, AreCalls, contents, AreRead, IsReadTo, IsRead, Same, ReadsOn, ReadsKept, Hands, Passes, IsHanded, TellsKept, Tells, IsStart, Accepts, TellsAll, unread_at, with_input, with_chunk, content_of, content_on, content_found, is_of, piece_of, told_in, IsSilent}
+use Rattle.vesgrauf.specs.Inputs.{IsSameOrRead, IsTaken}
+use Rattle.vesgrauf.specs.declared.connection.Step.{Step}
+use Rattle.vesgrauf.specs.declared.connection.Step.TheVariants as step
+use Rattle.wtp_connection.specs.declared.connection.Known.{Known}
+use Rattle.wtp_connection.specs.declared.stream.Stream.{Stream as Frames}
+use Rattle.wtp_connection.specs.declared.stream.Stream.TheVariants as frames
+use Rattle.wtp_core.specs.declared.error.scope.ErrorScope.{ErrorScope}
+use Rattle.wtp_core.specs.declared.error.scope.ErrorScope.TheVariants as scope
+use Rattle.wtp_webtransport.specs.declared.fault.Fault.{Fault}
+use Rattle.wtp_webtransport.specs.declared.fault.Fault.TheVariants as fault
+use Rattle.wtp_webtransport.specs.declared.stream.Stream.{Stream}
+use Rattle.wtp_connection.specs.Streams.{Joined as After, joins as joins_streams}
+use Rattle.wtp_webtransport.specs.Joining.{Outcome, joins, joined_by, joined_told, joining_of}
+use Rattle.wtp_webtransport.specs.Receiving.{closed_in}
+use Rattle.wtp_webtransport.specs.Fault.{scope_of}
+use Rattle.wtp_webtransport.specs.Streams.{with_streams}
+
+-- ---- calls one after the other
+
+pub calls_join : (ps qs : List Piece) (bytes mid rest : List ℕ) (ended : Bool)
+    → AreCalls ps bytes ended mid → AreCalls qs mid ended rest → AreCalls (ps ++ qs) bytes ended rest
+calls_join [] qs bytes mid rest ended p q = subst (λ b. AreCalls qs b ended rest) p q
+calls_join (x ∷ ps) qs bytes mid rest ended p q =
+    (p.0, calls_join ps qs (drop x.consumed bytes) mid rest ended p.1 q)
+
+pub contents_join : (ps qs : List Piece) → contents (ps ++ qs) ≡ contents ps ++ contents qs
+contents_join [] qs = refl
+contents_join (p ∷ ps) qs =
+    ap (λ l. content_of p.say ++ l) (contents_join ps qs) ∙ sym (append_assoc (content_of p.say) (contents ps) (contents qs))
+
+-- ---- IDs
+
+same_by : (r : Ordering) (a b : ℕ) → MatchOrdering r (a < b) (a ≡ b) (b < a) → is_eq r ≡ true → a ≡ b
+same_by Less a b h t = cc
+same_by Equal a b h t = h
+same_by Greater a b h t = cc
+
+-- two keys that are at one place are the same
+pub same_key : (a b : ℕ) → is_at (nat_cmp a) b ≡ true → a ≡ b
+same_key a b t = same_by (nat_cmp a b) a b (ranked a b (nat_cmp a b) refl) t
+
+own_key : (a : ℕ) → is_at (nat_cmp a) a ≡ true
+own_key a = ap is_eq (sym (nat_cmp_is a a Equal refl))
+
+-- ---- what is written at a key
+
+set_look : (es : List (ℕ × Entry)) (id k : ℕ) (e f : Entry) → lookup (is_at (nat_cmp id)) es ≡ Some e
+    → lookup (is_at (nat_cmp k)) (set_value (is_at (nat_cmp id)) es f)
+    ≡ cond (is_at (nat_cmp id) k) (Some f) (lookup (is_at (nat_cmp k)) es)
+set_look es id k e f h =
+    lookup-set_value (eq_by_cmp_equiv nat_cmp_total) (is_at (nat_cmp id))
+    (λ x y t. ap (λ n. is_eq (nat_cmp n y)) (same_key id x t)) k f es (rw h refl)
+
+set_here : (es : List (ℕ × Entry)) (id : ℕ) (e f : Entry) → lookup (is_at (nat_cmp id)) es ≡ Some e
+    → lookup (is_at (nat_cmp id)) (set_value (is_at (nat_cmp id)) es f) ≡ Some f
+set_here es id e f h = set_look es id id e f h ∙ ap (λ b. cond b (Some f) (lookup (is_at (nat_cmp id)) es)) (own_key id)
+
+set_there : (es : List (ℕ × Entry)) (id k : ℕ) (e f : Entry) → lookup (is_at (nat_cmp id)) es ≡ Some e
+    → is_at (nat_cmp id) k ≡ false
+    → lookup (is_at (nat_cmp k)) (set_value (is_at (nat_cmp id)) es f) ≡ lookup (is_at (nat_cmp k)) es
+set_there es id k e f h t =
+    set_look es id k e f h ∙ ap (λ b. cond b (Some f) (lookup (is_at (nat_cmp k)) es)) t
+
+-- ---- one step
+
+pub left_refl : (x : Theirs) → IsLeft x x
+left_refl x = inl refl
+
+pub left_steps : (x y z : Theirs) → IsLeft x y → IsLeft y z → IsLeft x z
+left_steps x y z p (inr q) = inr q
+left_steps x y z (inl p) (inl q) = inl (q ∙ p)
+left_steps x y z (inr p) (inl q) = inr (q ∙ p)
+
+-- nothing is read of what is left
+read_left : (x y : Theirs) → IsLeft x y → IsRead x [] y
+read_left x y p = (x, inl (refl, refl), p)
+
+join_reads : (x y z : Theirs) (a b : List ℕ) → AreRead x a y → AreRead y b z → AreRead x (a ++ b) z
+join_reads x y z a b p q =
+    let same : p.rest ≡ q.bytes = cc in
+    let fin : q.ended ≡ p.ended = cc in
+    record {
+      bytes = p.bytes;
+      rest = q.rest;
+      ended = p.ended;
+      pieces = p.pieces ++ q.pieces;
+      from = p.from;
+      to = q.to ∙ ap (λ e. Unread q.rest e) fin;
+      calls = calls_join p.pieces q.pieces p.bytes p.rest q.rest p.ended p.calls
+          (subst (λ e. AreCalls q.pieces p.rest e q.rest) fin
+          (subst (λ l. AreCalls q.pieces l q.ended q.rest) (sym same) q.calls));
+      says = contents_join p.pieces q.pieces ∙ cc;
+    }
+
+join_to : (x y z : Theirs) (a b : List ℕ) → IsReadTo x a y → IsReadTo y b z → IsReadTo x (a ++ b) z
+join_to x y z a b (inl p) (inl q) = inl (q.0 ∙ p.0, ap (λ l. l ++ b) p.1 ∙ q.1)
+join_to x y z a b (inl p) (inr q) =
+    inr (subst (λ l. AreRead x (l ++ b) z) (sym p.1) (subst (λ t. AreRead t b z) p.0 q))
+join_to x y z a b (inr p) (inl q) =
+    inr (subst (λ l. AreRead x (a ++ l) z) (sym q.1)
+    (subst (λ l. AreRead x l z) (sym (append-nil a)) (subst (λ t. AreRead x a t) (sym q.0) p)))
+join_to x y z a b (inr p) (inr q) = inr (join_reads x y z a b p q)
+
+-- what is gone stays so
+pub gone_left_by : (x y : Theirs) → x ≡ Gone → IsLeft x y → y ≡ Gone
+gone_left_by x y h (inl p) = p ∙ h
+gone_left_by x y h (inr p) = p
+
+-- and nothing is read of it
+gone_read : (x z : Theirs) (content : List ℕ) → x ≡ Gone → IsReadTo x content z → (z ≡ Gone) × (content ≡ [])
+gone_read x z content h (inl p) = (p.0 ∙ h, p.1)
+gone_read x z content h (inr p) = absurd (cc (h, p.from))
+
+pub gone_is_read : (x z : Theirs) (content : List ℕ) → x ≡ Gone → IsRead x content z → (z ≡ Gone) × (content ≡ [])
+gone_is_read x z content h p =
+    let g : (p.0 ≡ Gone) × (content ≡ []) = gone_read x p.0 content h p.1 in
+    (gone_left_by p.0 z g.0 p.2, g.1)
+
+steps_by : (x u y z : Theirs) (a b : List ℕ) → IsReadTo x a u → IsLeft u y → IsRead y b z → IsRead x (a ++ b) z
+steps_by x u y z a b p (inl e) q =
+    (q.0, join_to x u q.0 a b p (subst (λ t. IsReadTo t b q.0) e q.1), q.2)
+steps_by x u y z a b p (inr e) q =
+    let g : (z ≡ Gone) × (b ≡ []) = gone_is_read y z b e q in
+    (u, subst (λ l. IsReadTo x (a ++ l) u) (sym g.1) (subst (λ l. IsReadTo x l u) (sym (append-nil a)) p), inr g.0)
+
+pub read_steps : (x y z : Theirs) (a b : List ℕ) → IsRead x a y → IsRead y b z → IsRead x (a ++ b) z
+read_steps x y z a b p q = steps_by x p.0 y z a b p.1 p.2 q
+
+read_then : (x y z : Theirs) (content : List ℕ) → IsRead x content y → IsLeft y z → IsRead x content z
+read_then x y z content p q = (p.0, p.1, left_steps p.0 y z p.2 q)
+
+pub hand_steps : (x y z : Theirs) (a b : List ℕ) → IsRead x a y → IsHanded y a b z → IsRead x b z
+hand_steps x y z a b p (inl q) = subst (λ l. IsRead x l z) (sym q.1) (read_then x y z a p q.0)
+hand_steps x y z a b p (inr q) = (x, inl (refl, q.1), inr q.0)
+
+-- ---- with an input
+
+gone_by : (b : Bool) → cond b Gone Gone ≡ Gone
+gone_by true = refl
+gone_by false = refl
+
+with_gone : (i : Input) (k : ℕ) → with_input i k Gone ≡ Gone
+with_gone i k = gone_by (is_of i.report k)
+
+left_with : (i : Input) (k : ℕ) (x y : Theirs) → IsLeft x y → IsLeft (with_input i k x) (with_input i k y)
+left_with i k x y (inl p) = inl (ap (with_input i k) p)
+left_with i k x y (inr p) = inr (ap (with_input i k) p ∙ with_gone i k)
+
+-- nothing is read and the input stays: no byte is read or lost
+pub left_same : (c d : List (ℕ × Entry)) (i : Input) → Left c d → Same c i d i
+left_same c d i p = record { each = λ k. left_with i k (theirs_at c k) (theirs_at d k) (p.each k) }
+
+pub same_steps : (c d e : List (ℕ × Entry)) (i j k : Input) → Same c i d j → Same d j e k → Same c i e k
+same_steps c d e i j k p q =
+    record { each = λ n. left_steps (unread_at c i n) (unread_at d j n) (unread_at e k n) (p.each n) (q.each n) }
+
+-- nothing is heard, and nothing is told
+passes_by : (b : Bool) (x y : Theirs) (said : List ℕ) → said ≡ [] → IsLeft x y → IsHanded x (cond b [] []) said y
+passes_by true x y said h p = inl (p, h)
+passes_by false x y said h p = inl (p, h)
+
+pub same_passes : (id : ℕ) (said : ℕ → List ℕ) (c d : List (ℕ × Entry)) (i j : Input) → ((k : ℕ) → said k ≡ [])
+    → Same c i d j → Passes id [] said c i d j
+same_passes id said c d i j h p = record {
+  each = λ k. passes_by (is_at (nat_cmp id) k) (unread_at c i k) (unread_at d j k) (said k) (h k) (p.each k);
+}
+
+hand_with : (i : Input) (k : ℕ) (x y : Theirs) (a b : List ℕ) → IsHanded x a b y
+    → IsHanded (with_input i k x) a b (with_input i k y)
+hand_with i k x y a b (inl p) = inl (left_with i k x y p.0, p.1)
+hand_with i k x y a b (inr p) = inr (ap (with_input i k) p.0 ∙ with_gone i k, p.1)
+
+pub hands_passes : (id : ℕ) (content : List ℕ) (said : ℕ → List ℕ) (c d : List (ℕ × Entry)) (i : Input)
+    → Hands id content said c d → Passes id content said c i d i
+hands_passes id content said c d i p = record {
+  each = λ k. hand_with i k (theirs_at c k) (theirs_at d k) (content_on id content k) (said k) (p.each k);
+}
+
+-- ---- bytes of one stream are read
+
+-- with an input of this stream
+reads_by : (b : Bool) (id k : ℕ) (content : List ℕ) (c d : List (ℕ × Entry)) (i j : Chunk)
+    → is_at (nat_cmp id) k ≡ b → ReadsOn id content c i d j
+    → IsRead (cond b (with_chunk (theirs_at c k) i) (theirs_at c k)) (cond b content [])
+    (cond b (with_chunk (theirs_at d k) j) (theirs_at d k))
+reads_by true id k content c d i j h p =
+    subst (λ n. IsRead (with_chunk (theirs_at c n) i) content (with_chunk (theirs_at d n) j)) (same_key id k h) p.here
+reads_by false id k content c d i j h p = read_left (theirs_at c k) (theirs_at d k) (p.there k h)
+
+input_by : (r : Report) (id k : ℕ) → r ≡ report.Stream id → is_of r k ≡ is_at (nat_cmp id) k
+input_by r id k h = ap (λ x. is_of x k) h
+
+pub reads_at : (id k : ℕ) (content : List ℕ) (c d : List (ℕ × Entry)) (i j : Input)
+    → i.report ≡ report.Stream id → j.report ≡ report.Stream id
+    → ReadsOn id content c i.chunk d j.chunk
+    → IsRead (unread_at c i k) (content_on id content k) (unread_at d j k)
+reads_at id k content c d i j h g p =
+    rw (input_by i.report id k h, input_by j.report id k g)
+    (reads_by (is_at (nat_cmp id) k) id k content c d i.chunk j.chunk refl p)
+
+pub reads_pass : (id : ℕ) (content : List ℕ) (said : ℕ → List ℕ) (c d e : List (ℕ × Entry)) (i j l : Input)
+    → i.report ≡ report.Stream id → j.report ≡ report.Stream id
+    → ReadsOn id content c i.chunk d j.chunk → Passes id content said d j e l → Tells said c i e l
+reads_pass id content said c d e i j l h g p q = record {
+  each = λ k. hand_steps (unread_at c i k) (unread_at d j k) (unread_at e l k) (content_on id content k) (said k)
+      (reads_at id k content c d i j h g p) (q.each k);
+}
+
+-- without an input
+chunk_none : (x : Theirs) (i : Chunk) → i.bytes.now ≡ [] → i.fin ≡ false → with_chunk x i ≡ x
+chunk_none Gone i h g = refl
+chunk_none (Unread bytes true) i h g = ap (λ l. Unread l true) (ap (λ l. bytes ++ l) h ∙ append-nil bytes)
+chunk_none (Unread bytes false) i h g =
+    ap (λ l. Unread l i.fin) (ap (λ l. bytes ++ l) h ∙ append-nil bytes) ∙ ap (λ b. Unread bytes b) g
+
+none_left : (l : List ℕ) → length l ≤ 0 → l ≡ []
+none_left [] h = refl
+none_left (x ∷ l) h = absurd (omega (arith, h))
+
+pub reads_kept : (id : ℕ) (content : List ℕ) (c d : List (ℕ × Entry)) (i j : Chunk)
+    → i.bytes.now ≡ [] → i.fin ≡ false → length j.bytes.now ≤ 0 → j.fin ≡ false
+    → ReadsOn id content c i d j → ReadsKept id content c d
+reads_kept id content c d i j e f g h p = record {
+  here = subst (λ y. IsRead (theirs_at c id) content y)
+      (chunk_none (theirs_at d id) j (none_left j.bytes.now g) h)
+      (subst (λ x. IsRead x content (with_chunk (theirs_at d id) j)) (chunk_none (theirs_at c id) i e f) p.here);
+  there = p.there;
+}
+
+kept_by : (b : Bool) (id k : ℕ) (content : List ℕ) (c d : List (ℕ × Entry)) → is_at (nat_cmp id) k ≡ b
+    → ReadsKept id content c d → IsRead (theirs_at c k) (cond b content []) (theirs_at d k)
+kept_by true id k content c d t p =
+    subst (λ n. IsRead (theirs_at c n) content (theirs_at d n)) (same_key id k t) p.here
+kept_by false id k content c d t p = read_left (theirs_at c k) (theirs_at d k) (p.there k t)
+
+pub kept_hands : (id : ℕ) (content : List ℕ) (said : ℕ → List ℕ) (c d e : List (ℕ × Entry))
+    → ReadsKept id content c d → Hands id content said d e → TellsKept said c e
+kept_hands id content said c d e p q = record {
+  each = λ k. hand_steps (theirs_at c k) (theirs_at d k) (theirs_at e k) (content_on id content k) (said k)
+      (kept_by (is_at (nat_cmp id) k) id k content c d refl p) (q.each k);
+}
+
+on_none : (b : Bool) → cond {A = List ℕ} b [] [] ≡ []
+on_none true = refl
+on_none false = refl
+
+pub kept_left : (id : ℕ) (said : ℕ → List ℕ) (c d e : List (ℕ × Entry)) → ((k : ℕ) → said k ≡ [])
+    → ReadsKept id [] c d → Left d e → TellsKept said c e
+kept_left id said c d e h p q = record {
+  each = λ k. subst (λ a. IsRead (theirs_at c k) a (theirs_at e k)) (on_none (is_at (nat_cmp id) k) ∙ sym (h k))
+      (read_then (theirs_at c k) (theirs_at d k) (theirs_at e k) (content_on id [] k)
+      (kept_by (is_at (nat_cmp id) k) id k [] c d refl p) (q.each k));
+}
+
+-- more bytes follow
+or_true : (a b : Bool) → a ≡ true → (a || b) ≡ true
+or_true true b h = refl
+or_true false b h = absurd (cc h)
+
+call_more : (bytes more : List ℕ) (ended fin : Bool) (p : Piece) → IsCall bytes ended p
+    → IsCall (bytes ++ more) (ended || fin) p
+call_more bytes more ended fin p h = record {
+  limit = h.limit;
+  c = h.c;
+  d = h.d;
+  s = h.s;
+  t = h.t;
+  fin = h.fin;
+  within = omega (arith, h.within, length-append bytes more);
+  reads = h.reads;
+  ends = λ e. or_true ended fin (h.ends e);
+  gives = subst (λ l. Call h.limit h.c h.s l h.fin (p.consumed, p.say, h.d, h.t))
+      (sym (take-append-le p.reach bytes more h.within)) h.gives;
+}
+
+pub calls_more : (ps : List Piece) (bytes more rest : List ℕ) (ended fin : Bool) → AreCalls ps bytes ended rest
+    → AreCalls ps (bytes ++ more) (ended || fin) (rest ++ more)
+calls_more [] bytes more rest ended fin h = ap (λ l. l ++ more) h
+calls_more (p ∷ ps) bytes more rest ended fin h = (
+  call_more bytes more ended fin p h.0,
+  subst (λ l. AreCalls ps l (ended || fin) (rest ++ more))
+      (sym (drop-append-le p.consumed bytes more (le_trans h.0.reads h.0.within)))
+      (calls_more ps (drop p.consumed bytes) more rest ended fin h.1),
+)
+
+read_more : (x y : Theirs) (content : List ℕ) (i : Chunk) → AreRead x content y
+    → AreRead (with_chunk x i) content (with_chunk y i)
+read_more x y content i p = record {
+  bytes = p.bytes ++ i.bytes.now;
+  rest = p.rest ++ i.bytes.now;
+  ended = p.ended || i.fin;
+  pieces = p.pieces;
+  from = ap (λ t. with_chunk t i) p.from;
+  to = ap (λ t. with_chunk t i) p.to;
+  calls = calls_more p.pieces p.bytes i.bytes.now p.rest p.ended i.fin p.calls;
+  says = p.says;
+}
+
+to_more : (x y : Theirs) (content : List ℕ) (i : Chunk) → IsReadTo x content y
+    → IsReadTo (with_chunk x i) content (with_chunk y i)
+to_more x y content i (inl p) = inl (ap (λ t. with_chunk t i) p.0, p.1)
+to_more x y content i (inr p) = inr (read_more x y content i p)
+
+chunk_left : (x y : Theirs) (i : Chunk) → IsLeft x y → IsLeft (with_chunk x i) (with_chunk y i)
+chunk_left x y i (inl p) = inl (ap (λ t. with_chunk t i) p)
+chunk_left x y i (inr p) = inr (ap (λ t. with_chunk t i) p)
+
+with_read : (b : Bool) (x y : Theirs) (content : List ℕ) (i : Chunk) → IsRead x content y
+    → IsRead (cond b (with_chunk x i) x) content (cond b (with_chunk y i) y)
+with_read true x y content i p =
+    (with_chunk p.0 i, to_more x p.0 content i p.1, chunk_left p.0 y i p.2)
+with_read false x y content i p = p
+
+pub kept_tells : (said : ℕ → List ℕ) (c d : List (ℕ × Entry)) (i : Input) → TellsKept said c d → Tells said c i d i
+kept_tells said c d i p = record {
+  each = λ k. with_read (is_of i.report k) (theirs_at c k) (theirs_at d k) (said k) i.chunk (p.each k);
+}
+
+-- ---- steps
+
+quiet_by : (x y z : Theirs) (said : List ℕ) → IsLeft x y → IsRead y said z → IsRead x said z
+quiet_by x y z said (inl p) q = subst (λ t. IsRead t said z) p q
+quiet_by x y z said (inr p) q =
+    let g : (z ≡ Gone) × (said ≡ []) = gone_is_read y z said p q in
+    (x, inl (refl, g.1), inr g.0)
+
+pub same_tells : (said : ℕ → List ℕ) (c d e : List (ℕ × Entry)) (i j l : Input)
+    → Same c i d j → Tells said d j e l → Tells said c i e l
+same_tells said c d e i j l p q = record {
+  each = λ k. quiet_by (unread_at c i k) (unread_at d j k) (unread_at e l k) (said k) (p.each k) (q.each k);
+}
+
+-- nothing was told, and then this
+pub tells_steps : (quiet said : ℕ → List ℕ) (c d e : List (ℕ × Entry)) (i j l : Input) → ((k : ℕ) → quiet k ≡ [])
+    → Tells quiet c i d j → Tells said d j e l → Tells said c i e l
+tells_steps quiet said c d e i j l h p q = record {
+  each = λ k. subst (λ a. IsRead (unread_at c i k) (a ++ said k) (unread_at e l k)) (h k)
+      (read_steps (unread_at c i k) (unread_at d j k) (unread_at e l k) (quiet k) (said k) (p.each k) (q.each k));
+}
+
+pub same_tell : (said : ℕ → List ℕ) (c d : List (ℕ × Entry)) (i j : Input) → ((k : ℕ) → said k ≡ [])
+    → Same c i d j → Tells said c i d j
+same_tell said c d i j h p = record {
+  each = λ k. subst (λ a. IsRead (unread_at c i k) a (unread_at d j k)) (sym (h k))
+      (read_left (unread_at c i k) (unread_at d j k) (p.each k));
+}
+
+-- ---- what calls write
+
+and_right : (a b : Bool) → (a && b) ≡ true → b ≡ true
+and_right true b h = h
+and_right false b h = absurd (cc h)
+
+-- the payload of SETTINGS is no content
+no_payload : (say : Say) → content_of (without_payload say) ≡ content_of say
+no_payload (say.Settings settings payload) = refl
+no_payload other = refl
+
+heard_says : (f : Found) (say : Say) (reach all : ℕ) → Says f say reach all → content_of say ≡ content_found f
+heard_says (found.Heard h) say reach all p = sym (no_payload say) ∙ ap content_of (sym p.0)
+heard_says found.Again say reach all p = ap content_of p.0
+
+theirs_same : (e f : Entry) → f.peer ≡ e.peer → f.is_decoder ≡ e.is_decoder
+    → theirs_of f ≡ theirs_by e.peer e.is_decoder f.reading
+theirs_same e f p q = ap (λ x. theirs_by x f.is_decoder f.reading) p ∙ ap (λ x. theirs_by e.peer x f.reading) q
+
+call_reads : (consumed reach : ℕ) (bytes : List ℕ) → consumed ≤ length (take reach bytes)
+    → length (take reach bytes) ≡ min reach (length bytes) → consumed ≤ reach
+call_reads consumed reach bytes h e = omega (arith, h, e)
+
+hears_read : (limit : ℕ) (c d : Shared) (r s : Reading) (i j : Chunk) (found : Found) → Hears limit c r i found d s j
+    → AreRead (with_chunk (Unread (kept_of r) r.ended) i) (content_found found) (with_chunk (Unread (kept_of s) s.ended) j)
+hears_read limit c d r s i j found h = record {
+  bytes = unread r i;
+  rest = unread s j;
+  ended = is_ended r i;
+  pieces = record { reach = h.reach; consumed = h.consumed; say = h.say } ∷ [];
+  from = refl;
+  to = ap (λ e. Unread (unread s j) e) h.ends;
+  calls = (
+    record {
+      limit = limit;
+      c = c;
+      d = d;
+      s = r.stream;
+      t = s.stream;
+      fin = h.reach == length (unread r i) && is_ended r i;
+      within = h.within;
+      reads = call_reads h.consumed h.reach (unread r i) (called_within limit c r.stream (take h.reach (unread r i))
+          (h.reach == length (unread r i) && is_ended r i) (h.consumed, h.say, d, s.stream) h.gives)
+          (length-take h.reach (unread r i));
+      ends = and_right (h.reach == length (unread r i)) (is_ended r i);
+      gives = h.gives;
+    },
+    h.left,
+  );
+  says = append-nil (content_of h.say) ∙ heard_says found h.say h.reach (length (unread r i)) h.says;
+}
+
+-- a stream is read, and nothing is said of content if its bytes are instructions for the own encoder
+reads_by_peer : (p : Peer) (b : Bool) (limit : ℕ) (c d : Shared) (r s : Reading) (i j : Chunk) (found told : Found)
+    → p ≡ peer.Reads → (b ≡ false → told ≡ found) → (b ≡ true → content_found told ≡ [])
+    → Hears limit c r i found d s j
+    → IsRead (with_chunk (theirs_by p b r) i) (content_found told) (with_chunk (theirs_by p b s) j)
+reads_by_peer peer.Reads false limit c d r s i j found told g same none h = (
+  with_chunk (Unread (kept_of s) s.ended) j,
+  inr (subst (λ f. AreRead (with_chunk (Unread (kept_of r) r.ended) i) (content_found f)
+      (with_chunk (Unread (kept_of s) s.ended) j)) (sym (same refl)) (hears_read limit c d r s i j found h)),
+  inl refl,
+)
+reads_by_peer peer.Reads true limit c d r s i j found told g same none h =
+    (Gone, inl (refl, none refl), inl refl)
+reads_by_peer other b limit c d r s i j found told g same none h = absurd (cc g)
+
+-- what an entry finds
+pub looked : (e f : Entry) (limit : ℕ) (c d : Shared) (i j : Chunk) (found told : Found)
+    → e.peer ≡ peer.Reads → (e.is_decoder ≡ false → told ≡ found) → (e.is_decoder ≡ true → content_found told ≡ [])
+    → f.peer ≡ e.peer → f.is_decoder ≡ e.is_decoder → Hears limit c e.reading i found d f.reading j
+    → IsRead (with_chunk (theirs_of e) i) (content_found told) (with_chunk (theirs_of f) j)
+looked e f limit c d i j found told g same none p q h =
+    subst (λ y. IsRead (with_chunk (theirs_of e) i) (content_found told) (with_chunk y j)) (sym (theirs_same e f p q))
+    (reads_by_peer e.peer e.is_decoder limit c d e.reading f.reading i j found told g same none h)
+
+pub looked_plain : (e f : Entry) (limit : ℕ) (c d : Shared) (i j : Chunk) (found : Found)
+    → e.peer ≡ peer.Reads → e.is_decoder ≡ false
+    → f.peer ≡ e.peer → f.is_decoder ≡ e.is_decoder → Hears limit c e.reading i found d f.reading j
+    → IsRead (with_chunk (theirs_of e) i) (content_found found) (with_chunk (theirs_of f) j)
+looked_plain e f limit c d i j found g n p q h =
+    looked e f limit c d i j found found g (λ _. refl) (λ t. absurd (cc (sym n ∙ t))) p q h
+
+pub not_looked : (e : Entry) (i : Chunk) → IsRead (with_chunk (theirs_of e) i) [] (with_chunk (theirs_of e) i)
+not_looked e i = read_left (with_chunk (theirs_of e) i) (with_chunk (theirs_of e) i) (inl refl)
+
+-- and then its stream
+pub reads_set : (es : List (ℕ × Entry)) (id : ℕ) (e f : Entry) (content : List ℕ) (i j : Chunk)
+    → lookup (is_at (nat_cmp id)) es ≡ Some e
+    → IsRead (with_chunk (theirs_of e) i) content (with_chunk (theirs_of f) j)
+    → ReadsOn id content es i (set_value (is_at (nat_cmp id)) es f) j
+reads_set es id e f content i j h p = record {
+  here = subst (λ y. IsRead (with_chunk (theirs_at es id) i) content (with_chunk y j))
+      (sym (ap theirs_in (set_here es id e f h)))
+      (subst (λ x. IsRead (with_chunk x i) content (with_chunk (theirs_of f) j)) (sym (ap theirs_in h)) p);
+  there = λ k t. inl (ap theirs_in (set_there es id k e f h t));
+}
+
+pub counted_set : (es : List (ℕ × Entry)) (id : ℕ) (e f g : Entry) (content : List ℕ) (i j : Chunk)
+    → lookup (is_at (nat_cmp id)) es ≡ Some e → theirs_of g ≡ theirs_of f
+    → IsRead (with_chunk (theirs_of e) i) content (with_chunk (theirs_of f) j)
+    → ReadsOn id content es i (set_value (is_at (nat_cmp id)) es g) j
+counted_set es id e f g content i j h q p =
+    reads_set es id e g content i j h
+    (subst (λ t. IsRead (with_chunk (theirs_of e) i) content (with_chunk t j)) (sym q) p)
+
+-- the bytes of an input are kept
+keeps_by_peer : (p : Peer) (b : Bool) (r s : Reading) (i j : Chunk) → Keeps r i s j
+    → theirs_by p b s ≡ with_chunk (theirs_by p b r) i
+keeps_by_peer peer.Reads false r s i j k = ap (λ l. Unread l s.ended) k.kept ∙ ap (λ e. Unread (unread r i) e) k.ended
+keeps_by_peer peer.Reads true r s i j k = refl
+keeps_by_peer other b r s i j k = refl
+
+keep_at : (b : Bool) (es : List (ℕ × Entry)) (id k : ℕ) (e f : Entry) (i j : Chunk)
+    → is_at (nat_cmp id) k ≡ b
+    → lookup (is_at (nat_cmp id)) es ≡ Some e → f.peer ≡ e.peer → f.is_decoder ≡ e.is_decoder
+    → Keeps e.reading i f.reading j
+    → theirs_at (set_value (is_at (nat_cmp id)) es f) k ≡ cond b (with_chunk (theirs_at es k) i) (theirs_at es k)
+keep_at true es id k e f i j t h p q keeps =
+    subst (λ n. theirs_at (set_value (is_at (nat_cmp id)) es f) n ≡ with_chunk (theirs_at es n) i) (same_key id k t)
+    (ap theirs_in (set_here es id e f h) ∙ theirs_same e f p q
+    ∙ keeps_by_peer e.peer e.is_decoder e.reading f.reading i j keeps ∙ sym (ap (λ o. with_chunk (theirs_in o) i) h))
+keep_at false es id k e f i j t h p q keeps = ap theirs_in (set_there es id k e f h t)
+
+pub keep_set : (es : List (ℕ × Entry)) (id : ℕ) (e f : Entry) (i j : Input)
+    → lookup (is_at (nat_cmp id)) es ≡ Some e → f.peer ≡ e.peer → f.is_decoder ≡ e.is_decoder
+    → Keeps e.reading i.chunk f.reading j.chunk → i.report ≡ report.Stream id → j.report ≡ report.Nothing
+    → Same es i (set_value (is_at (nat_cmp id)) es f) j
+keep_set es id e f i j h p q keeps s n = record {
+  each = λ k. inl (rw (ap (λ x. is_of x k) n, ap (λ x. is_of x k) s)
+      (keep_at (is_at (nat_cmp id) k) es id k e f i.chunk j.chunk refl h p q keeps));
+}
+
+-- ---- after a read
+
+pub reads_left : (id : ℕ) (content : List ℕ) (c d e : List (ℕ × Entry)) (i j : Chunk)
+    → ReadsOn id content c i d j → Left d e → ReadsOn id content c i e j
+reads_left id content c d e i j p q = record {
+  here = read_then (with_chunk (theirs_at c id) i) (with_chunk (theirs_at d id) j) (with_chunk (theirs_at e id) j)
+      content p.here (chunk_left (theirs_at d id) (theirs_at e id) j (q.each id));
+  there = λ k t. left_steps (theirs_at c k) (theirs_at d k) (theirs_at e k) (p.there k t) (q.each k);
+}
+
+pub gone_set : (es : List (ℕ × Entry)) (id : ℕ) (e f : Entry) → lookup (is_at (nat_cmp id)) es ≡ Some e
+    → theirs_of f ≡ Gone → theirs_at (set_value (is_at (nat_cmp id)) es f) id ≡ Gone
+gone_set es id e f h p = ap theirs_in (set_here es id e f h) ∙ p
+
+pub reads_tell : (id : ℕ) (said : ℕ → List ℕ) (c d : List (ℕ × Entry)) (i j : Input)
+    → i.report ≡ report.Stream id → j.report ≡ report.Stream id → ((k : ℕ) → said k ≡ [])
+    → ReadsOn id [] c i.chunk d j.chunk → Tells said c i d j
+reads_tell id said c d i j h g silent p = record {
+  each = λ k. subst (λ a. IsRead (unread_at c i k) a (unread_at d j k)) (on_none (is_at (nat_cmp id) k) ∙ sym (silent k))
+      (reads_at id k [] c d i j h g p);
+}
+
+-- ---- steps that read nothing
+
+silent_none : (s : Step) (k : ℕ) → IsSilent s → told_in s k ≡ []
+silent_none (step.Told e) k h = ap (λ l. content_on e.stream l k) h ∙ on_none (is_at (nat_cmp e.stream) k)
+silent_none step.More k h = refl
+silent_none step.Nothing k h = refl
+
+handed_left : (x y : Theirs) (content said : List ℕ) → said ≡ content → IsLeft x y → IsHanded x content said y
+handed_left x y content said h p = inl (p, h)
+
+pub left_hands : (id : ℕ) (s : Step) (c d : List (ℕ × Entry)) → IsSilent s → Left c d → Hands id [] (told_in s) c d
+left_hands id s c d h p = record {
+  each = λ k. handed_left (theirs_at c k) (theirs_at d k) (content_on id [] k) (told_in s k)
+      (silent_none s k h ∙ sym (on_none (is_at (nat_cmp id) k))) (p.each k);
+}
+
+pub silent_hands : (id : ℕ) (content : List ℕ) (s : Step) (c d : List (ℕ × Entry)) → content ≡ [] → IsSilent s → Left c d
+    → Hands id content (told_in s) c d
+silent_hands id content s c d e h p = subst (λ l. Hands id l (told_in s) c d) (sym e) (left_hands id s c d h p)
+
+pub left_tells : (s : Step) (c d : List (ℕ × Entry)) (i : Input) → IsSilent s → Left c d → Tells (told_in s) c i d i
+left_tells s c d i h p = same_tell (told_in s) c d i i (λ k. silent_none s k h) (left_same c d i p)
+
+pub left_reads : (id : ℕ) (content : List ℕ) (c d : List (ℕ × Entry)) (i : Chunk) → content ≡ [] → Left c d
+    → ReadsOn id content c i d i
+left_reads id content c d i h p = record {
+  here = subst (λ l. IsRead (with_chunk (theirs_at c id) i) l (with_chunk (theirs_at d id) i)) (sym h)
+      (read_left (with_chunk (theirs_at c id) i) (with_chunk (theirs_at d id) i)
+      (chunk_left (theirs_at c id) (theirs_at d id) i (p.each id)));
+  there = λ k t. p.each k;
+}
+
+pub gone_left : (c d : List (ℕ × Entry)) (id : ℕ) → theirs_at c id ≡ Gone → Left c d → theirs_at d id ≡ Gone
+gone_left c d id h p = gone_left_by (theirs_at c id) (theirs_at d id) h (p.each id)
+
+pub same_left : (c d e : List (ℕ × Entry)) (i j : Input) → Same c i d j → Left d e → Same c i e j
+same_left c d e i j p q = same_steps c d e i j j p (left_same d e j q)
+
+pub left_then_same : (c d e : List (ℕ × Entry)) (i j : Input) → Left c d → Same d i e j → Same c i e j
+left_then_same c d e i j p q = same_steps c d e i i j (left_same c d i p) q
+
+-- ---- inputs that are taken in without a read
+
+-- bytes of a stream that is not read are dropped
+dropped_by : (b g : Bool) (id k : ℕ) (c d : List (ℕ × Entry)) (i j : Chunk) → is_at (nat_cmp id) k ≡ b
+    → (b ≡ false → g ≡ false) → theirs_at c id ≡ Gone → Left c d
+    → IsLeft (cond b (with_chunk (theirs_at c k) i) (theirs_at c k)) (cond g (with_chunk (theirs_at d k) j) (theirs_at d k))
+dropped_by true g id k c d i j t f h p =
+    let gone : theirs_at d k ≡ Gone = subst (λ n. theirs_at d n ≡ Gone) (same_key id k t) (gone_left c d id h p) in
+    inr (ap (λ x. cond g (with_chunk x j) x) gone ∙ gone_by g)
+dropped_by false g id k c d i j t f h p =
+    subst (λ x. IsLeft (theirs_at c k) (cond x (with_chunk (theirs_at d k) j) (theirs_at d k))) (sym (f refl)) (p.each k)
+
+pub dropped_same : (id : ℕ) (c d : List (ℕ × Entry)) (i j : Input) → i.report ≡ report.Stream id
+    → theirs_at c id ≡ Gone → j.report ≡ report.Nothing → Left c d → Same c i d j
+dropped_same id c d i j r h n p = record {
+  each = λ k. rw (input_by i.report id k r, ap (λ x. is_of x k) n)
+      (dropped_by (is_at (nat_cmp id) k) false id k c d i.chunk j.chunk refl (λ _. refl) h p);
+}
+
+pub passed_same : (id : ℕ) (c d : List (ℕ × Entry)) (i j : Input) → i.report ≡ report.Stream id
+    → theirs_at c id ≡ Gone → j.report ≡ i.report → Left c d → Same c i d j
+passed_same id c d i j r h n p = record {
+  each = λ k. rw (input_by j.report id k (n ∙ r), input_by i.report id k r)
+      (dropped_by (is_at (nat_cmp id) k) (is_at (nat_cmp id) k) id k c d i.chunk j.chunk refl (λ e. e) h p);
+}
+
+-- an input that says nothing of bytes
+pub reported_tells : (s : Step) (c d : List (ℕ × Entry)) (i j : Input) → ((k : ℕ) → is_of i.report k ≡ false)
+    → j.report ≡ report.Nothing → IsSilent s → Left c d → Tells (told_in s) c i d j
+reported_tells s c d i j h n q p = same_tell (told_in s) c d i j (λ k. silent_none s k q) (record {
+  each = λ k. rw (h k, ap (λ x. is_of x k) n) (p.each k);
+})
+
+-- all bytes of an input were read
+taken_none : (b : Bool) (x y : Theirs) → y ≡ x → x ≡ cond b y x
+taken_none true x y h = sym h
+taken_none false x y h = refl
+
+taken_by : (i j : Input) (k : ℕ) (x : Theirs) → IsSameOrRead i j → with_input j k x ≡ with_input i k x
+taken_by i j k x (inl p) = ap (λ n. with_input n k x) p
+taken_by i j k x (inr p) =
+    ap (λ r. cond (is_of r k) (with_chunk x j.chunk) x) p.report
+    ∙ taken_none (is_of i.report k) x (with_chunk x i.chunk) (chunk_none x i.chunk (none_left i.chunk.bytes.now (omega (arith, p.bytes))) p.fin)
+
+pub taken_passes : (id : ℕ) (content : List ℕ) (said : ℕ → List ℕ) (c d : List (ℕ × Entry)) (i j : Input)
+    → IsSameOrRead i j → Hands id content said c d → Passes id content said c i d j
+taken_passes id content said c d i j t p = record {
+  each = λ k. subst (λ y. IsHanded (unread_at c i k) (content_on id content k) (said k) y)
+      (sym (taken_by i j k (theirs_at d k) t))
+      (hand_with i k (theirs_at c k) (theirs_at d k) (content_on id content k) (said k) (p.each k));
+}
+
+-- ---- what joins a session says
+
+joined_silent : (before : Option ℕ) (f : Frames) → content_of (joined_told before f) ≡ []
+joined_silent (Some id) (frames.Session of) = refl
+joined_silent (Some id) (frames.Waiting for) = refl
+joined_silent before other = refl
+
+closed_silent : (c : Shared) (f : Fault) (s : ErrorScope) → content_of (closed_in c f s).1 ≡ []
+closed_silent c f scope.Stream = refl
+closed_silent c f other = refl
+
+after_silent : (c : Shared) (s : Stream) (before : Option ℕ) (a : After) → content_of (joined_by c s before a).0 ≡ []
+after_silent c s before (d, t, None) = joined_silent before t
+after_silent c s before (d, t, Some f) =
+    closed_silent (with_streams c d) (fault.Streams f) (scope_of (fault.Streams f))
+
+joins_by : (b : Bool) (c : Shared) (s : Stream) (x : Outcome) → content_of x.0 ≡ []
+    → content_of (cond b (say.More, c, s) x).0 ≡ []
+joins_by true c s x h = refl
+joins_by false c s x h = h
+
+pub joins_silent : (c : Shared) (s : Stream) (k : Known) → content_of (joins c s k).0 ≡ []
+joins_silent c s k =
+    joins_by c.over c s (joined_by c s (joining_of s.frames) (joins_streams c.streams s.frames k))
+    (after_silent c s (joining_of s.frames) (joins_streams c.streams s.frames k))
+
+-- ---- streams that come to be
+
+pub all_of : (a : Ids) (said : ℕ → List ℕ) (c d : List (ℕ × Entry)) (i j : Input) → Tells said c i d j
+    → TellsAll a said c i d j
+all_of a said c d i j p = record { each = λ k. (theirs_at c k, inl refl, p.each k) }
+
+pub accepts_all : (a b : Ids) (said : ℕ → List ℕ) (c d e : List (ℕ × Entry)) (i j : Input)
+    → Accepts a c b d → Tells said d i e j → TellsAll a said c i e j
+accepts_all a b said c d e i j p q = record { each = λ k. (theirs_at d k, p.each k, q.each k) }
+
+start_by : (s t : Bool) (x y z : Theirs) → (s ≡ true → t ≡ true) → IsStart s x y → IsStart t y z → IsStart s x z
+start_by s t x y z h (inl p) (inl q) = inl (q ∙ p)
+start_by s t x y z h (inr p) (inl q) = inr (p.0, q ∙ p.1)
+start_by true t x y z h p (inr q) = absurd (cc (h refl, q.0))
+start_by false t x y z h p (inr q) = inr (refl, q.1)
+
+pub accepts_steps : (a b f : Ids) (c d e : List (ℕ × Entry)) → Accepts a c b d → Accepts b d f e → Accepts a c f e
+accepts_steps a b f c d e p q = record {
+  each = λ k. start_by (was a k) (was b k) (theirs_at c k) (theirs_at d k) (theirs_at e k) (p.seen k) (p.each k) (q.each k);
+  seen = λ k h. q.seen k (p.seen k h);
+}
+
+pub accepts_none : (a : Ids) (c : List (ℕ × Entry)) → Accepts a c a c
+accepts_none a c = record { each = λ k. inl refl; seen = λ k h. h }
+
+accept_by : (b : Bool) (a : Ids) (es fs : List (ℕ × Entry)) (id k : ℕ) (e : Entry) → is_at (nat_cmp id) k ≡ b
+    → was a id ≡ false → theirs_of e ≡ Unread [] false
+    → lookup (is_at (nat_cmp id)) fs ≡ Some e
+    → ((k : ℕ) → is_at (nat_cmp id) k ≡ false → lookup (is_at (nat_cmp k)) fs ≡ lookup (is_at (nat_cmp k)) es)
+    → IsStart (was a k) (theirs_at es k) (theirs_at fs k)
+accept_by true a es fs id k e t w n here there =
+    subst (λ m. IsStart (was a m) (theirs_at es m) (theirs_at fs m)) (same_key id k t) (inr (w, ap theirs_in here ∙ n))
+accept_by false a es fs id k e t w n here there = inl (ap theirs_in (there k t))
+
+seen_lt : (id n : ℕ) → nat_lt id n ≡ true → nat_lt id (n + 4) ≡ true
+seen_lt id n h = grind (arith, nat_tests, h)
+
+was_by : (b : Bool) (kd kk : StreamKind) (a : Ids) (k : ℕ)
+    → cond b (nat_lt k (next_own a kk)) (nat_lt k (next_peer a kk)) ≡ true
+    → cond b (nat_lt k (next_own (seen a kd) kk)) (nat_lt k (next_peer (seen a kd) kk)) ≡ true
+was_by true kind.Bidirectional kind.Bidirectional a k h = h
+was_by true kind.Bidirectional kind.Unidirectional a k h = h
+was_by true kind.Unidirectional kind.Bidirectional a k h = h
+was_by true kind.Unidirectional kind.Unidirectional a k h = h
+was_by false kind.Bidirectional kind.Bidirectional a k h = seen_lt k a.peer_bidirectional h
+was_by false kind.Bidirectional kind.Unidirectional a k h = h
+was_by false kind.Unidirectional kind.Bidirectional a k h = h
+was_by false kind.Unidirectional kind.Unidirectional a k h = seen_lt k a.peer_unidirectional h
+
+was_seen : (kd : StreamKind) (a : Ids) (k : ℕ) → was a k ≡ true → was (seen a kd) k ≡ true
+was_seen kind.Bidirectional a k h = was_by (k % 2 == own_bit a.side) kind.Bidirectional (kind_of k) a k h
+was_seen kind.Unidirectional a k h = was_by (k % 2 == own_bit a.side) kind.Unidirectional (kind_of k) a k h
+
+pub seen_next : (b : Bool) (kd : StreamKind) (a : Ids) (k : ℕ) → was a k ≡ true → was (cond b (seen a kd) a) k ≡ true
+seen_next true kd a k h = was_seen kd a k h
+seen_next false kd a k h = h
+
+pub accepts_insert : (a b : Ids) (t : Bool) (kd : StreamKind) (es fs : List (ℕ × Entry)) (id : ℕ) (e : Entry)
+    → was a id ≡ false → theirs_of e ≡ Unread [] false → b ≡ cond t (seen a kd) a
+    → lookup (is_at (nat_cmp id)) fs ≡ Some e
+    → ((k : ℕ) → is_at (nat_cmp id) k ≡ false → lookup (is_at (nat_cmp k)) fs ≡ lookup (is_at (nat_cmp k)) es)
+    → Accepts a es b fs
+accepts_insert a b t kd es fs id e w n i here there = record {
+  each = λ k. accept_by (is_at (nat_cmp id) k) a es fs id k e refl w n here there;
+  seen = λ k h. subst (λ x. was x k ≡ true) (sym i) (seen_next t kd a k h);
+}
+
+-- ---- steps that tell nothing
+
+pub more_tells : (c d : List (ℕ × Entry)) (i j : Input) → Same c i d j → Tells (told_in step.More) c i d j
+more_tells c d i j p = same_tell (told_in step.More) c d i j (λ k. refl) p
+
+pub left_more_tells : (c d e : List (ℕ × Entry)) (i j : Input) → Left c d → Same d i e j
+    → Tells (told_in step.More) c i e j
+left_more_tells c d e i j p q = more_tells c e i j (left_then_same c d e i j p q)
+
+pub reads_more_tells : (id : ℕ) (c d : List (ℕ × Entry)) (i j : Input)
+    → i.report ≡ report.Stream id → j.report ≡ report.Stream id → ReadsOn id [] c i.chunk d j.chunk
+    → Tells (told_in step.More) c i d j
+reads_more_tells id c d i j h g p = reads_tell id (told_in step.More) c d i j h g (λ k. refl) p
+
+pub more_passes : (id : ℕ) (c d : List (ℕ × Entry)) (i j : Input) → Same c i d j
+    → Passes id [] (told_in step.More) c i d j
+more_passes id c d i j p = same_passes id (told_in step.More) c d i j (λ k. refl) p
+
+pub same_more_passes : (id : ℕ) (c d e : List (ℕ × Entry)) (i j : Input) → Same c i d j → Left d e
+    → Passes id [] (told_in step.More) c i e j
+same_more_passes id c d e i j p q = more_passes id c e i j (same_left c d e i j p q)
+
+pub left_more_passes : (id : ℕ) (c d e : List (ℕ × Entry)) (i j : Input) → Left c d → Same d i e j
+    → Passes id [] (told_in step.More) c i e j
+left_more_passes id c d e i j p q = more_passes id c e i j (left_then_same c d e i j p q)
+
+pub more_hands : (id : ℕ) (c d : List (ℕ × Entry)) → Left c d → Hands id [] (told_in step.More) c d
+more_hands id c d p = left_hands id step.More c d tt p
+
+pub more_kept : (id : ℕ) (c d : List (ℕ × Entry)) → ReadsKept id [] c d → TellsKept (told_in step.More) c d
+more_kept id c d p =
+    kept_left id (told_in step.More) c d d (λ k. refl) p (record { each = λ k. inl refl })
+
+pub none_kept : (c : List (ℕ × Entry)) → TellsKept (told_in step.More) c c
+none_kept c = record { each = λ k. read_left (theirs_at c k) (theirs_at c k) (inl refl) }
+
+-- content is told on its stream, or the stream is read no further
+hand_by : (b : Bool) (x : Theirs) (content : List ℕ) → IsHanded x (cond b content []) (cond b content []) x
+hand_by b x content = inl (inl refl, refl)
+
+pub told_hands : (id : ℕ) (content : List ℕ) (e : Event) (c : List (ℕ × Entry)) → e.stream ≡ id
+    → piece_of e.kind ≡ content → Hands id content (told_in (step.Told e)) c c
+told_hands id content e c p q = record {
+  each = λ k. rw (p, q) (hand_by (is_at (nat_cmp id) k) (theirs_at c k) content);
+}
+
+gone_by_id : (b : Bool) (id k : ℕ) (content : List ℕ) (c d : List (ℕ × Entry)) → is_at (nat_cmp id) k ≡ b
+    → Left c d → theirs_at d id ≡ Gone → IsHanded (theirs_at c k) (cond b content []) [] (theirs_at d k)
+gone_by_id true id k content c d t p g =
+    inr (subst (λ n. theirs_at d n ≡ Gone) (same_key id k t) g, refl)
+gone_by_id false id k content c d t p g = inl (p.each k, refl)
+
+pub gone_hands : (id : ℕ) (content : List ℕ) (c d : List (ℕ × Entry)) → Left c d → theirs_at d id ≡ Gone
+    → Hands id content (told_in step.More) c d
+gone_hands id content c d p g = record {
+  each = λ k. gone_by_id (is_at (nat_cmp id) k) id k content c d refl p g;
+}
+
+-- nothing was read and told, and then this
+start_none : (s : Bool) (u v x y : Theirs) (f : Theirs → Theirs) (content : List ℕ) → IsRead (f u) [] (f v)
+    → IsStart s v x → IsRead (f x) content y → (t : Theirs) × IsStart s u t × IsRead (f t) content y
+start_none s u v x y f content p (inl h) r =
+    (u, inl refl, read_steps (f u) (f v) y [] content p (subst (λ t. IsRead (f t) content y) h r))
+start_none s u v x y f content p (inr h) r = (x, inr h, r)
+
+pub none_all : (a : Ids) (quiet said : ℕ → List ℕ) (c d e : List (ℕ × Entry)) (i l : Input)
+    → ((k : ℕ) → quiet k ≡ []) → Tells quiet c i d i → TellsAll a said d i e l → TellsAll a said c i e l
+none_all a quiet said c d e i l h p q = record {
+  each = λ k. start_none (was a k) (theirs_at c k) (theirs_at d k) (q.each k).0 (unread_at e l k) (with_input i k)
+      (said k) (subst (λ b. IsRead (unread_at c i k) b (unread_at d i k)) (h k) (p.each k)) (q.each k).1 (q.each k).2;
+}

@@ -1,0 +1,32 @@
+use Rattle.std.proofs.Common.{◌≡◌, ◌∙◌, ap, Some, None}
+use Rattle.std.specs.Prelude.{is_some}
+use Rattle.vesgrauf.specs.State.{is_over}
+use Rattle.vesgrauf.specs.Theirs.{told_by}
+use Rattle.vesgrauf.proofs.StepLemmas.{steps_on, own_on, popped_after}
+use Rattle.vesgrauf.proofs.connection.Connection.take_steps.Goals as goal
+
+pub returns-in-Told-clause-told : goal.returns-in-Told-clause-told
+returns-in-Told-clause-told c = λ h. steps_on (told_by (Some c.in-Told.event)) (is_over c.loop-step.self)
+    (is_over c.first_queued.new.self) (is_over c.try_step.new.self) c.loop-step.invariant.told
+    (ap is_some c.first_queued.ensures.ended) c.try_step.ensures.ends h
+    (ap (λ m. m.entries) c.first_queued.ensures.streams) (rw c.in-Told.is at (c.in_ok-event.ensures.told h))
+
+pub returns-in-Nothing-clause-told : goal.returns-in-Nothing-clause-told
+returns-in-Nothing-clause-told c = λ h. steps_on (told_by None) (is_over c.loop-step.self)
+    (is_over c.first_queued.new.self) (is_over c.try_step.new.self) c.loop-step.invariant.told
+    (ap is_some c.first_queued.ensures.ended) c.try_step.ensures.ends h
+    (ap (λ m. m.entries) c.first_queued.ensures.streams) (rw c.in-Nothing.is at (c.in_ok-event.ensures.told h))
+
+pub loop-step-preserved : goal.loop-step-preserved
+loop-step-preserved c = record {
+  own = λ r. own_on (c.loop-step.invariant.own r) (ap (λ m. m.entries) c.first_queued.ensures.streams)
+      (c.try_step.ensures.own (ap (λ k. k.on_malformed) (c.first_queued.ensures.config ∙ c.loop-step.invariant.config) ∙ r));
+  told = λ h. steps_on (told_by None) (is_over c.loop-step.self)
+      (is_over c.first_queued.new.self) (is_over c.try_step.new.self) c.loop-step.invariant.told
+      (ap is_some c.first_queued.ensures.ended) c.try_step.ensures.ends h
+      (ap (λ m. m.entries) c.first_queued.ensures.streams) (rw c.in-More.is at (c.in_ok-event.ensures.told h));
+  ends = λ h. c.try_step.ensures.ends (ap is_some c.first_queued.ensures.ended ∙ c.loop-step.invariant.ends h);
+  over = λ h. c.try_step.ensures.over (popped_after c.first_queued.ensures.ended c.first_queued.ensures.events
+      (c.loop-step.invariant.over h));
+  config = c.try_step.ensures.config ∙ c.first_queued.ensures.config ∙ c.loop-step.invariant.config;
+}

@@ -1,0 +1,135 @@
+//! What is found next in the bytes of a stream.
+ghost use Rattle.std.specs.Prelude.{◌≡◌, false, true, [], Ok, None, IfOk};
+ghost use Rattle.vesgrauf.specs.Theirs.{IsRead, with_chunk, theirs_of, content_found, content_if};
+ghost use Rattle.vesgrauf.specs.declared.entry.Peer.TheVariants as peer;
+
+use crate::connection::failing::is_failure;
+use crate::entry::Entry;
+use std::alloc::{AllocError, Global};
+use vesgrauf_stream::bytes::Chunk;
+use vesgrauf_stream::heard::Heard;
+use vesgrauf_stream::reading::Found;
+use wtp_webtransport::connection::Connection as Shared;
+use wtp_webtransport::event::Event as Said;
+use wtp_webtransport::fields::Fields;
+
+impl Entry {
+    // Returns what is found next in the bytes that are kept and those of the input. Of a stream that is not read nothing
+    // is.
+    #[tactic(auto, using(crate::proofs::ReadsLemmas::looked, crate::proofs::ReadsLemmas::not_looked))]
+    pub(super) fn look<'a>(
+        &mut self,
+        alloc: Global,
+        shared: &mut Shared,
+        fields: &mut Fields,
+        chunk: &mut Chunk<'a>,
+    ) -> Result<Found<'a>, AllocError>
+        ensures own { self.new.writing ≡ self.old.writing }
+        ensures reads { IfOk result (λ found. IsRead (with_chunk (theirs_of self.old) chunk.old) (content_found found)
+            (with_chunk (theirs_of self.new) chunk.new)) }
+    {
+        if !self.is_read() {
+            return Ok(Found::Again);
+        }
+        let found = self.reading.next(alloc, shared, fields, chunk)?;
+        Ok(said_of(self.is_decoder, found))
+    }
+
+    // Returns what is found in the bytes of the input, if the stream is read, nothing of it is kept, its end did not come,
+    // and it waits for nothing.
+    #[tactic(auto, using(crate::proofs::ReadsLemmas::looked_plain, crate::proofs::ReadsLemmas::not_looked))]
+    pub(super) fn look_plain<'a>(
+        &mut self,
+        alloc: Global,
+        shared: &mut Shared,
+        fields: &mut Fields,
+        chunk: &mut Chunk<'a>,
+    ) -> Result<Option<Found<'a>>, AllocError>
+        ensures own { self.new.writing ≡ self.old.writing }
+        ensures reads { IfOk result (λ found. IsRead (with_chunk (theirs_of self.old) chunk.old) (content_if found)
+            (with_chunk (theirs_of self.new) chunk.new)) }
+        ensures entry { result ≡ Ok None → self.new ≡ self.old }
+        ensures shared { result ≡ Ok None → shared.new ≡ shared.old }
+        ensures fields { result ≡ Ok None → fields.new ≡ fields.old }
+        ensures none { result ≡ Ok None → chunk.new ≡ chunk.old }
+    {
+        if !self.is_plain() {
+            return Ok(None);
+        }
+        let len = chunk.len();
+        let found = self.reading.next(alloc, shared, fields, chunk)?;
+        self.count_read(&found, len.saturating_sub(chunk.len()));
+        Ok(Some(found))
+    }
+
+    // Returns whether it is read, nothing of it is kept, its end did not come, and it waits for nothing.
+    fn is_plain(&self) -> bool
+        ensures reads { result ≡ true → self.now.peer ≡ peer.Reads }
+        ensures content { result ≡ true → self.now.is_decoder ≡ false }
+    {
+        self.is_read()
+            && !self.is_decoder
+            && !self.is_paused
+            && self.reading.len() == 0
+            && !self.reading.has_end()
+            && self.reading.waits().is_none()
+    }
+
+    // Counts what was read where so many bytes were kept and in the input before. Returns by how many bytes QUIC's windows
+    // are to be extended.
+    pub(super) fn count_looked(
+        &mut self,
+        found: &Found<'_>,
+        kept: usize,
+        len: usize,
+        rest: usize,
+    ) -> usize
+        ensures own { self.new.writing ≡ self.old.writing }
+        ensures theirs { theirs_of self.new ≡ theirs_of self.old }
+    {
+        let left = self.reading.len();
+        let read = kept
+            .saturating_add(len)
+            .saturating_sub(left.saturating_add(rest));
+        self.count_read(found, read);
+        let owed = self.withheld.min(kept.saturating_sub(left));
+        self.withheld = self.withheld.saturating_sub(owed);
+        owed
+    }
+
+    // Counts bytes that were read, unless they violate a rule: the count is then where.
+    fn count_read(&mut self, found: &Found<'_>, len: usize)
+        ensures reading { self.new.reading ≡ self.old.reading }
+        ensures peer { self.new.peer ≡ self.old.peer }
+        ensures content { self.new.is_decoder ≡ self.old.is_decoder }
+        ensures own { self.new.writing ≡ self.old.writing }
+    {
+        if !is_failure(found) {
+            self.offset = self.offset.saturating_add(len as u64);
+        }
+    }
+}
+
+// Returns what is said of what was found. No content is, where the bytes are instructions for the own encoder.
+fn said_of<'a>(is_decoder: bool, found: Found<'a>) -> Found<'a>
+    ensures same { is_decoder ≡ false → result ≡ found.entry }
+    ensures none { is_decoder ≡ true → content_found result ≡ [] }
+{
+    if is_decoder && is_content(&found) {
+        return Found::Again;
+    }
+    found
+}
+
+// Returns whether content was found.
+fn is_content(found: &Found<'_>) -> bool
+    ensures { result ≡ false → content_found found.now ≡ [] }
+{
+    match found {
+        Found::Heard(Heard::Data(_)) => true,
+        Found::Heard(Heard::StreamData(_)) => true,
+        Found::Heard(Heard::Event(Said::Data(_))) => true,
+        Found::Heard(Heard::Event(Said::StreamData(_))) => true,
+        _ => false,
+    }
+}

@@ -1,0 +1,172 @@
+//! Steps, until one of them tells an event.
+ghost use Rattle.std.specs.Prelude.{◌≡◌, [], Ok, true, false, IfOk, IfSome};
+ghost use Rattle.vesgrauf.specs.Own.{Untouched};
+ghost use Rattle.vesgrauf.specs.State.{is_over, is_last, go_on, IsAfterEnd, IsSomeOk, IsTold};
+ghost use Rattle.vesgrauf.specs.Theirs.{Accepts, Tells, TellsAll, told_by, told_in, piece_of};
+ghost use Rattle.vesgrauf.specs.declared.config.OnMalformed.TheVariants as chosen;
+
+use crate::connection::{Connection, Step, Stop};
+use crate::event::{Event, EventKind};
+use crate::input::{Input, Report};
+use std::alloc::AllocError;
+
+impl Connection {
+    // Returns the next event, as `next_event` does: the first that is queued, or that of as many steps as it takes.
+    #[tactic(auto, using(crate::proofs::StepLemmas::queued_all))]
+    pub(super) fn next_by_steps<'a>(
+        &mut self,
+        input: &mut Input<'a>,
+    ) -> Result<Option<Event<'a>>, AllocError>
+        ensures last { IsAfterEnd self.old → IsSomeOk result (λ e. is_last e.kind ≡ true) }
+        ensures over { IsAfterEnd self.old → IsAfterEnd self.new }
+        ensures own { self.old.config.on_malformed ≡ chosen.Reset
+            → Untouched self.old.streams.entries self.new.streams.entries }
+        ensures told { is_over self.new ≡ false → IfOk result (λ e. TellsAll self.old.ids (told_by e)
+            self.old.streams.entries input.old self.new.streams.entries input.new) }
+        ensures config { self.new.config ≡ self.old.config }
+    {
+        if let Some(event) = self.first_queued() {
+            return Ok(Some(event));
+        }
+        self.accept_and_step(input)
+    }
+
+    // Returns the next event, after the streams up to that of the input are registered.
+    fn accept_and_step<'a>(
+        &mut self,
+        input: &mut Input<'a>,
+    ) -> Result<Option<Event<'a>>, AllocError>
+        ensures last { IsAfterEnd self.old → IsSomeOk result (λ e. is_last e.kind ≡ true) }
+        ensures over { IsAfterEnd self.old → IsAfterEnd self.new }
+        ensures own { self.old.config.on_malformed ≡ chosen.Reset
+            → Untouched self.old.streams.entries self.new.streams.entries }
+        ensures told { is_over self.new ≡ false → IfOk result (λ e. TellsAll self.old.ids (told_by e)
+            self.old.streams.entries input.old self.new.streams.entries input.new) }
+        ensures config { self.new.config ≡ self.old.config }
+    {
+        self.accept_or_fail(input.report)?;
+        self.take_steps(input)
+    }
+
+    // Registers the streams of the peer up to that of a report. An error ends the connection.
+    fn accept_or_fail(&mut self, report: Report) -> Result<(), AllocError>
+        ensures still { is_over self.old ≡ true → (self.new ≡ self.old) × (result ≡ Ok tt) }
+        ensures own { Untouched self.old.streams.entries self.new.streams.entries }
+        ensures accepts { is_over self.new ≡ false
+            → Accepts self.old.ids self.old.streams.entries self.new.ids self.new.streams.entries }
+        ensures config { self.new.config ≡ self.old.config }
+    {
+        if self.ended.is_some() {
+            return Ok(());
+        }
+        match self.accept_for(report) {
+            Ok(()) => Ok(()),
+            Err(Stop::Memory) => Err(AllocError),
+            Err(Stop::Broken(code, fault)) => {
+                self.fail(None, code, fault);
+                Ok(())
+            }
+        }
+    }
+
+    // Returns the next event, by as many steps as it takes.
+    #[tactic(auto, using(crate::proofs::StepLemmas::quiet_then, crate::proofs::StepLemmas::queued_tells, crate::proofs::StepLemmas::nothing_tells))]
+    pub(super) fn take_steps<'a>(
+        &mut self,
+        input: &mut Input<'a>,
+    ) -> Result<Option<Event<'a>>, AllocError>
+        ensures last { IsAfterEnd self.old → IsSomeOk result (λ e. is_last e.kind ≡ true) }
+        ensures over { IsAfterEnd self.old → IsAfterEnd self.new }
+        ensures ends { is_over self.old ≡ true → is_over self.new ≡ true }
+        ensures own { self.old.config.on_malformed ≡ chosen.Reset
+            → Untouched self.old.streams.entries self.new.streams.entries }
+        ensures told { is_over self.new ≡ false → IfOk result (λ e. Tells (told_by e)
+            self.old.streams.entries input.old self.new.streams.entries input.new) }
+        ensures config { self.new.config ≡ self.old.config }
+    {
+        for _step in 0..u64::MAX {
+            if let Some(event) = self.first_queued() {
+                return Ok(Some(event));
+            }
+            match self.try_step(input)? {
+                Step::Told(event) => return Ok(Some(event)),
+                Step::Nothing => return Ok(None),
+                Step::More => {}
+            }
+        }
+        Ok(None)
+    }
+
+    // Takes a step, before the end of the connection or after it.
+    fn try_step<'a>(&mut self, input: &mut Input<'a>) -> Result<Step<'a>, AllocError>
+        ensures last { IsAfterEnd self.old → IfOk result (λ s. IsTold s (λ e. is_last e.kind ≡ true)) }
+        ensures over { IsAfterEnd self.old → IsAfterEnd self.new }
+        ensures ends { is_over self.old ≡ true → is_over self.new ≡ true }
+        ensures own { self.old.config.on_malformed ≡ chosen.Reset
+            → Untouched self.old.streams.entries self.new.streams.entries }
+        ensures told { is_over self.new ≡ false → IfOk result (λ s. Tells (told_in s)
+            self.old.streams.entries input.old self.new.streams.entries input.new) }
+        ensures config { self.new.config ≡ self.old.config }
+    {
+        match self.ended {
+            Some(ended) => Ok(self.step_after_end(ended, input)),
+            None => self.step_or_fail(input),
+        }
+    }
+
+    // Takes a step. An error ends the connection.
+    fn step_or_fail<'a>(&mut self, input: &mut Input<'a>) -> Result<Step<'a>, AllocError>
+        ensures own { self.old.config.on_malformed ≡ chosen.Reset
+            → Untouched self.old.streams.entries self.new.streams.entries }
+        ensures told { is_over self.new ≡ false → IfOk result (λ s. Tells (told_in s)
+            self.old.streams.entries input.old self.new.streams.entries input.new) }
+        ensures config { self.new.config ≡ self.old.config }
+    {
+        let stream = self.stream_at_hand(input);
+        match self.step(input) {
+            Ok(step) => Ok(step),
+            Err(Stop::Memory) => Err(AllocError),
+            Err(Stop::Broken(code, fault)) => {
+                self.fail(stream, code, fault);
+                Ok(Step::More)
+            }
+        }
+    }
+
+    // Takes the first event that is queued. Content never is.
+    fn first_queued<'a>(&mut self) -> Option<Event<'a>>
+        ensures silent { IfSome result (λ e. piece_of e.kind ≡ []) }
+        ensures last { go_on self.old.events.items ≡ false → IfSome result (λ e. is_last e.kind ≡ true) }
+        ensures events { go_on self.old.events.items ≡ false → go_on self.new.events.items ≡ false }
+        ensures streams { self.new.streams ≡ self.old.streams }
+        ensures ended { self.new.ended ≡ self.old.ended }
+        ensures ids { self.new.ids ≡ self.old.ids }
+        ensures config { self.new.config ≡ self.old.config }
+    {
+        match self.events.pop_front() {
+            Some(event) if !is_content(&event) => Some(self.numbered(event)),
+            _ => None,
+        }
+    }
+
+    // Returns an event that was queued, with the number that the program has given its stream since.
+    fn numbered<'a>(&self, event: Event<'a>) -> Event<'a>
+        ensures { result.kind ≡ event.entry.kind }
+    {
+        let mut event = event;
+        if let (EventKind::Stopped(_), Some(entry)) = (
+            &event.kind,
+            self.streams.get(&event.stream),
+        ) {
+            event.user = entry.user;
+        }
+        event
+    }
+}
+
+// Returns whether an event tells content.
+fn is_content(event: &Event<'_>) -> bool
+    ensures { result ≡ false → piece_of event.now.kind ≡ [] }
+{
+    matches!(event.kind, EventKind::Data(_))
+}

@@ -1,0 +1,144 @@
+//! Streams that wait.
+ghost use Rattle.std.specs.Prelude.{◌≡◌};
+ghost use Rattle.vesgrauf.specs.State.{IsStill, known_in};
+ghost use Rattle.vesgrauf.specs.Own.{Untouched};
+ghost use Rattle.vesgrauf.specs.Theirs.{Left, IsSilent};
+
+use crate::connection::{Connection, Step, Stop};
+use std::alloc::AllocError;
+use wtp_connection::connection::Known;
+use wtp_frames::endpoint::Side;
+use wtp_webtransport::event::{Event as Said, Waits};
+
+impl Connection {
+    // Returns the session that a stream waits for.
+    pub(super) fn session_awaited(&self, id: u64) -> Option<u64> {
+        match self.streams.get(&id) {
+            Some(entry) => match entry.reading.waits() {
+                Some(Waits::Session(session)) => Some(session),
+                _ => None,
+            },
+            None => None,
+        }
+    }
+
+    // Notes that a stream is read again later.
+    pub(super) fn wait(&mut self, id: u64) -> Result<(), AllocError>
+        ensures own { Untouched self.old.streams.entries self.new.streams.entries }
+        ensures left { Left self.old.streams.entries self.new.streams.entries }
+        ensures config { self.new.config ≡ self.old.config }
+    {
+        self.waiting.insert(id)?;
+        Ok(())
+    }
+
+    // Notes that a stream waits for this. Too many that wait for the dynamic table are an error (RFC 9204, section
+    // 2.1.2).
+    pub(super) fn wait_for(&mut self, id: u64, wait: Waits) -> Result<(), Stop>
+        ensures own { Untouched self.old.streams.entries self.new.streams.entries }
+        ensures left { Left self.old.streams.entries self.new.streams.entries }
+        ensures config { self.new.config ≡ self.old.config }
+    {
+        self.wait(id)?;
+        if matches!(wait, Waits::Table(_)) && self.has_too_many_blocked() {
+            if let Said::ConnectionError(fault) = self.shared.too_many_blocked() {
+                return Err(Stop::from(fault));
+            }
+        }
+        Ok(())
+    }
+
+    // Returns whether more streams wait for the dynamic table than may.
+    fn has_too_many_blocked(&self) -> bool {
+        let mut left = u64::from(self.config.qpack_blocked_streams);
+        for id in &self.waiting {
+            if self.is_blocked_by_table(*id) {
+                let Some(less) = left.checked_sub(1) else {
+                    return true;
+                };
+                left = less;
+            }
+        }
+        false
+    }
+
+    // Returns whether a stream waits for more insertions than there were.
+    fn is_blocked_by_table(&self, id: u64) -> bool {
+        match self.streams.get(&id) {
+            Some(entry) => match entry.reading.waits() {
+                Some(Waits::Table(required)) => self.shared.insert_count() < required,
+                _ => false,
+            },
+            None => false,
+        }
+    }
+
+    // Looks at the next of the streams that wait.
+    pub(super) fn wake_next<'a>(&mut self) -> Step<'a>
+        ensures own { Untouched self.old.streams.entries self.new.streams.entries }
+        ensures left { Left self.old.streams.entries self.new.streams.entries }
+        ensures silent { IsSilent result }
+        ensures config { self.new.config ≡ self.old.config }
+    {
+        let Some(id) = self.next_waiting() else {
+            self.pending.is_woken = false;
+            self.pending.cursor = 0;
+            return Step::More;
+        };
+        self.pending.cursor = id.saturating_add(1);
+        if self.is_past(id) {
+            self.pending.resumed = Some(id);
+        }
+        Step::More
+    }
+
+    pub(super) fn next_waiting(&self) -> Option<u64> {
+        let cursor = self.pending.cursor;
+        self.waiting.range(cursor..).next().copied()
+    }
+
+    // Returns whether the wait of a stream is over.
+    fn is_past(&self, id: u64) -> bool {
+        let Some(entry) = self.streams.get(&id) else {
+            return false;
+        };
+        if entry.is_paused {
+            return false;
+        }
+        match entry.reading.waits() {
+            None => true,
+            Some(Waits::Settings) => self.is_configured,
+            Some(Waits::Answer) => false,
+            Some(Waits::Session(session)) => !matches!(self.known_to(id, session), Known::Coming),
+            Some(Waits::Table(required)) => required <= self.shared.insert_count(),
+        }
+    }
+
+    // Looks at the streams that wait once more.
+    pub(super) fn wake(&mut self)
+        ensures { IsStill self.old self.new }
+    {
+        self.pending.is_woken = true;
+        self.pending.cursor = 0;
+    }
+
+    // Returns what is known of a session. At a client any of its requests is over that has no stream left, and was that of
+    // a session for all that is known.
+    pub(super) fn known(&self, session: u64) -> Known
+        ensures { result ≡ known_in self.now session }
+    {
+        match self.streams.get(&session) {
+            Some(entry) => entry.reading.known(&self.shared),
+            None => match self.config.side {
+                Side::Server => self.shared.known_without_stream(session),
+                Side::Client => {
+                    if session % 4 == 0 && self.ids.was(session) {
+                        Known::Over
+                    } else {
+                        Known::Impossible
+                    }
+                }
+            },
+        }
+    }
+}
