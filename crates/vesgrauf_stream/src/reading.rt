@@ -2,6 +2,7 @@
 ghost use Rattle.std.specs.Prelude.{◌≡◌, ◌≤◌, vec_len, take, drop};
 
 mod calls;
+mod pieces;
 
 use crate::bytes::Chunk;
 use crate::heard::{Heard, heard_in, kept_from};
