@@ -156,6 +156,12 @@ impl Entry {
         self.peer == Peer::Over && self.is_opened && self.writing.is_done()
     }
 
+    // Returns whether the stream may be full once so many bytes are queued, and the head of their frame.
+    pub(crate) fn may_fill(&self, len: usize, mark: usize) -> bool {
+        let counted = self.writing.counted().saturating_add(len as u64);
+        counted.saturating_add(16) >= mark as u64
+    }
+
     // Queues content, or bytes of a stream of a session. Where the program was told that the stream is full, they are
     // refused as long as it is.
     pub(crate) fn send(
@@ -221,6 +227,7 @@ impl Entry {
     }
 
     // Returns the session of the stream with this ID, as events show it.
+    #[inline(always)]
     pub(crate) fn session_shown(&self, id: u64) -> Option<u64>
         ensures { result ≡ shown_session id self.now }
     {

@@ -256,16 +256,22 @@ impl Connection {
     {
         let was_full = self.full.contains(&id);
         self.begin_send(id)?;
-        if self.full.insert(id).is_err() {
-            self.end_send(id);
-            return Err(Refused::Memory);
-        }
         let Some(entry) = self.streams.get_mut(&id) else {
             return Err(Refused::NoStream);
         };
+        let may_fill = !was_full && entry.may_fill(bytes.len(), self.config.send_buffer);
+        if may_fill && self.full.insert(id).is_err() {
+            self.end_send(id);
+            return Err(Refused::Memory);
+        }
         let result = entry.send(&mut self.tools.spares, bytes, fin, was_full);
-        self.end_send(id);
-        self.note_full(id, was_full || matches!(result, Ok(false)));
+        if !entry.has_more() {
+            self.ready.remove(id, entry.kind());
+        }
+        let is_told = was_full || matches!(result, Ok(false));
+        if (was_full || may_fill) && (!is_told || entry.writing.is_ended()) {
+            self.full.remove(&id);
+        }
         result
     }
 
@@ -286,37 +292,29 @@ impl Connection {
         if let Err(why) = self.begin_send(id) {
             return Err(NotSent { why, bytes });
         }
-        if self.full.insert(id).is_err() {
-            self.end_send(id);
-            return Err(NotSent {
-                why: Refused::Memory,
-                bytes,
-            });
-        }
         let Some(entry) = self.streams.get_mut(&id) else {
             return Err(NotSent {
                 why: Refused::NoStream,
                 bytes,
             });
         };
+        let may_fill = !was_full && entry.may_fill(bytes.len(), self.config.send_buffer);
+        if may_fill && self.full.insert(id).is_err() {
+            self.end_send(id);
+            return Err(NotSent {
+                why: Refused::Memory,
+                bytes,
+            });
+        }
         let result = entry.send_owned(&mut self.tools.spares, bytes, fin, was_full);
-        self.end_send(id);
-        self.note_full(id, was_full || matches!(result, Ok(false)));
-        result
-    }
-
-    // Keeps a stream among those of which a `Writable` is owed only if the program was told that it is full, and may send
-    // more.
-    fn note_full(&mut self, id: u64, is_told: bool)
-        ensures { IsStill self.old self.new }
-    {
-        let has_more = match self.streams.get(&id) {
-            Some(entry) => !entry.writing.is_ended(),
-            None => false,
-        };
-        if !is_told || !has_more {
+        if !entry.has_more() {
+            self.ready.remove(id, entry.kind());
+        }
+        let is_told = was_full || matches!(result, Ok(false));
+        if (was_full || may_fill) && (!is_told || entry.writing.is_ended()) {
             self.full.remove(&id);
         }
+        result
     }
 
     /// Sends the trailers of a message, and its end.

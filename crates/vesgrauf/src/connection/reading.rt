@@ -34,14 +34,12 @@ impl Connection {
         if self.peer_decoder == Some(id) {
             self.read_decoder_stream(id, input)?;
         }
-        if input.chunk.is_last() {
-            self.note_end(id);
-        }
-        if self.peer_of(id) != Peer::Reads {
+        let (peer, is_paused) = self.note_input(id, input.chunk.is_last());
+        if peer != Peer::Reads {
             self.drop_input(id, input)?;
             return Ok(Step::More);
         }
-        if self.is_paused(id) {
+        if is_paused {
             self.wait(id)?;
             self.keep(id, input, 0)?;
             return Ok(Step::More);
@@ -49,15 +47,20 @@ impl Connection {
         self.read_input(id, input)
     }
 
-    // The end of the peer's half of a stream came.
+    // Bytes of a stream came, and with `fin` the end of the peer's half. Returns what is done with that half, and whether
+    // it is paused.
     #[tactic(auto, using(crate::proofs::OwnLemmas::untouched_set))]
-    fn note_end(&mut self, id: u64)
+    fn note_input(&mut self, id: u64, fin: bool) -> (Peer, bool)
         ensures own { Untouched self.old.streams.entries self.new.streams.entries }
         ensures config { self.new.config ≡ self.old.config }
     {
-        if let Some(entry) = self.streams.get_mut(&id) {
+        let Some(entry) = self.streams.get_mut(&id) else {
+            return (Peer::Over, false);
+        };
+        if fin {
             entry.is_ended = true;
         }
+        (entry.peer, entry.is_paused)
     }
 
     // Drops bytes of a stream that is not read.
@@ -152,13 +155,13 @@ impl Connection {
         ensures own { Untouched self.old.streams.entries self.new.streams.entries }
         ensures config { self.new.config ≡ self.old.config }
     {
-        if let Some(session) = self.session_awaited(id) {
-            let event = self.join(id, session)?;
-            return Ok(Some(Heard::Event(event)));
-        }
         let Some(entry) = self.streams.get_mut(&id) else {
             return Ok(None);
         };
+        if let Some(Waits::Session(session)) = entry.reading.waits() {
+            let event = self.join(id, session)?;
+            return Ok(Some(Heard::Event(event)));
+        }
         let before = entry.credited();
         let kept = entry.reading.len();
         let len = chunk.len();

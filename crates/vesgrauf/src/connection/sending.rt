@@ -140,6 +140,7 @@ impl Connection {
     // QUIC took bytes of a stream: there may be room again, or nothing is to be done for its own half any more.
     fn after_sent(&mut self, id: u64, is_done: bool) -> Result<(), AllocError>
         ensures own { Untouched self.old.streams.entries self.new.streams.entries }
+        ensures config { self.new.config ≡ self.old.config }
     {
         self.note_room(id);
         if is_done {
@@ -241,8 +242,8 @@ impl Connection {
             return Ok(());
         };
         entry.writing.acked(spares, len)?;
-        self.note_room(id);
-        Ok(self.remove_if_done(id)?)
+        let is_done = entry.writing.is_done();
+        Ok(self.after_sent(id, is_done)?)
     }
 
     /// QUIC takes nothing of this for now, or does again. What is said of one scope does not change another: a stream
