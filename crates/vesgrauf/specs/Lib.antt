@@ -5,3 +5,4 @@ pub mod Inputs
 pub mod Own
 pub mod State
 pub mod Streams
+pub mod Pieces

@@ -301,7 +301,7 @@ impl Connection {
                         return Ok(None);
                     }
                 }
-                Report::Stream(id) => return self.read_at_once(id, input),
+                Report::Stream(id) => return self.next_in_stream(id, input),
                 _ => {}
             }
         }
@@ -309,6 +309,7 @@ impl Connection {
     }
 
     // Returns the next event, as `next_event` does, by as many steps as it takes.
+    #[inline(never)]
     fn next_by_steps<'a>(&mut self, input: &mut Input<'a>) -> Result<Option<Event<'a>>, AllocError>
         ensures last { IsAfterEnd self.old → IsSomeOk result (λ e. is_last e.kind ≡ true) }
         ensures over { IsAfterEnd self.old → IsAfterEnd self.new }
