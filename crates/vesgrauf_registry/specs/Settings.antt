@@ -86,3 +86,17 @@ is_http2_by (Some s) = is_http2 s.range
 -- 0x00, and 0x02 to 0x05 (RFC 9114, section 11.2.2)
 abbrev pub is_http2_setting : ℕ → Bool
 is_http2_setting n = (n == 0x00) || (nat_le 0x02 n && nat_le n 0x05)
+
+-- ---- flags
+
+abbrev pub is_flag_in : Range → Bool
+is_flag_in Flag = true
+is_flag_in other = false
+
+abbrev pub is_flag_by : Option Setting → Bool
+is_flag_by None = false
+is_flag_by (Some s) = s.supported && is_flag_in s.range
+
+-- a setting whose value is used, and is 0 or 1
+abbrev pub is_flag : ℕ → Bool
+is_flag n = is_flag_by (setting_columns n)

@@ -2,7 +2,7 @@
 //! 5; RFC 9297, sections 2.1.1 and 5.1; WebTransport over HTTP/3).
 ghost use Rattle.std.specs.Prelude.{◌≡◌, option_map};
 ghost use Rattle.vesgrauf_registry.specs.Table.{shown};
-ghost use Rattle.vesgrauf_registry.specs.Settings.{setting_of};
+ghost use Rattle.vesgrauf_registry.specs.Settings.{is_flag, setting_of};
 
 use crate::row::{self, CName, Row};
 
@@ -202,4 +202,14 @@ pub fn find_setting(number: u64) -> Option<&'static Row<Setting>>
     ensures { option_map (λ row. shown row.now) result ≡ setting_of number }
 {
     row::find(&SETTINGS, number)
+}
+
+/// Returns whether this is a setting whose value is used, and is 0 or 1.
+pub fn is_flag(number: u64) -> bool
+    ensures { result ≡ is_flag number }
+{
+    match find_setting(number) {
+        Some(row) => row.columns.supported && matches!(row.columns.range, Range::Flag),
+        None => false,
+    }
 }

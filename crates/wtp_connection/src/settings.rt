@@ -6,6 +6,7 @@ ghost use Rattle.wtp_connection.specs.Settings.{values_of, stored as stored_is, 
 pub mod words;
 
 use crate::fault::Fault;
+use vesgrauf_registry::settings;
 use wtp_core::error::ErrorCode;
 use wtp_frames::fault::Fault as StreamFault;
 use wtp_wire::settings::{SettingPair, SettingPairs};
@@ -199,10 +200,11 @@ impl Values {
 }
 
 // Returns whether the value of this setting is 0 or 1.
+#[tactic(auto, using(crate::proofs::FlagLemmas::flag_is))]
 fn is_flag(id: u64) -> bool
     ensures { result ≡ is_flag_is id }
 {
-    matches!(id, 0x08 | 0x33 | 0x2b60_3742)
+    settings::is_flag(id)
 }
 
 // Returns whether the value is 1.
