@@ -9,6 +9,7 @@ use crate::reading::{Next, Reading, Then, fault};
 use std::alloc::{AllocError, Global};
 use std::borrow::CowSlice;
 use std::collections::BTreeSet;
+use vesgrauf_registry::settings::is_flag;
 use wt_inspection_model::item::{Rule, SettingIssue, SettingLine};
 use wtp_core::error::{ErrorCode, Refused};
 use wtp_core::varint::VarInt;
@@ -63,8 +64,7 @@ fn line_of(pair: FirstPair, is_new: bool) -> SettingLine
 fn is_bad_value(id: VarInt, value: VarInt) -> bool
     ensures { result ≡ is_bad_value id value }
 {
-    let is_flag = matches!(id.into_inner(), 0x08 | 0x33 | 0x2b60_3742);
-    is_flag && value.into_inner() > 1
+    is_flag(id.into_inner()) && value.into_inner() > 1
 }
 
 /// Warns of what is wrong with settings that does not end the reading.
