@@ -3,5 +3,7 @@ pub mod Config
 pub mod Ids
 pub mod Inputs
 pub mod Own
+pub mod Runs
 pub mod State
 pub mod Streams
+pub mod Told

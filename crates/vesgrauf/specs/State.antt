@@ -35,6 +35,7 @@ use Rattle.wtp_connection.specs.declared.connection.Known.TheVariants as known
 use Rattle.wtp_connection.specs.Streams.{known_alone}
 use Rattle.wtp_webtransport.specs.Sessions.{known_of}
 use Rattle.vesgrauf_queue.specs.State.{is_full, Shows}
+use Rattle.vesgrauf.specs.Told.{is_known}
 use Rattle.vesgrauf.specs.Streams.{IsDue, is_it, Says, shown_session}
 use Rattle.vesgrauf.specs.Codes.{number_of}
 use Rattle.vesgrauf.specs.declared.code.StreamCode.{StreamCode}
@@ -414,7 +415,7 @@ pub record IsAfterEnd (c : Connection) : Type 0 where
 abbrev pub told_on : Option Entry → ℕ → EventKind → Step
 told_on None id k = step.More
 told_on (Some e) id k =
-    if e.is_told then step.Told (record { stream = id; session = shown_session id e; user = e.user; kind = k })
+    if is_known e.told then step.Told (record { stream = id; session = shown_session id e; user = e.user; kind = k })
     else step.More
 
 -- a step tells an event of which this is so, if it tells one

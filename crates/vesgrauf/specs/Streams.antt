@@ -10,6 +10,7 @@ use Rattle.vesgrauf_stream.specs.declared.writing.Writing.{Writing}
 use Rattle.vesgrauf_stream.specs.Writing.{is_done as is_written}
 use Rattle.vesgrauf.specs.declared.entry.Entry.{Entry}
 use Rattle.vesgrauf.specs.declared.entry.Peer.{Peer}
+use Rattle.vesgrauf.specs.declared.entry.Told.TheVariants as told
 use Rattle.vesgrauf.specs.declared.entry.Peer.TheVariants as peer
 
 -- a stream of which nothing came: of urgency 3, not incremental (RFC 9218, section 4)
@@ -21,7 +22,7 @@ new_entry r p w = record {
   session = None;
   user = None;
   priority = record { urgency = 3; incremental = false };
-  is_told = false;
+  told = told.NotYet;
   is_opened = true;
   is_blocked = false;
   is_paused = false;

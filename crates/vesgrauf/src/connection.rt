@@ -220,6 +220,7 @@ enum Step<'a> {
 
 impl Connection {
     ghost use Rattle.vesgrauf.specs.Own.{Untouched};
+    ghost use Rattle.vesgrauf.specs.Told.{GoesOn, said_by, told_by_call, Sound};
     ghost use Rattle.vesgrauf.specs.State.{IsAfterEnd, IsSomeOk, is_last};
     ghost use Rattle.vesgrauf_queue.specs.State.{waiting};
     ghost use Rattle.vesgrauf.specs.Config.{announced};
@@ -238,6 +239,7 @@ impl Connection {
         ensures outputs { IfOk result (λ c. (c.events.items ≡ []) × (c.outputs.items ≡ [])) }
         ensures datagrams { IfOk result (λ c. c.datagrams.queue.items ≡ []) }
         ensures open { IfOk result (λ c. (c.sessions ≡ 0) × (c.ended ≡ None) × (c.closes ≡ None)) }
+        ensures sound { IfOk result (λ c. Sound c.streams.entries c.ids) }
         ensures starts { IfOk result (λ c. waiting c.control.queue ≡ settings_bytes (announced config)) }
     {
         let queue = config.queue();
@@ -293,6 +295,7 @@ impl Connection {
         ensures own { self.old.config.on_malformed ≡ chosen.Reset
             → Untouched self.old.streams.entries self.new.streams.entries }
         ensures config { self.new.config ≡ self.old.config }
+        ensures goes { GoesOn (told_by_call result) self.old self.new }
     {
         if self.is_quiet() {
             match input.report {
@@ -315,6 +318,7 @@ impl Connection {
         ensures own { self.old.config.on_malformed ≡ chosen.Reset
             → Untouched self.old.streams.entries self.new.streams.entries }
         ensures config { self.new.config ≡ self.old.config }
+        ensures goes { GoesOn (told_by_call result) self.old self.new }
     {
         for _step in 0..u64::MAX {
             if let Some(event) = self.events.pop_front() {
@@ -338,7 +342,8 @@ impl Connection {
 
     // Returns an event that was queued, with the number that the program has given its stream since.
     fn numbered<'a>(&self, event: Event<'a>) -> Event<'a>
-        ensures { result.kind ≡ event.entry.kind }
+        ensures kind { result.kind ≡ event.entry.kind }
+        ensures stream { result.stream ≡ event.entry.stream }
     {
         let mut event = event;
         if let (EventKind::Stopped(_), Some(entry)) = (
@@ -355,6 +360,7 @@ impl Connection {
         ensures own { self.old.config.on_malformed ≡ chosen.Reset
             → Untouched self.old.streams.entries self.new.streams.entries }
         ensures config { self.new.config ≡ self.old.config }
+        ensures goes { GoesOn (said_by result) self.old self.new }
     {
         self.prepare()?;
         if let Some(session) = self.session_opened() {
@@ -379,6 +385,7 @@ impl Connection {
     fn report_came(&mut self, report: Report) -> Result<(), Stop>
         ensures own { Untouched self.old.streams.entries self.new.streams.entries }
         ensures config { self.new.config ≡ self.old.config }
+        ensures goes { GoesOn [] self.old self.new }
     {
         match report {
             Report::Nothing | Report::Stream(_) | Report::Datagram => Ok(()),
@@ -406,6 +413,7 @@ impl Connection {
     fn prepare(&mut self) -> Result<(), Stop>
         ensures own { Untouched self.old.streams.entries self.new.streams.entries }
         ensures config { self.new.config ≡ self.old.config }
+        ensures goes { GoesOn [] self.old self.new }
     {
         self.reserve_all()?;
         self.begin_table()?;
@@ -417,6 +425,7 @@ impl Connection {
     fn step_alone<'a>(&mut self) -> Result<Step<'a>, Stop>
         ensures own { Untouched self.old.streams.entries self.new.streams.entries }
         ensures config { self.new.config ≡ self.old.config }
+        ensures goes { GoesOn (said_by result) self.old self.new }
     {
         if let Some(first) = self.pending.unprocessed {
             return self.leave_unprocessed(first);

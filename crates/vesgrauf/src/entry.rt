@@ -23,6 +23,17 @@ pub(crate) enum Peer {
     Over,
 }
 
+/// What the program knows of a stream, once it is told what is queued.
+#[derive(Clone, Copy, Debug, PartialEq, Eq)]
+pub(crate) enum Told {
+    /// Nothing: no event of it was told or queued, and the program did not open it.
+    NotYet,
+    /// That it is there.
+    Known,
+    /// That it is over, or nothing: no event of it follows.
+    Over,
+}
+
 /// One stream of a connection.
 #[derive(Drop)]
 pub(crate) struct Entry {
@@ -38,8 +49,8 @@ pub(crate) struct Entry {
     pub(crate) user: Option<u64>,
     /// Its priority.
     pub(crate) priority: Priority,
-    /// Whether the program knows of it, and was not told that it is over.
-    pub(crate) is_told: bool,
+    /// What the program knows of it.
+    pub(crate) told: Told,
     /// Whether QUIC has opened it.
     pub(crate) is_opened: bool,
     /// Whether QUIC takes nothing of it.
@@ -84,6 +95,7 @@ impl Entry {
     ghost use Rattle.vesgrauf.specs.State.{OwnHalf, RefusesBytes, StaysOf};
     ghost use Rattle.vesgrauf_queue.specs.State.{IsIdle};
     ghost use Rattle.vesgrauf.specs.declared.refused.Refused.TheVariants as refused;
+    ghost use Rattle.vesgrauf.specs.Told.{becomes_known, is_known as is_known_is};
     ghost use Rattle.vesgrauf.specs.Streams.{new_entry, kind_of_entry, may_send as may_send_is, is_done as is_done_is, shown_session};
 
     // Creates the entry of a stream of which nothing came.
@@ -97,7 +109,7 @@ impl Entry {
             session: None,
             user: None,
             priority: Priority::DEFAULT,
-            is_told: false,
+            told: Told::NotYet,
             is_opened: true,
             is_blocked: false,
             is_paused: false,
@@ -123,6 +135,22 @@ impl Entry {
         ensures { result ≡ kind_of_entry self.now }
     {
         Kind::Message(self.priority)
+    }
+
+    // Returns whether the program knows of it, and was not told that it is over.
+    pub(crate) fn is_known(&self) -> bool
+        ensures { result ≡ is_known_is self.now.told }
+    {
+        self.told == Told::Known
+    }
+
+    // The program is told of it, or opens it. One that is over stays so.
+    pub(crate) fn know(&mut self)
+        ensures { self.new ≡ record self.old { told = becomes_known self.old.told } }
+    {
+        if self.told == Told::NotYet {
+            self.told = Told::Known;
+        }
     }
 
     // Returns whether it has another priority than it has unless the program says so.

@@ -14,6 +14,7 @@ pub(crate) mod critical;
 pub(crate) mod entry;
 pub mod event;
 pub mod input;
+pub mod laws;
 pub mod output;
 pub mod refused;
 

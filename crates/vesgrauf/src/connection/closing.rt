@@ -1,11 +1,12 @@
 //! Streams that are closed, and sessions that end.
-ghost use Rattle.std.specs.Prelude.{◌≡◌};
+ghost use Rattle.std.specs.Prelude.{◌≡◌, [], false, OnOk};
 ghost use Rattle.vesgrauf.specs.Own.{Untouched};
+ghost use Rattle.vesgrauf.specs.Told.{GoesOn, knows};
 
 use crate::code::StreamCode;
-use crate::connection::{Connection, Step};
-use crate::entry::{Member, Peer};
-use crate::event::{EventKind, Why};
+use crate::connection::Connection;
+use crate::entry::{Member, Peer, Told};
+use crate::event::{Event, EventKind, Why};
 use crate::output::Output;
 use std::alloc::AllocError;
 use wtp_core::error::Code;
@@ -18,6 +19,7 @@ impl Connection {
     pub(super) fn shut(&mut self, id: u64, code: Code, why: Why) -> Result<(), AllocError>
         ensures own { Untouched self.old.streams.entries self.new.streams.entries }
         ensures config { self.new.config ≡ self.old.config }
+        ensures goes { GoesOn [] self.old self.new }
     {
         let code = code.number().into_inner();
         self.cancel(id)?;
@@ -30,10 +32,11 @@ impl Connection {
     }
 
     // Resets the own half.
-    #[tactic(auto, using(crate::proofs::OwnLemmas::untouched_set))]
+    #[tactic(auto, using(crate::proofs::OwnLemmas::untouched_set, crate::proofs::GoesLemmas::goes_set))]
     pub(super) fn reset_own(&mut self, id: u64, code: u64) -> Result<(), AllocError>
         ensures own { Untouched self.old.streams.entries self.new.streams.entries }
         ensures config { self.new.config ≡ self.old.config }
+        ensures goes { GoesOn [] self.old self.new }
     {
         let Some(entry) = self.streams.get_mut(&id) else {
             return Ok(());
@@ -56,10 +59,11 @@ impl Connection {
 
     // Resets an own half of which QUIC took the end, unless all of it is acknowledged: QUIC may still send some of it (RFC
     // 9000, section 3.5). Returns whether it is reset.
-    #[tactic(auto, using(crate::proofs::OwnLemmas::untouched_set))]
+    #[tactic(auto, using(crate::proofs::OwnLemmas::untouched_set, crate::proofs::GoesLemmas::goes_set))]
     pub(super) fn reset_ended(&mut self, id: u64, code: u64) -> Result<bool, AllocError>
         ensures own { Untouched self.old.streams.entries self.new.streams.entries }
         ensures config { self.new.config ≡ self.old.config }
+        ensures goes { GoesOn [] self.old self.new }
     {
         let Some(entry) = self.streams.get_mut(&id) else {
             return Ok(false);
@@ -77,10 +81,11 @@ impl Connection {
     }
 
     // Asks the peer to stop its half, which is read no further.
-    #[tactic(auto, using(crate::proofs::OwnLemmas::untouched_set))]
+    #[tactic(auto, using(crate::proofs::OwnLemmas::untouched_set, crate::proofs::GoesLemmas::goes_set))]
     pub(super) fn stop_peer(&mut self, id: u64, code: u64) -> Result<(), AllocError>
         ensures own { Untouched self.old.streams.entries self.new.streams.entries }
         ensures config { self.new.config ≡ self.old.config }
+        ensures goes { GoesOn [] self.old self.new }
     {
         let Some(entry) = self.streams.get_mut(&id) else {
             return Ok(());
@@ -104,15 +109,17 @@ impl Connection {
     pub(super) fn forget_stop(&mut self, id: u64)
         ensures own { Untouched self.old.streams.entries self.new.streams.entries }
         ensures config { self.new.config ≡ self.old.config }
+        ensures goes { GoesOn [] self.old self.new }
     {
         self.outputs.retain(|output| !is_stop(output, id));
     }
 
     // Reads the peer's half no further, whose end is still to come.
-    #[tactic(auto, using(crate::proofs::OwnLemmas::untouched_set))]
+    #[tactic(auto, using(crate::proofs::OwnLemmas::untouched_set, crate::proofs::GoesLemmas::goes_set))]
     pub(super) fn drop_peer(&mut self, id: u64) -> Result<(), AllocError>
         ensures own { Untouched self.old.streams.entries self.new.streams.entries }
         ensures config { self.new.config ≡ self.old.config }
+        ensures goes { GoesOn [] self.old self.new }
     {
         let Some(entry) = self.streams.get_mut(&id) else {
             return Ok(());
@@ -130,10 +137,11 @@ impl Connection {
     }
 
     // Drops what is kept of a stream.
-    #[tactic(auto, using(crate::proofs::OwnLemmas::untouched_set))]
+    #[tactic(auto, using(crate::proofs::OwnLemmas::untouched_set, crate::proofs::GoesLemmas::goes_set))]
     pub(super) fn drop_kept(&mut self, id: u64) -> Result<(), AllocError>
         ensures own { Untouched self.old.streams.entries self.new.streams.entries }
         ensures config { self.new.config ≡ self.old.config }
+        ensures goes { GoesOn [] self.old self.new }
     {
         self.waiting.remove(&id);
         let Some(entry) = self.streams.get_mut(&id) else {
@@ -148,10 +156,11 @@ impl Connection {
     }
 
     // The peer's half is over.
-    #[tactic(auto, using(crate::proofs::OwnLemmas::untouched_set))]
+    #[tactic(auto, using(crate::proofs::OwnLemmas::untouched_set, crate::proofs::GoesLemmas::goes_set))]
     pub(super) fn peer_is_over(&mut self, id: u64) -> Result<(), AllocError>
         ensures own { Untouched self.old.streams.entries self.new.streams.entries }
         ensures config { self.new.config ≡ self.old.config }
+        ensures goes { GoesOn [] self.old self.new }
     {
         if let Some(entry) = self.streams.get_mut(&id) {
             entry.peer = Peer::Over;
@@ -161,10 +170,11 @@ impl Connection {
     }
 
     // Ends the own half after what is queued, if a message may end there.
-    #[tactic(auto, using(crate::proofs::OwnLemmas::untouched_set))]
+    #[tactic(auto, using(crate::proofs::OwnLemmas::untouched_set, crate::proofs::GoesLemmas::goes_set))]
     pub(super) fn end_own(&mut self, id: u64) -> Result<(), AllocError>
         ensures own { Untouched self.old.streams.entries self.new.streams.entries }
         ensures config { self.new.config ≡ self.old.config }
+        ensures goes { GoesOn [] self.old self.new }
     {
         let Some(entry) = self.streams.get_mut(&id) else {
             return Ok(());
@@ -180,10 +190,11 @@ impl Connection {
 
     // Ends the session whose own stream this is, if it is one: its streams are closed (draft-ietf-webtrans-http3-02,
     // section 5).
-    #[tactic(auto, using(crate::proofs::OwnLemmas::untouched_set))]
+    #[tactic(auto, using(crate::proofs::OwnLemmas::untouched_set, crate::proofs::GoesLemmas::goes_set))]
     pub(super) fn end_session(&mut self, session: u64) -> Result<(), AllocError>
         ensures own { Untouched self.old.streams.entries self.new.streams.entries }
         ensures config { self.new.config ≡ self.old.config }
+        ensures goes { GoesOn [] self.old self.new }
     {
         let Some(entry) = self.streams.get_mut(&session) else {
             return Ok(());
@@ -218,6 +229,7 @@ impl Connection {
     fn cut(&mut self, id: u64) -> Result<(), AllocError>
         ensures own { Untouched self.old.streams.entries self.new.streams.entries }
         ensures config { self.new.config ≡ self.old.config }
+        ensures goes { GoesOn [] self.old self.new }
     {
         let gone = Code::WEBTRANSPORT_SESSION_GONE;
         let code = gone.number().into_inner();
@@ -255,17 +267,28 @@ impl Connection {
     }
 
     // Tells the program that a stream is over, if it knows of the stream.
-    #[tactic(auto, using(crate::proofs::OwnLemmas::untouched_set))]
+    #[tactic(auto, using(crate::proofs::OwnLemmas::untouched_set, crate::proofs::GoesLemmas::goes_closed,
+        crate::proofs::GoesLemmas::goes_ended, std::proofs::lemmas::Map::Steps::set_value_same))]
     pub(super) fn closed(&mut self, id: u64, why: Why) -> Result<(), AllocError>
         ensures own { Untouched self.old.streams.entries self.new.streams.entries }
         ensures config { self.new.config ≡ self.old.config }
+        ensures goes { GoesOn [] self.old self.new }
+        ensures done { OnOk result (knows self.new id ≡ false) }
     {
-        if let Step::Told(event) = self.tell(id, EventKind::Closed(why)) {
-            self.events.push_back(event)?;
+        let Some(entry) = self.streams.get_mut(&id) else {
+            return Ok(());
+        };
+        if !entry.is_known() {
+            entry.told = Told::Over;
+            return Ok(());
         }
-        if let Some(entry) = self.streams.get_mut(&id) {
-            entry.is_told = false;
-        }
+        self.events.push_back(Event {
+            stream: id,
+            session: entry.session_shown(id),
+            user: entry.user,
+            kind: EventKind::Closed(why),
+        })?;
+        entry.told = Told::Over;
         Ok(())
     }
 
@@ -273,6 +296,7 @@ impl Connection {
     pub(super) fn remove_if_done(&mut self, id: u64) -> Result<(), AllocError>
         ensures own { Untouched self.old.streams.entries self.new.streams.entries }
         ensures config { self.new.config ≡ self.old.config }
+        ensures goes { GoesOn [] self.old self.new }
     {
         let Some(entry) = self.streams.get(&id) else {
             return Ok(());
@@ -293,9 +317,11 @@ impl Connection {
     }
 
     // Forgets a stream.
+    #[tactic(auto, using(crate::proofs::GoesLemmas::goes_removed))]
     pub(super) fn remove(&mut self, id: u64)
         ensures own { Untouched self.old.streams.entries self.new.streams.entries }
         ensures config { self.new.config ≡ self.old.config }
+        ensures goes { knows self.old id ≡ false → GoesOn [] self.old self.new }
     {
         let Some(entry) = self.streams.remove(&id) else {
             return;

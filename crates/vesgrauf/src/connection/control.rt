@@ -1,11 +1,12 @@
 //! The own control stream, and the end of the connection.
-ghost use Rattle.std.specs.Prelude.{◌≡◌, ◌++◌, false, Some, length, option_map, IfOk, OnOk, OnErr, IfErr};
+ghost use Rattle.std.specs.Prelude.{◌≡◌, ◌++◌, false, Some, length, option_map, IfOk, OnOk, OnErr, IfErr, []};
 ghost use Rattle.vesgrauf.specs.State.{is_over, next_output, stream_at, view_of, with_begun, EndsUnless, IsAfterEnd, IsStill, ShutsDown, RefusesGoaway, goaway_for as goaway_is};
 ghost use Rattle.vesgrauf.specs.declared.output.Output.TheVariants as output;
 ghost use Rattle.vesgrauf_queue.specs.State.{counted, waiting};
 ghost use Rattle.vesgrauf.specs.Config.{announced};
 ghost use Rattle.wtp_sending.specs.Control.{settings_bytes};
 ghost use Rattle.vesgrauf.specs.Own.{Untouched};
+ghost use Rattle.vesgrauf.specs.Told.{GoesOn, said_in};
 
 use crate::connection::{Connection, Ended, Step, Stop};
 use crate::event::{Event, EventKind};
@@ -23,10 +24,12 @@ const NO_REQUEST: u64 = (1 << 62) - 4;
 
 impl Connection {
     // Queues the first bytes of the own control stream, and of the own decoder stream.
+    #[tactic(auto, using(crate::proofs::IdLemmas::goes_taken))]
     pub(super) fn begin(&mut self) -> Result<(), AllocError>
         ensures others { view_of self.new ≡ with_begun self.new (view_of self.old) }
         ensures starts { OnOk result (waiting self.new.control.queue
             ≡ waiting self.old.control.queue ++ settings_bytes (announced self.old.config)) }
+        ensures goes { GoesOn [] self.old self.new }
     {
         let settings = self.settings()?;
         let mut bytes = Vec::new(self.alloc);
@@ -89,6 +92,7 @@ impl Connection {
         ensures why { IfErr result (λ e.
             RefusesGoaway (is_over self.old) self.old.goaways (goaway_is phase self.old) e) }
         ensures kept { OnErr result (IsStill self.old self.new) }
+        ensures goes { GoesOn [] self.old self.new }
     {
         if self.ended.is_some() {
             return Err(Refused::Closed);
@@ -132,6 +136,7 @@ impl Connection {
         ensures end { EndsUnless (is_over self.old) code self.old self.new }
         ensures after { is_over self.old ≡ false → IsAfterEnd self.new }
         ensures output { is_over self.old ≡ false → next_output self.new ≡ Some (output.Close code) }
+        ensures goes { GoesOn [] self.old self.new }
     {
         self.break_off(code.number().into_inner());
     }
@@ -173,9 +178,11 @@ impl Connection {
     }
 
     // Closes the connection, of which nothing is left.
+    #[tactic(auto, using(crate::proofs::GoesLemmas::goes_aside))]
     pub(super) fn shut_down<'a>(&mut self) -> Step<'a>
         ensures own { Untouched self.old.streams.entries self.new.streams.entries }
         ensures config { self.new.config ≡ self.old.config }
+        ensures goes { GoesOn (said_in result) self.old self.new }
     {
         let code = Code::H3_NO_ERROR.number().into_inner();
         self.datagrams.queue.clear();

@@ -2,6 +2,7 @@
 ghost use Rattle.std.specs.Prelude.{◌≡◌, ◌-◌, ◌++◌, [], Ok, Some, MatchOption, OnOk, IfOk, IfSome, OnErr, IfErr, List, ℕ, length, option_map};
 ghost use Rattle.vesgrauf.specs.State.{Adds, head, open_session, HeadOf, KeepsDatagrams, KeepsOthers, SendsDatagram};
 ghost use Rattle.vesgrauf.specs.Own.{Untouched};
+ghost use Rattle.vesgrauf.specs.Told.{GoesOn, said_by, said_if};
 ghost use Rattle.vesgrauf.specs.declared.refused.Refused.TheVariants as refused;
 
 use crate::connection::{Connection, DatagramQueue, Step, Stop};
@@ -65,6 +66,7 @@ impl Connection {
     pub(super) fn datagram_came<'a>(&mut self, input: &mut Input<'a>) -> Result<Step<'a>, Stop>
         ensures own { Untouched self.old.streams.entries self.new.streams.entries }
         ensures config { self.new.config ≡ self.old.config }
+        ensures goes { GoesOn (said_by result) self.old self.new }
     {
         let found = match self.shared.datagram(input.chunk.all()) {
             Ok(found) => found,
@@ -95,6 +97,7 @@ impl Connection {
     pub(super) fn early_of<'a>(&mut self, session: u64) -> Option<Step<'a>>
         ensures own { Untouched self.old.streams.entries self.new.streams.entries }
         ensures config { self.new.config ≡ self.old.config }
+        ensures goes { GoesOn (said_if result) self.old self.new }
     {
         let payload = self.datagrams.take_early(session)?;
         if self.is_open(session) {
@@ -122,6 +125,7 @@ impl Connection {
         ensures ok { IfOk result (λ queued. SendsDatagram queued session payload.now self.old self.new) }
         ensures others { KeepsOthers self.old self.new }
         ensures kept { OnErr result (KeepsDatagrams self.old self.new) }
+        ensures goes { GoesOn [] self.old self.new }
     {
         self.check_session(session)?;
         let head = self.datagram_head(session)?;
@@ -179,10 +183,12 @@ impl Connection {
     /// # Errors
     ///
     /// `Memory`: nothing changes, and the call is to be made again.
+    #[tactic(auto, using(crate::proofs::GoesLemmas::goes_general))]
     pub fn datagram_sent(&mut self) -> Result<(), Refused>
         ensures refused { IfErr result (λ e. e ≡ refused.Memory) }
         ensures own { Untouched self.old.streams.entries self.new.streams.entries }
         ensures config { self.new.config ≡ self.old.config }
+        ensures goes { GoesOn [] self.old self.new }
     {
         self.reserve()?;
         self.datagrams.queue.pop_front();

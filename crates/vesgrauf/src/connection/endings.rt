@@ -1,13 +1,14 @@
 //! Streams that the peer resets, or asks to stop.
-ghost use Rattle.std.specs.Prelude.{◌≡◌, true, false};
+ghost use Rattle.std.specs.Prelude.{◌≡◌, true, false, []};
 ghost use Rattle.std.specs.List.{filter};
 ghost use Rattle.vesgrauf.specs.State.{head, go_on, is_over, is_last, IsAfterEnd, IsTold, EndsUnless, closes_stream};
 ghost use Rattle.vesgrauf.specs.Own.{Untouched};
+ghost use Rattle.vesgrauf.specs.Told.{GoesOn, ends, word_of, said_by, said_in};
 
 use crate::code::StreamCode;
 use crate::connection::failing::EXCESSIVE_LOAD;
 use crate::connection::{Connection, Ended, Step, Stop, internal};
-use crate::entry::Peer;
+use crate::entry::{Peer, Told};
 use crate::event::{Event, EventKind, Why};
 use crate::input::{Input, Report};
 use crate::output::Output;
@@ -21,10 +22,11 @@ use wtp_webtransport::event::Event as Said;
 
 impl Connection {
     // The peer reset a stream.
-    #[tactic(auto, using(crate::proofs::OwnLemmas::untouched_set))]
+    #[tactic(auto, using(crate::proofs::OwnLemmas::untouched_set, crate::proofs::GoesLemmas::goes_set))]
     pub(super) fn reset_came(&mut self, id: u64, code: u64) -> Result<(), Stop>
         ensures own { Untouched self.old.streams.entries self.new.streams.entries }
         ensures config { self.new.config ≡ self.old.config }
+        ensures goes { GoesOn [] self.old self.new }
     {
         self.accept(id)?;
         match self.peer_of(id) {
@@ -51,6 +53,7 @@ impl Connection {
     fn half_reset(&mut self, id: u64, shown: StreamCode, event: Said<'static>) -> Result<(), Stop>
         ensures own { Untouched self.old.streams.entries self.new.streams.entries }
         ensures config { self.new.config ≡ self.old.config }
+        ensures goes { GoesOn [] self.old self.new }
     {
         self.cancel(id)?;
         self.queue_event(id, EventKind::Reset(shown))?;
@@ -64,6 +67,7 @@ impl Connection {
     pub(super) fn lose_session(&mut self, id: u64) -> Result<(), AllocError>
         ensures own { Untouched self.old.streams.entries self.new.streams.entries }
         ensures config { self.new.config ≡ self.old.config }
+        ensures goes { GoesOn [] self.old self.new }
     {
         let has_session = match self.streams.get(&id) {
             Some(entry) => entry.has_session,
@@ -79,11 +83,12 @@ impl Connection {
     fn leave_untold(&mut self, id: u64) -> Result<(), AllocError>
         ensures own { Untouched self.old.streams.entries self.new.streams.entries }
         ensures config { self.new.config ≡ self.old.config }
+        ensures goes { GoesOn [] self.old self.new }
     {
         let Some(entry) = self.streams.get(&id) else {
             return Ok(());
         };
-        if entry.is_told || entry.writing.is_ended() {
+        if entry.is_known() || entry.writing.is_ended() {
             return Ok(());
         }
         let code = Code::H3_REQUEST_INCOMPLETE.number().into_inner();
@@ -91,10 +96,11 @@ impl Connection {
     }
 
     // The peer asked to stop the own half of a stream.
-    #[tactic(auto, using(crate::proofs::OwnLemmas::untouched_set))]
+    #[tactic(auto, using(crate::proofs::OwnLemmas::untouched_set, crate::proofs::GoesLemmas::goes_set))]
     pub(super) fn stop_came(&mut self, id: u64, code: u64) -> Result<(), Stop>
         ensures own { Untouched self.old.streams.entries self.new.streams.entries }
         ensures config { self.new.config ≡ self.old.config }
+        ensures goes { GoesOn [] self.old self.new }
     {
         if let Some(own) = self.own_purpose(id) {
             return match self.shared.stopped(own) {
@@ -120,15 +126,16 @@ impl Connection {
     }
 
     // Handles what the stop of the own half says of the stream.
-    #[tactic(auto, using(crate::proofs::OwnLemmas::untouched_set))]
+    #[tactic(auto, using(crate::proofs::OwnLemmas::untouched_set, crate::proofs::GoesLemmas::goes_set))]
     fn half_stopped(&mut self, id: u64, code: u64, shown: StreamCode) -> Result<(), Stop>
         ensures own { Untouched self.old.streams.entries self.new.streams.entries }
         ensures config { self.new.config ≡ self.old.config }
+        ensures goes { GoesOn [] self.old self.new }
     {
         let Some(entry) = self.streams.get_mut(&id) else {
             return Ok(());
         };
-        if !entry.is_told {
+        if !entry.is_known() {
             entry.stopped = Some(code);
         }
         let event = entry.reading.stop(&mut self.shared);
@@ -141,10 +148,11 @@ impl Connection {
     }
 
     // Tells the program of a stop that came before it knew of the stream. A session that was stopped does not come to be.
-    #[tactic(auto, using(crate::proofs::OwnLemmas::untouched_set))]
+    #[tactic(auto, using(crate::proofs::OwnLemmas::untouched_set, crate::proofs::GoesLemmas::goes_set))]
     pub(super) fn tell_stop(&mut self, id: u64) -> Result<(), Stop>
         ensures own { Untouched self.old.streams.entries self.new.streams.entries }
         ensures config { self.new.config ≡ self.old.config }
+        ensures goes { GoesOn [] self.old self.new }
     {
         let Some(entry) = self.streams.get_mut(&id) else {
             return Ok(());
@@ -161,6 +169,7 @@ impl Connection {
     fn half_ended(&mut self, id: u64, event: Said<'static>) -> Result<(), Stop>
         ensures own { Untouched self.old.streams.entries self.new.streams.entries }
         ensures config { self.new.config ≡ self.old.config }
+        ensures goes { GoesOn [] self.old self.new }
     {
         match event {
             Said::Reset(Some(fault)) | Said::StreamError(fault) => {
@@ -175,10 +184,11 @@ impl Connection {
     }
 
     // Counts a request that its client gives up before its answer (RFC 9114, section 10.5).
-    #[tactic(auto, using(crate::proofs::OwnLemmas::untouched_set))]
+    #[tactic(auto, using(crate::proofs::OwnLemmas::untouched_set, crate::proofs::GoesLemmas::goes_set))]
     fn give_up(&mut self, id: u64) -> Result<(), Stop>
         ensures own { Untouched self.old.streams.entries self.new.streams.entries }
         ensures config { self.new.config ≡ self.old.config }
+        ensures goes { GoesOn [] self.old self.new }
     {
         let Some(entry) = self.streams.get_mut(&id) else {
             return Ok(());
@@ -203,6 +213,7 @@ impl Connection {
     ) -> Result<(), AllocError>
         ensures own { Untouched self.old.streams.entries self.new.streams.entries }
         ensures config { self.new.config ≡ self.old.config }
+        ensures goes { ends (word_of kind.entry) ≡ false → GoesOn [] self.old self.new }
     {
         if let Step::Told(event) = self.tell(id, kind) {
             self.events.push_back(event)?;
@@ -239,10 +250,11 @@ impl Connection {
     }
 
     // QUIC has closed a stream: what is kept of the own half is freed. What the peer sent is still read.
-    #[tactic(auto, using(crate::proofs::OwnLemmas::untouched_set))]
+    #[tactic(auto, using(crate::proofs::OwnLemmas::untouched_set, crate::proofs::GoesLemmas::goes_set))]
     pub(super) fn stream_closed(&mut self, id: u64) -> Result<(), AllocError>
         ensures own { Untouched self.old.streams.entries self.new.streams.entries }
         ensures config { self.new.config ≡ self.old.config }
+        ensures goes { GoesOn [] self.old self.new }
     {
         let Some(entry) = self.streams.get_mut(&id) else {
             return Ok(());
@@ -257,6 +269,7 @@ impl Connection {
     pub(super) fn leave_unprocessed<'a>(&mut self, first: u64) -> Result<Step<'a>, Stop>
         ensures own { Untouched self.old.streams.entries self.new.streams.entries }
         ensures config { self.new.config ≡ self.old.config }
+        ensures goes { GoesOn (said_by result) self.old self.new }
     {
         let Some(id) = self.first_request(first) else {
             self.pending.unprocessed = None;
@@ -279,9 +292,11 @@ impl Connection {
     }
 
     // Ends the connection by an error.
+    #[tactic(auto, using(crate::proofs::GoesLemmas::goes_filtered))]
     pub(super) fn break_off(&mut self, code: u64)
         ensures end { EndsUnless (is_over self.old) code self.old self.new }
         ensures after { is_over self.old ≡ false → IsAfterEnd self.new }
+        ensures goes { GoesOn [] self.old self.new }
     {
         if self.ended.is_some() {
             return;
@@ -307,6 +322,7 @@ impl Connection {
         ensures events { self.new.events ≡ self.old.events }
         ensures own { Untouched self.old.streams.entries self.new.streams.entries }
         ensures config { self.new.config ≡ self.old.config }
+        ensures goes { self.old.events.items ≡ [] → GoesOn (said_in result) self.old self.new }
     {
         if matches!(input.report, Report::ConnectionClosed(_)) {
             self.closes = None;
@@ -328,18 +344,23 @@ impl Connection {
     }
 
     // Tells that a stream is over, since the connection is.
-    #[tactic(auto, using(crate::proofs::OwnLemmas::untouched_set))]
+    #[tactic(auto, using(crate::proofs::OwnLemmas::untouched_set, crate::proofs::GoesLemmas::goes_last,
+        std::proofs::lemmas::Map::Steps::set_value_same))]
     fn tell_last(&mut self, id: u64) -> Step<'static>
         ensures last { IsTold result (λ e. is_last e.kind ≡ true) }
         ensures ended { self.new.ended ≡ self.old.ended }
         ensures events { self.new.events ≡ self.old.events }
         ensures own { Untouched self.old.streams.entries self.new.streams.entries }
         ensures config { self.new.config ≡ self.old.config }
+        ensures goes { self.old.events.items ≡ [] → GoesOn (said_in result) self.old self.new }
     {
         let Some(entry) = self.streams.get_mut(&id) else {
             return Step::More;
         };
-        entry.is_told = false;
+        if !entry.is_known() {
+            return Step::More;
+        }
+        entry.told = Told::Over;
         Step::Told(Event {
             stream: id,
             session: entry.session_shown(id),
@@ -353,7 +374,7 @@ impl Connection {
         let cursor = self.pending.cursor;
         let mut streams = self.streams.range(cursor..);
         while let Some((id, entry)) = streams.next() {
-            if entry.is_told {
+            if entry.is_known() {
                 return Some(*id);
             }
         }

@@ -1,8 +1,10 @@
 //! Rules that the peer violates, and where.
-ghost use Rattle.std.specs.Prelude.{◌≡◌};
+ghost use Rattle.std.specs.Prelude.{◌≡◌, []};
 ghost use Rattle.vesgrauf.specs.Own.{Untouched};
+ghost use Rattle.vesgrauf.specs.Told.{GoesOn};
 
 use crate::connection::Connection;
+use crate::entry::Told;
 use crate::event::{Event, EventKind, Failure, Rule, Why};
 use crate::input::{Input, Report};
 use std::alloc::AllocError;
@@ -55,6 +57,7 @@ impl Connection {
     pub(super) fn fail(&mut self, stream: Option<u64>, code: u64, fault: Option<Fault>)
         ensures own { Untouched self.old.streams.entries self.new.streams.entries }
         ensures config { self.new.config ≡ self.old.config }
+        ensures goes { GoesOn [] self.old self.new }
     {
         if let Some(fault) = fault {
             let offset = match stream {
@@ -70,10 +73,13 @@ impl Connection {
         self.break_off(code);
     }
 
-    // Tells of the rule that the peer violated on a stream, if the program is to know of it.
+    // Tells of the rule that the peer violated on a stream, if the program is to know of it: nothing follows the last event
+    // of a stream.
+    #[tactic(auto, using(crate::proofs::GoesLemmas::goes_failed))]
     pub(super) fn tell_failure(&mut self, id: u64, why: &Why) -> Result<(), AllocError>
         ensures own { Untouched self.old.streams.entries self.new.streams.entries }
         ensures config { self.new.config ≡ self.old.config }
+        ensures goes { GoesOn [] self.old self.new }
     {
         let Some(rule) = rule_of(why) else {
             return Ok(());
@@ -84,6 +90,9 @@ impl Connection {
         let Some(entry) = self.streams.get(&id) else {
             return Ok(());
         };
+        if entry.told == Told::Over {
+            return Ok(());
+        }
         let failure = Failure {
             rule,
             stream: Some(id),
@@ -99,10 +108,11 @@ impl Connection {
     }
 
     // Counts bytes of a stream that were read.
-    #[tactic(auto, using(crate::proofs::OwnLemmas::untouched_set))]
+    #[tactic(auto, using(crate::proofs::OwnLemmas::untouched_set, crate::proofs::GoesLemmas::goes_set))]
     pub(super) fn count_read(&mut self, id: u64, len: usize)
         ensures own { Untouched self.old.streams.entries self.new.streams.entries }
         ensures config { self.new.config ≡ self.old.config }
+        ensures goes { GoesOn [] self.old self.new }
     {
         if let Some(entry) = self.streams.get_mut(&id) {
             entry.offset = entry.offset.saturating_add(len as u64);

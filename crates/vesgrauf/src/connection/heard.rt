@@ -1,6 +1,7 @@
 //! What is heard on a stream, and what follows from it.
-ghost use Rattle.std.specs.Prelude.{◌≡◌};
+ghost use Rattle.std.specs.Prelude.{◌≡◌, [], false};
 ghost use Rattle.vesgrauf.specs.Own.{Untouched};
+ghost use Rattle.vesgrauf.specs.Told.{GoesOn, ends, word_of, said_by, said_in};
 ghost use Rattle.vesgrauf.specs.State.{stream_at, told_on};
 ghost use Rattle.vesgrauf.specs.declared.config.OnMalformed.TheVariants as chosen;
 
@@ -49,6 +50,7 @@ impl Connection {
         ensures own { self.old.config.on_malformed ≡ chosen.Reset
             → Untouched self.old.streams.entries self.new.streams.entries }
         ensures config { self.new.config ≡ self.old.config }
+        ensures goes { GoesOn (said_by result) self.old self.new }
     {
         match heard {
             Heard::Data(bytes) | Heard::StreamData(bytes) => {
@@ -60,13 +62,15 @@ impl Connection {
     }
 
     // Tells the program something of a stream, if it knows of the stream.
+    #[tactic(auto, using(crate::proofs::GoesLemmas::goes_tells))]
     pub(super) fn tell<'a>(&self, id: u64, kind: EventKind<'a>) -> Step<'a>
-        ensures { result ≡ told_on (stream_at self.now id) id kind.entry }
+        ensures told { result ≡ told_on (stream_at self.now id) id kind.entry }
+        ensures goes { ends (word_of kind.entry) ≡ false → GoesOn (said_in result) self.now self.now }
     {
         let Some(entry) = self.streams.get(&id) else {
             return Step::More;
         };
-        if !entry.is_told {
+        if !entry.is_known() {
             return Step::More;
         }
         Step::Told(Event {
@@ -82,6 +86,7 @@ impl Connection {
         ensures own { self.old.config.on_malformed ≡ chosen.Reset
             → Untouched self.old.streams.entries self.new.streams.entries }
         ensures config { self.new.config ≡ self.old.config }
+        ensures goes { GoesOn (said_by result) self.old self.new }
     {
         match event {
             Said::Settings(settings, _) => self.settings_came(settings),
@@ -115,10 +120,11 @@ impl Connection {
     }
 
     // A stream names its session.
-    #[tactic(auto, using(crate::proofs::OwnLemmas::untouched_set))]
+    #[tactic(auto, using(crate::proofs::OwnLemmas::untouched_set, crate::proofs::GoesLemmas::goes_set))]
     fn session_named(&mut self, id: u64, session: u64) -> Result<Step<'static>, Stop>
         ensures own { Untouched self.old.streams.entries self.new.streams.entries }
         ensures config { self.new.config ≡ self.old.config }
+        ensures goes { GoesOn (said_by result) self.old self.new }
     {
         if let Some(entry) = self.streams.get_mut(&id) {
             entry.since = self.ticks;
@@ -131,6 +137,7 @@ impl Connection {
     fn join_came(&mut self, id: u64, joining: Joining) -> Result<Step<'static>, Stop>
         ensures own { Untouched self.old.streams.entries self.new.streams.entries }
         ensures config { self.new.config ≡ self.old.config }
+        ensures goes { GoesOn (said_by result) self.old self.new }
     {
         match joining {
             Joining::Joined(session) => {
@@ -148,19 +155,25 @@ impl Connection {
     }
 
     // A datagram of a session came in a capsule.
-    fn capsule_came(&self, id: u64, payload: Vec<u8>) -> Step<'static> {
+    fn capsule_came(&self, id: u64, payload: Vec<u8>) -> Step<'static>
+        ensures goes { GoesOn (said_in result) self.now self.now }
+    {
         self.tell(id, EventKind::Datagram(Bytes::Kept(payload)))
     }
 
     // The peer asks to end a session soon.
-    fn draining_came(&self, id: u64) -> Step<'static> {
+    fn draining_came(&self, id: u64) -> Step<'static>
+        ensures goes { GoesOn (said_in result) self.now self.now }
+    {
         self.tell(id, EventKind::Draining)
     }
 
     // SETTINGS of the peer came.
+    #[tactic(auto, using(crate::proofs::GoesLemmas::goes_aside))]
     fn settings_came(&mut self, settings: PeerSettings) -> Result<Step<'static>, Stop>
         ensures own { Untouched self.old.streams.entries self.new.streams.entries }
         ensures config { self.new.config ≡ self.old.config }
+        ensures goes { GoesOn (said_by result) self.old self.new }
     {
         if settings.h3_datagram && self.datagrams.limit == 0 {
             return Err(Stop::from(NO_DATAGRAMS));
@@ -172,9 +185,11 @@ impl Connection {
     }
 
     // GOAWAY of the peer came.
+    #[tactic(auto, using(crate::proofs::GoesLemmas::goes_aside))]
     fn goaway_came(&mut self, first: u64) -> Step<'static>
         ensures own { Untouched self.old.streams.entries self.new.streams.entries }
         ensures config { self.new.config ≡ self.old.config }
+        ensures goes { GoesOn (said_in result) self.old self.new }
     {
         if !self.is_server() {
             self.pending.unprocessed = Some(first);
@@ -186,6 +201,7 @@ impl Connection {
     fn purpose_came(&mut self, id: u64, purpose: Purpose) -> Result<Step<'static>, Stop>
         ensures own { Untouched self.old.streams.entries self.new.streams.entries }
         ensures config { self.new.config ≡ self.old.config }
+        ensures goes { GoesOn (said_by result) self.old self.new }
     {
         match purpose {
             Purpose::Message => {
@@ -202,10 +218,11 @@ impl Connection {
     }
 
     // The stream is one that is open as long as the connection, or ignored.
-    #[tactic(auto, using(crate::proofs::OwnLemmas::untouched_set))]
+    #[tactic(auto, using(crate::proofs::OwnLemmas::untouched_set, crate::proofs::GoesLemmas::goes_set))]
     fn note_quiet(&mut self, id: u64)
         ensures own { Untouched self.old.streams.entries self.new.streams.entries }
         ensures config { self.new.config ≡ self.old.config }
+        ensures goes { GoesOn [] self.old self.new }
     {
         if let Some(entry) = self.streams.get_mut(&id) {
             if !entry.is_quiet {
@@ -225,10 +242,11 @@ impl Connection {
 
     // Rejects the request on a stream if its ID is this one or above it: that of the own GOAWAY, or its own where there are
     // too many sessions.
-    #[tactic(auto, using(crate::proofs::OwnLemmas::untouched_set))]
+    #[tactic(auto, using(crate::proofs::OwnLemmas::untouched_set, crate::proofs::GoesLemmas::goes_set))]
     pub(super) fn reject(&mut self, id: u64, first: Option<u64>) -> Result<Step<'static>, Stop>
         ensures own { Untouched self.old.streams.entries self.new.streams.entries }
         ensures config { self.new.config ≡ self.old.config }
+        ensures goes { GoesOn (said_by result) self.old self.new }
     {
         let Some(entry) = self.streams.get_mut(&id) else {
             return Ok(Step::More);
@@ -243,6 +261,7 @@ impl Connection {
     }
 
     // A field section of a message came.
+    #[tactic(auto, using(crate::proofs::GoesLemmas::goes_after))]
     fn headers_came(
         &mut self,
         id: u64,
@@ -251,6 +270,7 @@ impl Connection {
     ) -> Result<Step<'static>, Stop>
         ensures own { Untouched self.old.streams.entries self.new.streams.entries }
         ensures config { self.new.config ≡ self.old.config }
+        ensures goes { GoesOn (said_by result) self.old self.new }
     {
         match kind {
             HeadersKind::Request => {
@@ -271,6 +291,8 @@ impl Connection {
     fn request_came(&mut self, id: u64, list: FieldList) -> Step<'static>
         ensures own { Untouched self.old.streams.entries self.new.streams.entries }
         ensures config { self.new.config ≡ self.old.config }
+        ensures goes { GoesOn (said_in result) self.old self.new }
+        ensures quiet { GoesOn [] self.old self.new }
     {
         let connects = list.first(b":method") == Some(b"CONNECT");
         let asked = if connects {
@@ -289,24 +311,26 @@ impl Connection {
     }
 
     // A request came that asks for this.
-    #[tactic(auto, using(crate::proofs::OwnLemmas::untouched_set))]
+    #[tactic(auto, using(crate::proofs::OwnLemmas::untouched_set, crate::proofs::GoesLemmas::goes_known))]
     pub(super) fn note_request(&mut self, id: u64, asked: Asked)
         ensures own { Untouched self.old.streams.entries self.new.streams.entries }
         ensures config { self.new.config ≡ self.old.config }
+        ensures goes { GoesOn [] self.old self.new }
     {
         if let Some(entry) = self.streams.get_mut(&id) {
             entry.writing.ask(asked);
             entry.has_tunnel = asked == Asked::Connect;
-            entry.is_told = true;
+            entry.know();
             entry.is_awaited = true;
         }
     }
 
     // The final response to a request that asked for no session came.
-    #[tactic(auto, using(crate::proofs::OwnLemmas::untouched_set))]
+    #[tactic(auto, using(crate::proofs::OwnLemmas::untouched_set, crate::proofs::GoesLemmas::goes_set))]
     fn response_came(&mut self, id: u64, status: u32) -> Result<(), AllocError>
         ensures own { Untouched self.old.streams.entries self.new.streams.entries }
         ensures config { self.new.config ≡ self.old.config }
+        ensures goes { GoesOn [] self.old self.new }
     {
         let Some(entry) = self.streams.get_mut(&id) else {
             return Ok(());
@@ -322,9 +346,11 @@ impl Connection {
     }
 
     // The peer's half ended.
+    #[tactic(auto, using(crate::proofs::GoesLemmas::goes_after))]
     fn end_came(&mut self, id: u64) -> Result<Step<'static>, Stop>
         ensures own { Untouched self.old.streams.entries self.new.streams.entries }
         ensures config { self.new.config ≡ self.old.config }
+        ensures goes { GoesOn (said_by result) self.old self.new }
     {
         let step = self.tell(id, EventKind::End);
         self.forget_cancel(id);
@@ -333,10 +359,11 @@ impl Connection {
     }
 
     // All sections of a stream were read.
-    #[tactic(auto, using(crate::proofs::OwnLemmas::untouched_set))]
+    #[tactic(auto, using(crate::proofs::OwnLemmas::untouched_set, crate::proofs::GoesLemmas::goes_set))]
     fn forget_cancel(&mut self, id: u64)
         ensures own { Untouched self.old.streams.entries self.new.streams.entries }
         ensures config { self.new.config ≡ self.old.config }
+        ensures goes { GoesOn [] self.old self.new }
     {
         if let Some(entry) = self.streams.get_mut(&id) {
             entry.may_cancel = false;
@@ -348,6 +375,7 @@ impl Connection {
     fn session_closed(&mut self, id: u64, close: Close) -> Result<Step<'static>, Stop>
         ensures own { Untouched self.old.streams.entries self.new.streams.entries }
         ensures config { self.new.config ≡ self.old.config }
+        ensures goes { GoesOn (said_by result) self.old self.new }
     {
         self.cancel(id)?;
         self.end_own(id)?;
@@ -360,6 +388,7 @@ impl Connection {
     fn session_lost(&mut self, id: u64) -> Result<Step<'static>, Stop>
         ensures own { Untouched self.old.streams.entries self.new.streams.entries }
         ensures config { self.new.config ≡ self.old.config }
+        ensures goes { GoesOn (said_by result) self.old self.new }
     {
         self.shut(id, Code::H3_REQUEST_CANCELLED, Why::SessionGone)?;
         Ok(Step::More)

@@ -1,6 +1,7 @@
 //! Requests that are malformed, or whose fields are too large.
-ghost use Rattle.std.specs.Prelude.{◌≡◌};
+ghost use Rattle.std.specs.Prelude.{◌≡◌, []};
 ghost use Rattle.vesgrauf.specs.Own.{Untouched};
+ghost use Rattle.vesgrauf.specs.Told.{GoesOn, said_by};
 ghost use Rattle.vesgrauf.specs.declared.config.OnMalformed.TheVariants as chosen;
 
 use crate::config::OnMalformed;
@@ -19,6 +20,7 @@ impl Connection {
         ensures own { self.old.config.on_malformed ≡ chosen.Reset
             → Untouched self.old.streams.entries self.new.streams.entries }
         ensures config { self.new.config ≡ self.old.config }
+        ensures goes { GoesOn (said_by result) self.old self.new }
     {
         let why = Why::Malformed(rule);
         if self.answers(id, StatusCode::BAD_REQUEST) {
@@ -34,6 +36,7 @@ impl Connection {
         ensures own { self.old.config.on_malformed ≡ chosen.Reset
             → Untouched self.old.streams.entries self.new.streams.entries }
         ensures config { self.new.config ≡ self.old.config }
+        ensures goes { GoesOn (said_by result) self.old self.new }
     {
         if self.answers(id, StatusCode::REQUEST_HEADER_FIELDS_TOO_LARGE) {
             self.leave_answered(id, Code::H3_NO_ERROR, Why::TooLarge)?;
@@ -45,11 +48,12 @@ impl Connection {
 
     // Answers a request with this status, if the configuration says so. Returns whether it did: without memory, and after
     // another final response, it does not.
-    #[tactic(auto, using(crate::proofs::OwnLemmas::untouched_set))]
+    #[tactic(auto, using(crate::proofs::OwnLemmas::untouched_set, crate::proofs::GoesLemmas::goes_set))]
     fn answers(&mut self, id: u64, status: StatusCode) -> bool
         ensures own { self.old.config.on_malformed ≡ chosen.Reset
             → Untouched self.old.streams.entries self.new.streams.entries }
         ensures config { self.new.config ≡ self.old.config }
+        ensures goes { GoesOn [] self.old self.new }
     {
         if !self.is_server() || self.config.on_malformed == OnMalformed::Reset {
             return false;
@@ -67,6 +71,7 @@ impl Connection {
     fn leave_answered(&mut self, id: u64, code: Code, why: Why) -> Result<(), AllocError>
         ensures own { Untouched self.old.streams.entries self.new.streams.entries }
         ensures config { self.new.config ≡ self.old.config }
+        ensures goes { GoesOn [] self.old self.new }
     {
         self.tell_failure(id, &why)?;
         self.cancel(id)?;

@@ -1,13 +1,14 @@
 //! Messages that are sent.
-ghost use Rattle.std.specs.Prelude.{◌≡◌, ◌⊎◌, false, true, is_some, is_ok, None, Some, OnOk, OnErr, IfOk, IfErr, length};
+ghost use Rattle.std.specs.Prelude.{◌≡◌, ◌⊎◌, false, true, is_some, is_ok, None, Some, OnOk, OnErr, IfOk, IfErr, length, []};
 ghost use Rattle.vesgrauf_stream.specs.Writing.{Sends};
 ghost use Rattle.vesgrauf_stream.specs.Headers.{SendsTrailers, RefusesTrailers};
 ghost use Rattle.vesgrauf.specs.Own.{Untouched, UntouchedBut};
+ghost use Rattle.vesgrauf.specs.Told.{GoesOn};
 ghost use Rattle.vesgrauf.specs.State.{stream_at, Changes, IsFor, IsStill, IsStillBut, IsRefused, SaysOrWaits, StaysFor, IsWhy, IsWhyOf, RefusesBytes, RefusesEnd, FinishesUnless, was_finished, was_told_full, is_over, open_session};
 ghost use Rattle.vesgrauf.specs.declared.refused.Refused.TheVariants as refused;
 
 use crate::connection::{Connection, Stop};
-use crate::entry::{Entry, Peer, SHARED};
+use crate::entry::{Entry, Peer, SHARED, Told};
 use crate::output::StreamKind;
 use crate::refused::{NotSent, Refused};
 use std::alloc::AllocError;
@@ -109,7 +110,7 @@ impl Connection {
         writing.request(&mut self.tools, session, allows, list, fin)?;
         let stream = self.shared.open(asked);
         let mut entry = Entry::new(Reading::new(self.alloc, stream), Peer::Reads, writing);
-        entry.is_told = true;
+        entry.told = Told::Known;
         entry.is_opened = false;
         entry.may_cancel = true;
         entry.is_session = asked == Asked::Session;
@@ -143,6 +144,7 @@ impl Connection {
         ensures refused { IfErr result (λ e. (e ≡ refused.Memory) ⊎ IsStillBut self.old self.new) }
         ensures own { UntouchedBut id self.old.streams.entries self.new.streams.entries }
         ensures config { self.new.config ≡ self.old.config }
+        ensures goes { GoesOn [] self.old self.new }
     {
         self.begin_send(id)?;
         self.choose_policy();
@@ -153,11 +155,12 @@ impl Connection {
     }
 
     // Queues the HEADERS of a response, and maybe the end.
-    #[tactic(auto, using(std::proofs::lemmas::Map::Steps::set_value_same))]
+    #[tactic(auto, using(std::proofs::lemmas::Map::Steps::set_value_same, crate::proofs::GoesLemmas::goes_set))]
     fn put_response(&mut self, id: u64, list: &FieldList, fin: bool) -> Result<(), Refused>
         ensures kept { OnErr result (IsStill self.old self.new) }
         ensures own { UntouchedBut id self.old.streams.entries self.new.streams.entries }
         ensures config { self.new.config ≡ self.old.config }
+        ensures goes { GoesOn [] self.old self.new }
     {
         let session = session_id(id);
         let allows = self.allows();
@@ -178,6 +181,7 @@ impl Connection {
     fn responded(&mut self, id: u64, list: &FieldList, fin: bool) -> Result<(), AllocError>
         ensures own { Untouched self.old.streams.entries self.new.streams.entries }
         ensures config { self.new.config ≡ self.old.config }
+        ensures goes { GoesOn [] self.old self.new }
     {
         if let Some(status) = status_of(list) {
             self.answered(id, status);
@@ -206,6 +210,7 @@ impl Connection {
     fn stop_refused(&mut self, id: u64) -> Result<(), AllocError>
         ensures own { Untouched self.old.streams.entries self.new.streams.entries }
         ensures config { self.new.config ≡ self.old.config }
+        ensures goes { GoesOn [] self.old self.new }
     {
         let code = Code::H3_NO_ERROR.number().into_inner();
         self.cancel(id)?;
@@ -217,6 +222,7 @@ impl Connection {
     fn answered(&mut self, id: u64, status: u32)
         ensures own { Untouched self.old.streams.entries self.new.streams.entries }
         ensures config { self.new.config ≡ self.old.config }
+        ensures goes { GoesOn [] self.old self.new }
     {
         if status < 200 {
             return;
@@ -247,12 +253,13 @@ impl Connection {
     ///
     /// Nothing is queued. `Full` if a call returned false, and as many bytes are queued still: the `Writable` is to come.
     /// `Closed`; `NoStream`; `Over`; `Send`; and `Memory`.
-    #[tactic(auto, using(std::proofs::lemmas::Map::Steps::set_value_same))]
+    #[tactic(auto, using(std::proofs::lemmas::Map::Steps::set_value_same, crate::proofs::GoesLemmas::goes_set))]
     pub fn send(&mut self, id: u64, bytes: &[u8], fin: bool) -> Result<bool, Refused>
         ensures ok { IfOk result (λ room. Changes id (Sends bytes.now fin room) self.old self.new) }
         ensures why { IfErr result (λ e. IsWhy (RefusesBytes (length bytes.now) fin) self.old id e) }
         ensures told { IfErr result (λ e. e ≡ refused.Full → was_told_full self.old id ≡ true) }
         ensures kept { IfErr result (λ e. StaysFor e id self.old self.new) }
+        ensures goes { GoesOn [] self.old self.new }
     {
         let was_full = self.full.contains(&id);
         self.begin_send(id)?;
@@ -274,13 +281,14 @@ impl Connection {
     /// # Errors
     ///
     /// Those of [`send`](Self::send), with the bytes.
-    #[tactic(auto, using(std::proofs::lemmas::Map::Steps::set_value_same))]
+    #[tactic(auto, using(std::proofs::lemmas::Map::Steps::set_value_same, crate::proofs::GoesLemmas::goes_set))]
     pub fn send_owned(&mut self, id: u64, bytes: Vec<u8>, fin: bool) -> Result<bool, NotSent>
         ensures ok { IfOk result (λ room. Changes id (Sends bytes.items fin room) self.old self.new) }
         ensures why { IfErr result (λ e. IsWhy (RefusesBytes (length bytes.items) fin) self.old id e.why) }
         ensures told { IfErr result (λ e. e.why ≡ refused.Full → was_told_full self.old id ≡ true) }
         ensures kept { IfErr result (λ e. StaysFor e.why id self.old self.new) }
         ensures bytes { IfErr result (λ e. e.bytes ≡ bytes) }
+        ensures goes { GoesOn [] self.old self.new }
     {
         let was_full = self.full.contains(&id);
         if let Err(why) = self.begin_send(id) {
@@ -327,6 +335,7 @@ impl Connection {
     pub fn send_trailers(&mut self, id: u64, list: &FieldList) -> Result<(), Refused>
         ensures kept { OnErr result (IsStillBut self.old self.new) }
         ensures decoder { SaysOrWaits self.old.told.items self.new.told.items self.old.decoder self.new.decoder }
+        ensures goes { GoesOn [] self.old self.new }
     {
         self.begin_send(id)?;
         self.choose_policy();
@@ -336,13 +345,14 @@ impl Connection {
     }
 
     // Queues trailers and the end on a stream.
-    #[tactic(auto, using(std::proofs::lemmas::Map::Steps::set_value_same))]
+    #[tactic(auto, using(std::proofs::lemmas::Map::Steps::set_value_same, crate::proofs::GoesLemmas::goes_set))]
     fn put_trailers(&mut self, id: u64, list: &FieldList) -> Result<(), Refused>
         ensures ok { OnOk result (Changes id (SendsTrailers list.now self.old.tools self.new.tools)
             self.old self.new) }
         ensures kept { OnErr result (IsStill self.old self.new) }
         ensures why { IfErr result (λ e. IsWhyOf (stream_at self.old id)
             (IsFor (RefusesTrailers list.now self.old.tools self.new.tools)) e) }
+        ensures goes { GoesOn [] self.old self.new }
     {
         let Some(entry) = self.streams.get_mut(&id) else {
             return Err(Refused::NoStream);
@@ -364,6 +374,7 @@ impl Connection {
         ensures refused { IfErr result (λ e. IsRefused e self.old self.new) }
         ensures half { is_ok (open_session self.old id) ≡ false
             → OnOk result (FinishesUnless (was_finished self.old id) id self.old self.new) }
+        ensures goes { GoesOn [] self.old self.new }
     {
         if self.check_session(id).is_ok() {
             return self.close_session(id, 0, "");
@@ -372,11 +383,12 @@ impl Connection {
     }
 
     // Ends the own half of a stream that is not that of a session.
-    #[tactic(auto, using(std::proofs::lemmas::Map::Steps::set_value_same))]
+    #[tactic(auto, using(std::proofs::lemmas::Map::Steps::set_value_same, crate::proofs::GoesLemmas::goes_set))]
     fn finish_half(&mut self, id: u64) -> Result<(), Refused>
         ensures ok { OnOk result (FinishesUnless (was_finished self.old id) id self.old self.new) }
         ensures why { IfErr result (λ e. IsWhy RefusesEnd self.old id e) }
         ensures kept { OnErr result (IsStill self.old self.new) }
+        ensures goes { GoesOn [] self.old self.new }
     {
         if self.ended.is_some() {
             return Err(Refused::Closed);

@@ -4,10 +4,11 @@ ghost use Rattle.wtp_frames.specs.declared.endpoint.Side.TheVariants as side;
 ghost use Rattle.vesgrauf.specs.declared.refused.Refused.TheVariants as refused;
 ghost use Rattle.vesgrauf.specs.State.{open_session, room_for, may_wait, IsStill, IsRefused};
 ghost use Rattle.vesgrauf.specs.Own.{Sends, own_of, Untouched, UntouchedBut};
+ghost use Rattle.vesgrauf.specs.Told.{GoesOn};
 ghost use Rattle.vesgrauf.specs.Ids.{next_own, opens};
 
 use crate::connection::{Connection, Stop};
-use crate::entry::{Entry, Member, Peer, SHARED};
+use crate::entry::{Entry, Member, Peer, SHARED, Told};
 use crate::event::{Event, EventKind};
 use crate::output::{Output, StreamKind};
 use crate::refused::Refused;
@@ -25,6 +26,7 @@ impl Connection {
     pub(super) fn accept_next(&mut self, id: u64) -> Result<(), Stop>
         ensures own { Untouched self.old.streams.entries self.new.streams.entries }
         ensures config { self.new.config ≡ self.old.config }
+        ensures goes { GoesOn [] self.old self.new }
     {
         let next = self.ids.next_of_peer(id);
         let stream = self.shared.accept(next);
@@ -37,10 +39,11 @@ impl Connection {
     }
 
     // Joins a stream with its session, by what is known of that.
-    #[tactic(auto, using(crate::proofs::OwnLemmas::untouched_set))]
+    #[tactic(auto, using(crate::proofs::OwnLemmas::untouched_set, crate::proofs::GoesLemmas::goes_set))]
     pub(super) fn join(&mut self, id: u64, session: u64) -> Result<Said<'static>, Stop>
         ensures own { Untouched self.old.streams.entries self.new.streams.entries }
         ensures config { self.new.config ≡ self.old.config }
+        ensures goes { GoesOn [] self.old self.new }
     {
         let known = self.known_to(id, session);
         if matches!(known, Known::Open) {
@@ -53,16 +56,17 @@ impl Connection {
     }
 
     // A stream of the peer joined its session.
-    #[tactic(auto, using(crate::proofs::OwnLemmas::untouched_set))]
+    #[tactic(auto, using(crate::proofs::OwnLemmas::untouched_set, crate::proofs::GoesLemmas::goes_known))]
     pub(super) fn joined(&mut self, id: u64, session: u64)
         ensures own { Untouched self.old.streams.entries self.new.streams.entries }
         ensures config { self.new.config ≡ self.old.config }
+        ensures goes { GoesOn [] self.old self.new }
     {
         if let Some(entry) = self.streams.get_mut(&id) {
             entry.session = Some(session);
             entry.priority = SHARED;
             entry.may_cancel = false;
-            entry.is_told = true;
+            entry.know();
             entry.writing.belong();
         }
     }
@@ -101,7 +105,7 @@ impl Connection {
         let mut entry = Entry::new(Reading::new(self.alloc, stream), peer, writing);
         entry.session = Some(session);
         entry.priority = SHARED;
-        entry.is_told = true;
+        entry.told = Told::Known;
         entry.is_opened = false;
         self.add_member(session, id, entry)?;
         self.ids.take(kind);
@@ -128,9 +132,11 @@ impl Connection {
     }
 
     // Tells that there is room again for own streams of a kind, if that is owed.
+    #[tactic(auto, using(crate::proofs::GoesLemmas::goes_general))]
     fn tell_openable(&mut self, kind: StreamKind) -> Result<(), AllocError>
         ensures own { Untouched self.old.streams.entries self.new.streams.entries }
         ensures config { self.new.config ≡ self.old.config }
+        ensures goes { GoesOn [] self.old self.new }
     {
         let is_owed = match kind {
             StreamKind::Bidirectional => self.pending.owes_bidirectional,
@@ -198,6 +204,7 @@ impl Connection {
             ⊎ ((opens self.old.ids id ≡ false) × (e ≡ refused.NotAsked) × (self.new ≡ self.old))) }
         ensures own { Untouched self.old.streams.entries self.new.streams.entries }
         ensures config { self.new.config ≡ self.old.config }
+        ensures goes { GoesOn [] self.old self.new }
     {
         if !self.ids.opens(id) {
             return Err(Refused::NotAsked);
@@ -218,10 +225,11 @@ impl Connection {
     }
 
     // QUIC has opened an own stream that is not critical.
-    #[tactic(auto, using(crate::proofs::OwnLemmas::untouched_set))]
+    #[tactic(auto, using(crate::proofs::OwnLemmas::untouched_set, crate::proofs::GoesLemmas::goes_set))]
     fn opened_message(&mut self, id: u64) -> Result<(), AllocError>
         ensures own { Untouched self.old.streams.entries self.new.streams.entries }
         ensures config { self.new.config ≡ self.old.config }
+        ensures goes { GoesOn [] self.old self.new }
     {
         let Some(entry) = self.streams.get_mut(&id) else {
             return Ok(());

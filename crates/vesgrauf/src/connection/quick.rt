@@ -1,7 +1,8 @@
 //! What is read at once: a piece of content, where nothing else is due.
-ghost use Rattle.std.specs.Prelude.{◌≡◌, true, false};
+ghost use Rattle.std.specs.Prelude.{◌≡◌, true, false, []};
 ghost use Rattle.vesgrauf.specs.State.{is_over};
 ghost use Rattle.vesgrauf.specs.Own.{Untouched};
+ghost use Rattle.vesgrauf.specs.Told.{GoesOn, said_by, told_by_call};
 ghost use Rattle.vesgrauf.specs.declared.config.OnMalformed.TheVariants as chosen;
 
 use crate::connection::failing::is_failure;
@@ -46,6 +47,7 @@ impl Connection {
         ensures own { self.old.config.on_malformed ≡ chosen.Reset
             → Untouched self.old.streams.entries self.new.streams.entries }
         ensures config { self.new.config ≡ self.old.config }
+        ensures goes { GoesOn (told_by_call result) self.old self.new }
     {
         if input.chunk.is_last() || self.peer_decoder == Some(id) {
             return self.next_by_steps(input);
@@ -74,7 +76,7 @@ impl Connection {
     }
 
     // Returns what is found in bytes of a stream that is read, of which nothing is kept and that waits for nothing.
-    #[tactic(auto, using(crate::proofs::OwnLemmas::untouched_set))]
+    #[tactic(auto, using(crate::proofs::OwnLemmas::untouched_set, crate::proofs::GoesLemmas::goes_set))]
     fn read_plain<'a>(
         &mut self,
         id: u64,
@@ -82,6 +84,7 @@ impl Connection {
     ) -> Result<Option<Found<'a>>, AllocError>
         ensures own { Untouched self.old.streams.entries self.new.streams.entries }
         ensures config { self.new.config ≡ self.old.config }
+        ensures goes { GoesOn [] self.old self.new }
     {
         let Some(entry) = self.streams.get_mut(&id) else {
             return Ok(None);
@@ -110,10 +113,11 @@ impl Connection {
         ensures own { self.old.config.on_malformed ≡ chosen.Reset
             → Untouched self.old.streams.entries self.new.streams.entries }
         ensures config { self.new.config ≡ self.old.config }
+        ensures goes { GoesOn (told_by_call result) self.old self.new }
     {
         match self.found_in_input(id, found, input) {
             Ok(Step::Told(event)) => return Ok(Some(event)),
-            Ok(_) => {}
+            Ok(Step::More | Step::Nothing) => {}
             Err(Stop::Memory) => return Err(AllocError),
             Err(Stop::Broken(code, fault)) => self.fail(Some(id), code, fault),
         }
@@ -130,6 +134,7 @@ impl Connection {
         ensures own { self.old.config.on_malformed ≡ chosen.Reset
             → Untouched self.old.streams.entries self.new.streams.entries }
         ensures config { self.new.config ≡ self.old.config }
+        ensures goes { GoesOn (said_by result) self.old self.new }
     {
         self.shared.acknowledge(id, &mut self.told)?;
         match found {

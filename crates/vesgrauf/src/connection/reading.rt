@@ -1,12 +1,14 @@
 //! Bytes of streams that came, and those that wait.
-ghost use Rattle.std.specs.Prelude.{◌≡◌};
+ghost use Rattle.std.specs.Prelude.{◌≡◌, []};
 ghost use Rattle.vesgrauf.specs.State.{IsStill, known_in};
 ghost use Rattle.vesgrauf.specs.Own.{Untouched};
+ghost use Rattle.vesgrauf.specs.Told.{GoesOn, said_by, said_in};
 ghost use Rattle.vesgrauf.specs.declared.config.OnMalformed.TheVariants as chosen;
 
 use crate::connection::failing::{EXCESSIVE_LOAD, is_failure};
 use crate::connection::{Connection, Step, Stop, internal};
 use crate::entry::Peer;
+use crate::event::Why;
 use crate::input::{Input, Report};
 use crate::output::Output;
 use std::alloc::AllocError;
@@ -29,6 +31,7 @@ impl Connection {
         ensures own { self.old.config.on_malformed ≡ chosen.Reset
             → Untouched self.old.streams.entries self.new.streams.entries }
         ensures config { self.new.config ≡ self.old.config }
+        ensures goes { GoesOn (said_by result) self.old self.new }
     {
         self.accept(id)?;
         if self.peer_decoder == Some(id) {
@@ -50,10 +53,11 @@ impl Connection {
     }
 
     // The end of the peer's half of a stream came.
-    #[tactic(auto, using(crate::proofs::OwnLemmas::untouched_set))]
+    #[tactic(auto, using(crate::proofs::OwnLemmas::untouched_set, crate::proofs::GoesLemmas::goes_set))]
     fn note_end(&mut self, id: u64)
         ensures own { Untouched self.old.streams.entries self.new.streams.entries }
         ensures config { self.new.config ≡ self.old.config }
+        ensures goes { GoesOn [] self.old self.new }
     {
         if let Some(entry) = self.streams.get_mut(&id) {
             entry.is_ended = true;
@@ -64,6 +68,7 @@ impl Connection {
     fn drop_input<'a>(&mut self, id: u64, input: &mut Input<'a>) -> Result<(), AllocError>
         ensures own { Untouched self.old.streams.entries self.new.streams.entries }
         ensures config { self.new.config ≡ self.old.config }
+        ensures goes { GoesOn [] self.old self.new }
     {
         if input.chunk.is_last() {
             self.forget_stop(id);
@@ -81,6 +86,7 @@ impl Connection {
         ensures own { self.old.config.on_malformed ≡ chosen.Reset
             → Untouched self.old.streams.entries self.new.streams.entries }
         ensures config { self.new.config ≡ self.old.config }
+        ensures goes { GoesOn (said_by result) self.old self.new }
     {
         let len = input.chunk.len();
         let heard = self.read(id, &mut input.chunk)?;
@@ -101,6 +107,7 @@ impl Connection {
         ensures own { self.old.config.on_malformed ≡ chosen.Reset
             → Untouched self.old.streams.entries self.new.streams.entries }
         ensures config { self.new.config ≡ self.old.config }
+        ensures goes { GoesOn (said_by result) self.old self.new }
     {
         match heard {
             Heard::Event(Said::More) => {
@@ -123,6 +130,7 @@ impl Connection {
         ensures own { self.old.config.on_malformed ≡ chosen.Reset
             → Untouched self.old.streams.entries self.new.streams.entries }
         ensures config { self.new.config ≡ self.old.config }
+        ensures goes { GoesOn (said_by result) self.old self.new }
     {
         if self.peer_of(id) != Peer::Reads || self.is_paused(id) {
             self.pending.resumed = None;
@@ -147,10 +155,11 @@ impl Connection {
     }
 
     // Returns what is heard next on a stream: nothing yet, if more of its bytes are to be looked at.
-    #[tactic(auto, using(crate::proofs::OwnLemmas::untouched_set))]
+    #[tactic(auto, using(crate::proofs::OwnLemmas::untouched_set, crate::proofs::GoesLemmas::goes_set))]
     fn read<'a>(&mut self, id: u64, chunk: &mut Chunk<'a>) -> Result<Option<Heard<'a>>, Stop>
         ensures own { Untouched self.old.streams.entries self.new.streams.entries }
         ensures config { self.new.config ≡ self.old.config }
+        ensures goes { GoesOn [] self.old self.new }
     {
         if let Some(session) = self.session_awaited(id) {
             let event = self.join(id, session)?;
@@ -188,6 +197,7 @@ impl Connection {
     pub(super) fn credit(&mut self, id: u64, len: usize) -> Result<(), AllocError>
         ensures own { Untouched self.old.streams.entries self.new.streams.entries }
         ensures config { self.new.config ≡ self.old.config }
+        ensures goes { GoesOn [] self.old self.new }
     {
         if len > 0 {
             self.outputs.push_back(Output::Credit(id, len))?;
@@ -222,11 +232,12 @@ impl Connection {
 
     // Keeps the bytes of the input, whose stream needs more, waits or is paused. QUIC's windows are extended by at most
     // `most` of them.
-    #[tactic(auto, using(crate::proofs::OwnLemmas::untouched_set))]
+    #[tactic(auto, using(crate::proofs::OwnLemmas::untouched_set, crate::proofs::GoesLemmas::goes_set))]
     fn keep<'a>(&mut self, id: u64, input: &mut Input<'a>, most: usize) -> Result<(), Stop>
         ensures own { self.old.config.on_malformed ≡ chosen.Reset
             → Untouched self.old.streams.entries self.new.streams.entries }
         ensures config { self.new.config ≡ self.old.config }
+        ensures goes { GoesOn [] self.old self.new }
     {
         let Some(entry) = self.streams.get_mut(&id) else {
             input.report = Report::Nothing;
@@ -245,11 +256,12 @@ impl Connection {
     }
 
     // Extends QUIC's windows by all that is kept of a stream: it is a frame that is cut, and the rest is to come.
-    #[tactic(auto, using(crate::proofs::OwnLemmas::untouched_set))]
+    #[tactic(auto, using(crate::proofs::OwnLemmas::untouched_set, crate::proofs::GoesLemmas::goes_set))]
     fn credit_kept(&mut self, id: u64) -> Result<(), Stop>
         ensures own { self.old.config.on_malformed ≡ chosen.Reset
             → Untouched self.old.streams.entries self.new.streams.entries }
         ensures config { self.new.config ≡ self.old.config }
+        ensures goes { GoesOn [] self.old self.new }
     {
         let Some(entry) = self.streams.get_mut(&id) else {
             return Ok(());
@@ -265,11 +277,12 @@ impl Connection {
     }
 
     // Checks the bounds of what is kept of a stream, and of all.
-    #[tactic(auto, using(crate::proofs::OwnLemmas::untouched_set))]
+    #[tactic(auto, using(crate::proofs::OwnLemmas::untouched_set, crate::proofs::GoesLemmas::goes_set))]
     fn check_kept(&mut self, id: u64) -> Result<(), Stop>
         ensures own { self.old.config.on_malformed ≡ chosen.Reset
             → Untouched self.old.streams.entries self.new.streams.entries }
         ensures config { self.new.config ≡ self.old.config }
+        ensures goes { GoesOn [] self.old self.new }
     {
         if self.held > self.config.receive_buffer_all {
             return Err(Stop::from(EXCESSIVE_LOAD));
@@ -281,12 +294,9 @@ impl Connection {
         if fits && entry.withheld <= self.config.max_paused {
             return Ok(());
         }
-        let event = entry.reading.overflow(&mut self.shared);
-        match self.said(id, event)? {
-            Step::Told(event) => {
-                self.events.push_back(event)?;
-                Ok(())
-            }
+        match entry.reading.overflow(&mut self.shared) {
+            Said::StreamError(fault) => Ok(self.shut(id, fault.code(), Why::Fault(fault))?),
+            Said::ConnectionError(fault) => Err(Stop::from(fault)),
             _ => Ok(()),
         }
     }
@@ -302,6 +312,7 @@ impl Connection {
     pub(super) fn wait(&mut self, id: u64) -> Result<(), AllocError>
         ensures own { Untouched self.old.streams.entries self.new.streams.entries }
         ensures config { self.new.config ≡ self.old.config }
+        ensures goes { GoesOn [] self.old self.new }
     {
         self.waiting.insert(id)?;
         Ok(())
@@ -312,6 +323,7 @@ impl Connection {
     fn wait_for(&mut self, id: u64, wait: Waits) -> Result<(), Stop>
         ensures own { Untouched self.old.streams.entries self.new.streams.entries }
         ensures config { self.new.config ≡ self.old.config }
+        ensures goes { GoesOn [] self.old self.new }
     {
         self.wait(id)?;
         if matches!(wait, Waits::Table(_)) && self.has_too_many_blocked() {
@@ -351,6 +363,7 @@ impl Connection {
     pub(super) fn wake_next<'a>(&mut self) -> Step<'a>
         ensures own { Untouched self.old.streams.entries self.new.streams.entries }
         ensures config { self.new.config ≡ self.old.config }
+        ensures goes { GoesOn (said_in result) self.old self.new }
     {
         let Some(id) = self.next_waiting() else {
             self.pending.is_woken = false;
@@ -418,6 +431,7 @@ impl Connection {
     fn read_decoder_stream<'a>(&mut self, id: u64, input: &mut Input<'a>) -> Result<(), Stop>
         ensures own { Untouched self.old.streams.entries self.new.streams.entries }
         ensures config { self.new.config ≡ self.old.config }
+        ensures goes { GoesOn [] self.old self.new }
     {
         match self
             .tools
@@ -455,6 +469,7 @@ impl Connection {
     pub(super) fn accept(&mut self, id: u64) -> Result<(), Stop>
         ensures own { Untouched self.old.streams.entries self.new.streams.entries }
         ensures config { self.new.config ≡ self.old.config }
+        ensures goes { GoesOn [] self.old self.new }
     {
         if self.ids.is_own(id) {
             return if self.ids.was_taken(id) {

@@ -1,8 +1,9 @@
 //! What QUIC is to send and to do.
-ghost use Rattle.std.specs.Prelude.{◌≡◌, false, true, None, IfErr, IfSome, OnOk, OnErr};
+ghost use Rattle.std.specs.Prelude.{◌≡◌, false, true, None, IfErr, IfSome, OnOk, OnErr, []};
 ghost use Rattle.vesgrauf.specs.State.{next_output, IsStill, IsRefused, ShowsNext, view_of, blocked_at, blocked_in, is_over, is_own};
 ghost use Rattle.vesgrauf.specs.declared.refused.Refused.TheVariants as refused;
 ghost use Rattle.vesgrauf.specs.Own.{own_at, Took, TookAlone, Untouched, UntouchedBut};
+ghost use Rattle.vesgrauf.specs.Told.{GoesOn, said_in};
 
 use crate::connection::{Connection, Step};
 use crate::event::EventKind;
@@ -36,11 +37,12 @@ impl Connection {
     /// # Errors
     ///
     /// `NotAsked` if there is none. `Memory`: nothing changes, and the call is to be made again.
-    #[tactic(auto, using(crate::proofs::OwnLemmas::untouched_set))]
+    #[tactic(auto, using(crate::proofs::OwnLemmas::untouched_set, crate::proofs::GoesLemmas::goes_set))]
     pub fn output_taken(&mut self) -> Result<(), Refused>
         ensures refused { IfErr result (λ e. IsRefused e self.old self.new) }
         ensures own { Untouched self.old.streams.entries self.new.streams.entries }
         ensures config { self.new.config ≡ self.old.config }
+        ensures goes { GoesOn [] self.old self.new }
     {
         if self.closes.is_some() {
             self.closes = None;
@@ -110,6 +112,7 @@ impl Connection {
         ensures own { UntouchedBut id self.old.streams.entries self.new.streams.entries }
         ensures took { OnOk result (is_own self.old id ≡ false
             → TookAlone len (own_at self.old.streams.entries id) (own_at self.new.streams.entries id)) }
+        ensures goes { GoesOn [] self.old self.new }
     {
         self.reserve()?;
         let spares = &mut self.tools.spares;
@@ -132,6 +135,7 @@ impl Connection {
         ensures own { UntouchedBut id self.old.streams.entries self.new.streams.entries }
         ensures took { OnOk result (TookAlone len (own_at self.old.streams.entries id)
             (own_at self.new.streams.entries id)) }
+        ensures goes { GoesOn [] self.old self.new }
     {
         let is_done = self.message_sent(id, len)?;
         Ok(self.after_sent(id, is_done)?)
@@ -140,6 +144,7 @@ impl Connection {
     // QUIC took bytes of a stream: there may be room again, or nothing is to be done for its own half any more.
     fn after_sent(&mut self, id: u64, is_done: bool) -> Result<(), AllocError>
         ensures own { Untouched self.old.streams.entries self.new.streams.entries }
+        ensures goes { GoesOn [] self.old self.new }
     {
         self.note_room(id);
         if is_done {
@@ -149,12 +154,14 @@ impl Connection {
     }
 
     // QUIC took bytes of a stream that is not critical. Returns whether nothing is to be done for its own half any more.
-    #[tactic(auto, using(crate::proofs::OwnLemmas::took_set, std::proofs::lemmas::Map::Steps::set_value_same))]
+    #[tactic(auto, using(crate::proofs::OwnLemmas::took_set, crate::proofs::GoesLemmas::goes_set,
+        std::proofs::lemmas::Map::Steps::set_value_same))]
     fn message_sent(&mut self, id: u64, len: usize) -> Result<bool, Refused>
         ensures refused { OnErr result (IsStill self.old self.new) }
         ensures own { UntouchedBut id self.old.streams.entries self.new.streams.entries }
         ensures took { OnOk result (Took len (own_at self.old.streams.entries id)
             (own_at self.new.streams.entries id)) }
+        ensures goes { GoesOn [] self.old self.new }
     {
         let Some(entry) = self.streams.get_mut(&id) else {
             return Err(Refused::NoStream);
@@ -173,6 +180,7 @@ impl Connection {
     fn note_room(&mut self, id: u64)
         ensures own { Untouched self.old.streams.entries self.new.streams.entries }
         ensures config { self.new.config ≡ self.old.config }
+        ensures goes { GoesOn [] self.old self.new }
     {
         // (one that is passed over is looked at once more)
         let is_passed = id < self.pending.cursor;
@@ -185,10 +193,11 @@ impl Connection {
     }
 
     // Tells of the next stream that has room again.
-    #[tactic(auto, using(crate::proofs::OwnLemmas::untouched_set))]
+    #[tactic(auto, using(crate::proofs::OwnLemmas::untouched_set, crate::proofs::GoesLemmas::goes_set))]
     pub(super) fn next_writable<'a>(&mut self) -> Step<'a>
         ensures own { Untouched self.old.streams.entries self.new.streams.entries }
         ensures config { self.new.config ≡ self.old.config }
+        ensures goes { GoesOn (said_in result) self.old self.new }
     {
         for _stream in 0..self.full.len() {
             let Some(id) = self.next_full() else {
@@ -220,11 +229,13 @@ impl Connection {
     ///
     /// `NotAsked` if QUIC did not take so many. `Memory`: nothing changes, and the call is to be made again. There is
     /// none if the stream is forgotten.
-    #[tactic(auto, using(crate::proofs::OwnLemmas::untouched_set, std::proofs::lemmas::Map::Steps::set_value_same))]
+    #[tactic(auto, using(crate::proofs::OwnLemmas::untouched_set, crate::proofs::GoesLemmas::goes_set,
+        std::proofs::lemmas::Map::Steps::set_value_same))]
     pub fn acked(&mut self, id: u64, len: u64) -> Result<(), Refused>
         ensures refused { IfErr result (λ e. IsRefused e self.old self.new) }
         ensures own { Untouched self.old.streams.entries self.new.streams.entries }
         ensures config { self.new.config ≡ self.old.config }
+        ensures goes { GoesOn [] self.old self.new }
     {
         self.reserve()?;
         let spares = &mut self.tools.spares;
@@ -255,6 +266,7 @@ impl Connection {
         ensures ok { OnOk result (view_of self.new ≡ blocked_at scope self.old blocked) }
         ensures err { IfErr result (λ e. e ≡ refused.Memory) }
         ensures kept { OnErr result (IsStill self.old self.new) }
+        ensures goes { GoesOn [] self.old self.new }
     {
         match scope {
             Scope::Kind(kind) => {
@@ -270,11 +282,12 @@ impl Connection {
     }
 
     // QUIC takes nothing of a stream for now, or does again.
-    #[tactic(auto, using(std::proofs::lemmas::Map::Steps::set_value_same))]
+    #[tactic(auto, using(std::proofs::lemmas::Map::Steps::set_value_same, crate::proofs::GoesLemmas::goes_set))]
     fn block_stream(&mut self, id: u64, blocked: bool) -> Result<(), Refused>
         ensures ok { OnOk result (view_of self.new ≡ blocked_in self.old id blocked) }
         ensures err { IfErr result (λ e. e ≡ refused.Memory) }
         ensures kept { OnErr result (IsStill self.old self.new) }
+        ensures goes { GoesOn [] self.old self.new }
     {
         if self.control.is(id) {
             self.control.is_blocked = blocked;

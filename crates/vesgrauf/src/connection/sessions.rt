@@ -1,8 +1,9 @@
 //! Sessions.
-ghost use Rattle.std.specs.Prelude.{◌≡◌, ◌⊎◌, true, Ok, Err, OnOk, OnErr, IfErr};
+ghost use Rattle.std.specs.Prelude.{◌≡◌, ◌⊎◌, true, Ok, Err, OnOk, OnErr, IfErr, []};
 ghost use Rattle.vesgrauf_stream.specs.Writing.{Drains};
 ghost use Rattle.vesgrauf.specs.State.{IsStill, IsRefused, Changes, IsWhy, RefusesDrain, is_over, open_session};
 ghost use Rattle.vesgrauf.specs.Own.{Untouched, UntouchedBut};
+ghost use Rattle.vesgrauf.specs.Told.{GoesOn, said_by, said_in};
 
 use crate::connection::{Connection, Step, Stop};
 use crate::entry::SHARED;
@@ -16,9 +17,11 @@ use wtp_messages::response::Asked;
 
 impl Connection {
     // A request for a session came. One above the limit is rejected.
+    #[tactic(auto, using(crate::proofs::GoesLemmas::goes_after))]
     pub(super) fn session_came(&mut self, id: u64, list: FieldList) -> Result<Step<'static>, Stop>
         ensures own { Untouched self.old.streams.entries self.new.streams.entries }
         ensures config { self.new.config ≡ self.old.config }
+        ensures goes { GoesOn (said_by result) self.old self.new }
     {
         if self.sessions >= self.config.max_sessions {
             return self.reject(id, Some(id));
@@ -30,10 +33,11 @@ impl Connection {
     }
 
     // The request on a stream asks for a session.
-    #[tactic(auto, using(crate::proofs::OwnLemmas::untouched_set))]
+    #[tactic(auto, using(crate::proofs::OwnLemmas::untouched_set, crate::proofs::GoesLemmas::goes_set))]
     fn begin_session(&mut self, id: u64)
         ensures own { Untouched self.old.streams.entries self.new.streams.entries }
         ensures config { self.new.config ≡ self.old.config }
+        ensures goes { GoesOn [] self.old self.new }
     {
         self.note_request(id, Asked::Session);
         self.sessions = self.sessions.saturating_add(1);
@@ -45,7 +49,7 @@ impl Connection {
     }
 
     // The server accepted a session. It is lost if the server stopped the own half before.
-    #[tactic(auto, using(crate::proofs::OwnLemmas::untouched_set))]
+    #[tactic(auto, using(crate::proofs::OwnLemmas::untouched_set, crate::proofs::GoesLemmas::goes_after))]
     pub(super) fn session_ready(
         &mut self,
         id: u64,
@@ -54,6 +58,7 @@ impl Connection {
     ) -> Result<Step<'static>, Stop>
         ensures own { Untouched self.old.streams.entries self.new.streams.entries }
         ensures config { self.new.config ≡ self.old.config }
+        ensures goes { GoesOn (said_by result) self.old self.new }
     {
         let Some(entry) = self.streams.get_mut(&id) else {
             return Ok(Step::More);
@@ -78,6 +83,7 @@ impl Connection {
     ) -> Result<Step<'static>, Stop>
         ensures own { Untouched self.old.streams.entries self.new.streams.entries }
         ensures config { self.new.config ≡ self.old.config }
+        ensures goes { GoesOn (said_by result) self.old self.new }
     {
         self.end_own(id)?;
         self.end_session(id)?;
@@ -95,7 +101,7 @@ impl Connection {
     // Returns whether a stream has waited since before the last tick but one for a session that no request asks for.
     fn is_late(&self, id: u64, session: u64) -> bool {
         let is_asked = match self.streams.get(&session) {
-            Some(entry) => entry.is_told,
+            Some(entry) => entry.is_known(),
             None => false,
         };
         match self.streams.get(&id) {
@@ -109,6 +115,7 @@ impl Connection {
     pub(super) fn session_opened(&mut self) -> Option<u64>
         ensures own { Untouched self.old.streams.entries self.new.streams.entries }
         ensures config { self.new.config ≡ self.old.config }
+        ensures goes { GoesOn [] self.old self.new }
     {
         let session = self.datagrams.opened.front().copied()?;
         if let Some(id) = self.pending.resumed {
@@ -137,6 +144,7 @@ impl Connection {
     pub fn tick(&mut self)
         ensures over { is_over self.old ≡ true → self.new ≡ self.old }
         ensures still { IsStill self.old self.new }
+        ensures goes { GoesOn [] self.old self.new }
     {
         if self.ended.is_some() {
             return;
@@ -150,6 +158,7 @@ impl Connection {
     pub(super) fn step_opened<'a>(&mut self, session: u64) -> Step<'a>
         ensures own { Untouched self.old.streams.entries self.new.streams.entries }
         ensures config { self.new.config ≡ self.old.config }
+        ensures goes { GoesOn (said_in result) self.old self.new }
     {
         if let Some(step) = self.early_of(session) {
             return step;
@@ -171,13 +180,14 @@ impl Connection {
     /// # Errors
     ///
     /// Nothing changes. `Closed`; `SessionGone`; `NotOpen`; and `Memory`.
-    #[tactic(auto, using(std::proofs::lemmas::Map::Steps::set_value_same))]
+    #[tactic(auto, using(std::proofs::lemmas::Map::Steps::set_value_same, crate::proofs::GoesLemmas::goes_set))]
     pub fn drain_session(&mut self, session: u64) -> Result<(), Refused>
         ensures open { OnOk result (open_session self.old session ≡ Ok tt) }
         ensures ok { OnOk result (Changes session Drains self.old self.new) }
         ensures why { IfErr result (λ e. (open_session self.old session ≡ Err e)
             ⊎ IsWhy RefusesDrain self.old session e) }
         ensures kept { OnErr result (IsStill self.old self.new) }
+        ensures goes { GoesOn [] self.old self.new }
     {
         self.check_session(session)?;
         self.begin_send(session)?;
@@ -200,6 +210,7 @@ impl Connection {
         ensures open { OnOk result (open_session self.old session ≡ Ok tt) }
         ensures refused { IfErr result (λ e. IsRefused e self.old self.new) }
         ensures own { UntouchedBut session self.old.streams.entries self.new.streams.entries }
+        ensures goes { GoesOn [] self.old self.new }
     {
         self.check_session(session)?;
         self.put_close(session, code, reason)?;
@@ -207,11 +218,12 @@ impl Connection {
     }
 
     // Queues the end of a session.
-    #[tactic(auto, using(std::proofs::lemmas::Map::Steps::set_value_same))]
+    #[tactic(auto, using(std::proofs::lemmas::Map::Steps::set_value_same, crate::proofs::GoesLemmas::goes_set))]
     fn put_close(&mut self, session: u64, code: u32, reason: &str) -> Result<(), Refused>
         ensures kept { OnErr result (IsStill self.old self.new) }
         ensures own { UntouchedBut session self.old.streams.entries self.new.streams.entries }
         ensures config { self.new.config ≡ self.old.config }
+        ensures goes { GoesOn [] self.old self.new }
     {
         self.begin_send(session)?;
         let Some(entry) = self.streams.get_mut(&session) else {
@@ -232,6 +244,7 @@ impl Connection {
     fn session_ended(&mut self, session: u64) -> Result<(), AllocError>
         ensures own { Untouched self.old.streams.entries self.new.streams.entries }
         ensures config { self.new.config ≡ self.old.config }
+        ensures goes { GoesOn [] self.old self.new }
     {
         self.end_session(session)?;
         self.drop_peer(session)?;

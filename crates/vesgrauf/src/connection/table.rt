@@ -1,8 +1,9 @@
 //! The own streams of QPACK (RFC 9204, sections 4.2 to 4.4).
-ghost use Rattle.std.specs.Prelude.{◌≡◌, OnOk, IfErr};
+ghost use Rattle.std.specs.Prelude.{◌≡◌, OnOk, IfErr, []};
 ghost use Rattle.vesgrauf.specs.State.{IsStill, Instructs, SaysAll, SaysOrWaits, view_of, with_begun};
 ghost use Rattle.vesgrauf.specs.declared.connection.Stop.TheVariants as stop;
 ghost use Rattle.vesgrauf.specs.Own.{Untouched};
+ghost use Rattle.vesgrauf.specs.Told.{GoesOn};
 
 use crate::connection::failing::EXCESSIVE_LOAD;
 use crate::connection::{Connection, Stop};
@@ -20,9 +21,11 @@ const DECODER_TYPE: u8 = 0x03;
 
 impl Connection {
     // Opens the own decoder stream, if the peer may use a dynamic table.
+    #[tactic(auto, using(crate::proofs::IdLemmas::goes_taken))]
     pub(super) fn begin_decoder(&mut self) -> Result<(), AllocError>
         ensures others { view_of self.new ≡ with_begun self.new (view_of self.old) }
         ensures control { self.new.control ≡ self.old.control }
+        ensures goes { GoesOn [] self.old self.new }
     {
         if self.config.qpack_max_table_capacity == 0 {
             return Ok(());
@@ -34,9 +37,11 @@ impl Connection {
     }
 
     // Begins the own dynamic table, if the peer's SETTINGS came and allow one.
+    #[tactic(auto, using(crate::proofs::IdLemmas::goes_taken))]
     pub(super) fn begin_table(&mut self) -> Result<(), Stop>
         ensures own { Untouched self.old.streams.entries self.new.streams.entries }
         ensures config { self.new.config ≡ self.old.config }
+        ensures goes { GoesOn [] self.old self.new }
     {
         if !self.pending.begins_table {
             return Ok(());
@@ -124,10 +129,11 @@ impl Connection {
     }
 
     // Tells the peer's encoder that a stream is left, once (RFC 9204, section 2.2.2.2).
-    #[tactic(auto, using(crate::proofs::OwnLemmas::untouched_set))]
+    #[tactic(auto, using(crate::proofs::OwnLemmas::untouched_set, crate::proofs::GoesLemmas::goes_set))]
     pub(super) fn cancel(&mut self, id: u64) -> Result<(), AllocError>
         ensures own { Untouched self.old.streams.entries self.new.streams.entries }
         ensures config { self.new.config ≡ self.old.config }
+        ensures goes { GoesOn [] self.old self.new }
     {
         let Some(entry) = self.streams.get_mut(&id) else {
             return Ok(());
