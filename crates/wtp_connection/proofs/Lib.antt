@@ -14,6 +14,7 @@ pub mod RequestLemmas
 pub mod ResumptionLemmas
 pub mod KnownLemmas
 pub mod ProgressLemmas
+pub mod AheadLemmas
 pub mod PurposeLemmas
 pub mod KeptLemmas
 pub mod WordLemmas

@@ -7,6 +7,7 @@ pub mod Opening
 pub mod Streams
 pub mod Receiving
 pub mod First
+pub mod Ahead
 pub mod Requests
 pub mod Datagrams
 pub mod Words

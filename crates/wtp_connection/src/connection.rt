@@ -4,6 +4,7 @@ ghost use Rattle.wtp_connection.specs.Streams.{connection_of, opens, opening_res
 ghost use Rattle.wtp_connection.specs.First.{first_found, first_seen, found_by};
 ghost use Rattle.wtp_connection.specs.Receiving.{FoundIs, StepIsFound, IsNearer, IsFirst, IsInside, opening_of, has_frame, settings_of, settings_after, HasGiven, step_found, encoder_found, decoder_found, fails, more_in, finish_of};
 
+pub mod ahead;
 pub mod datagrams;
 mod resumption;
 mod sessions;

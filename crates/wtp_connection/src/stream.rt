@@ -3,6 +3,7 @@
 ghost use Rattle.std.specs.Prelude.{◌≡◌, ◌≤◌, false, length, drop, None, Some, MatchOption, IfSome};
 ghost use Rattle.wtp_core.specs.Varint.{number_at};
 ghost use Rattle.wtp_connection.specs.Opening.{with_session, type_purpose, frames_purpose, uni_at, bi_at, stream_of, waits_for, is_critical as is_critical_is, connected, remaining_of, is_for_critical, has_no_headers as has_no_headers_is, is_closed as is_closed_is, over_from, over_by, allows_bidirectional as allows_bidirectional_is, is_forbidden as is_forbidden_is, forbidden_at, end_unopened};
+ghost use Rattle.wtp_connection.specs.Ahead.{past_piece};
 ghost use Rattle.wtp_connection.specs.Streams.{known_by_stream};
 ghost use Rattle.wtp_frames.specs.Start.{message_reader};
 
@@ -124,6 +125,17 @@ impl Stream {
     {
         if let Stream::Frames(reader, _) = self {
             reader.tunnel();
+        }
+    }
+
+    /// Goes on after a piece that is [ahead](crate::connection::Connection::data_ahead), after which so
+    /// many bytes of its frame are still to come.
+    #[inline(always)]
+    pub fn pass(&mut self, remaining: u64)
+        ensures { self.new ≡ past_piece remaining self.old }
+    {
+        if let Stream::Frames(reader, _) = self {
+            reader.pass(remaining);
         }
     }
 

@@ -5,6 +5,7 @@ pub mod MoveLemmas
 pub mod FirstLemmas
 pub mod FirstCutLemmas
 pub mod StepLemmas
+pub mod AheadLemmas
 pub mod OrderLemmas
 pub mod CutLemmas
 pub mod FaultLemmas

@@ -6,6 +6,7 @@ pub mod Run
 pub mod Interim
 pub mod Reading
 pub mod First
+pub mod Ahead
 pub mod Grammar
 pub mod GoAway
 pub mod Start

@@ -8,6 +8,7 @@ ghost use Rattle.wtp_frames.specs.Start.{message_reader, control_reader};
 ghost use Rattle.wtp_frames.specs.Interim.{ends_in_section as ends_in_section_is, after_interim};
 ghost use Rattle.wtp_frames.specs.Tunnel.{after_connect};
 
+pub mod ahead;
 pub mod words;
 
 use crate::endpoint::{Endpoint, Side};
