@@ -22,4 +22,5 @@ pub mod ErrorLemmas
 pub mod LossLemmas
 pub mod PastLemmas
 pub mod TableLemmas
+pub mod AheadLemmas
 pub mod KeptLemmas

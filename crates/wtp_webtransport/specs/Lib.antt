@@ -16,4 +16,5 @@ pub mod Sessions
 pub mod Streams
 pub mod Unacknowledged
 pub mod Tables
+pub mod Ahead
 pub mod Words

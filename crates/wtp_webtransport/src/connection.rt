@@ -6,7 +6,8 @@ ghost use Rattle.wtp_webtransport.specs.Receiving.{Receives, FoundGives, closed_
 ghost use Rattle.wtp_webtransport.specs.Tables.{Call};
 ghost use Rattle.wtp_webtransport.specs.Streams.{connection_of, resuming_connection, without_early_data, accepted, request_stream, after_error, is_unprocessed_by};
 
-mod messages;
+mod ahead;
+pub(crate) mod messages;
 mod sections;
 mod sessions;
 mod streams;

@@ -3,6 +3,7 @@ ghost use Rattle.std.specs.Prelude.{◌≡◌, ◌↔◌, IsTrue};
 ghost use Rattle.wtp_webtransport.specs.Streams.{stream_of, asking_stream, session_stream, with_session_id, with_head, with_session, connects, after_end, ended, answered, wait_for, waits_for as waits_for_is, is_request_head as is_request_head_is, is_held, is_done as is_done_is, due_by, GivesCapsule, EndsBetween};
 
 pub mod codes;
+mod pieces;
 pub mod words;
 
 use crate::capsules::{Capsules, SessionCapsule};

@@ -331,7 +331,7 @@ fn respond<'a>(
 
 // Returns whether what is left of an announced length is enough for a piece of a DATA frame and the
 // bytes of the frame that remain after it.
-fn fits(left: Option<u64>, piece: u64, remaining: u64) -> bool
+pub(crate) fn fits(left: Option<u64>, piece: u64, remaining: u64) -> bool
     ensures { result ≡ fits_is left (piece + remaining) }
 {
     match left {
