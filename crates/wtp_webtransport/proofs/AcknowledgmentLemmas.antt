@@ -1,12 +1,11 @@
 -- The acknowledgment that is due after a cancellation.
 use Rattle.std.proofs.Common.{◌≡◌, ℕ, ◌^◌, ◌<◌, Bool, true, false, cond, ltb, Option, Some, None, refl, sym, ap, ◌∙◌, eq-eqb}
 use Rattle.std.proofs.lemmas.Bool.{ne_eqb, lt-ltb}
-use Rattle.wtp_dynamic.specs.declared.acknowledgment.Acknowledgment.{Acknowledgment}
-use Rattle.wtp_dynamic_decoder.specs.Decoder.{Decoder, due_section, cancelled}
+use Rattle.wtp_dynamic_decoder.specs.Decoder.{Decoder, cancelled}
 use Rattle.wtp_webtransport.specs.declared.connection.Connection.{Connection}
 use Rattle.wtp_webtransport.specs.declared.unacknowledged.Unacknowledged.{Unacknowledged}
 use Rattle.wtp_webtransport.specs.Unacknowledged.{just_read, due_on, still_due}
-use Rattle.wtp_webtransport.specs.Tables.{bounded, due_section_of, due_read, after_cancel}
+use Rattle.wtp_webtransport.specs.Tables.{due_section_of, due_read, after_cancel}
 
 -- what is due on a stream, by whether the one that was cancelled is noted, and is that stream
 abbrev noted : ℕ → ℕ → Bool → Option Unacknowledged

@@ -1,5 +1,5 @@
 -- A piece that is ahead is what a call gives.
-use Rattle.std.proofs.Common.{◌≡◌, ℕ, ◌+◌, ◌-◌, ◌==◌, Bool, true, false, List, length, Option, Some, None, refl, sym, ap, subst, ◌∙◌}
+use Rattle.std.proofs.Common.{◌≡◌, ℕ, ◌+◌, ◌-◌, ◌==◌, Bool, true, false, List, length, Option, None, refl, sym, ap, subst}
 use Rattle.wtp_frames.specs.declared.reader.ahead.Ahead.{Ahead}
 use Rattle.wtp_frames.specs.Reading.{slice}
 use Rattle.wtp_connection.specs.declared.connection.Found.TheVariants as found
@@ -16,11 +16,10 @@ use Rattle.wtp_webtransport.specs.declared.stream.Part.TheVariants as part
 use Rattle.wtp_webtransport.specs.declared.stream.Stream.{Stream}
 use Rattle.wtp_webtransport.specs.declared.stream.Unread.{Unread}
 use Rattle.wtp_webtransport.specs.declared.stream.Unread.TheVariants as unread
-use Rattle.wtp_webtransport.specs.declared.stream.Due.TheVariants as due
 use Rattle.wtp_webtransport.specs.Events.{Told}
 use Rattle.wtp_webtransport.specs.Receiving.{Outcome, DataBy, GoesOn, DueGives, StreamGives, ReceivesIf, Receives, counted}
 use Rattle.wtp_webtransport.specs.Streams.{with_frames, with_part, due_by}
-use Rattle.wtp_webtransport.specs.Tables.{without_read, instructed, instructed_by, Call}
+use Rattle.wtp_webtransport.specs.Tables.{without_read, instructed, instructed_by}
 use Rattle.wtp_webtransport.specs.Ahead.{counts_if, counts_in, counts_by, counts, piece_of, GivesPiece}
 use Rattle.wtp_webtransport.proofs.TableLemmas.{call_read}
 

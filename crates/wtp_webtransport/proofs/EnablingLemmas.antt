@@ -1,8 +1,7 @@
 -- Sessions by the settings of both ends, requests for them and their answers; and requests after GOAWAY.
-use Rattle.std.proofs.Common.{◌≡◌, ℕ, ◌<◌, ◌≤◌, ◌&&◌, ◌||◌, not, Bool, true, false, cond, ltb, leb, List, Option, Some, None, is_some, unwrap_or, ◌⊎◌, refl, sym, ap, subst, ◌∙◌, arith, inl, inr}
+use Rattle.std.proofs.Common.{◌≡◌, ℕ, ◌<◌, ◌≤◌, ◌&&◌, ◌||◌, not, Bool, true, false, cond, ltb, leb, List, Option, Some, None, unwrap_or, ◌⊎◌, refl, sym, ap, ◌∙◌, arith, inl, inr}
 use Rattle.std.proofs.lemmas.Bool.{and_from, or_left, or_right, eqb-true, ltb-true, lt-ltb, le-ltb, le-leb, lt-leb, false≢true}
 use Rattle.wtp_qpack.specs.Field.{Field}
-use Rattle.wtp_frames.specs.declared.endpoint.Endpoint.{Endpoint}
 use Rattle.wtp_frames.specs.declared.endpoint.Side.{Side}
 use Rattle.wtp_frames.specs.declared.endpoint.Side.TheVariants.{Client, Server}
 use Rattle.wtp_connection.specs.declared.settings.PeerSettings.{PeerSettings}
@@ -16,7 +15,6 @@ use Rattle.wtp_messages.specs.declared.response.Asked.{Asked}
 use Rattle.wtp_messages.specs.declared.response.Asked.TheVariants as asked
 use Rattle.wtp_messages.specs.Request.{is_connect, asks_for_session}
 use Rattle.wtp_webtransport.specs.declared.connection.Connection.{Connection}
-use Rattle.wtp_webtransport.specs.declared.connection.messages.Asks.{Asks}
 use Rattle.wtp_webtransport.specs.declared.connection.messages.Asks.TheVariants as asks
 use Rattle.wtp_webtransport.specs.declared.fault.Fault.TheVariants as fault
 use Rattle.wtp_webtransport.specs.declared.stream.Stream.{Stream}
@@ -25,10 +23,10 @@ use Rattle.wtp_webtransport.specs.declared.stream.Part.TheVariants as part
 use Rattle.wtp_webtransport.specs.Capsules.{Place}
 use Rattle.wtp_webtransport.specs.Calls.{IsSession}
 use Rattle.wtp_webtransport.specs.Events.{StreamError, More}
-use Rattle.wtp_webtransport.specs.Joining.{Outcome, is_request, is_beyond, rejected_by, rejects}
+use Rattle.wtp_webtransport.specs.Joining.{is_request, is_beyond, rejected_by, rejects}
 use Rattle.wtp_webtransport.specs.Sessions.{enables_webtransport, allows_connect, enables_sessions, allows_sessions, asks_session, asks_connect, asks_by, asks_of, known_by_part, known_of, message_at_server, message_at_client, known_at_message, head_at_client, known_of_head, known_of_request, none_at_client, none_at, known_by_frames}
-use Rattle.wtp_webtransport.specs.Streams.{answered_with, answered_by, answered, with_part, connects, is_held}
-use Rattle.wtp_webtransport.specs.Enabling.{HasValue, IsPositive, EnablesWebTransport, EnablesConnect, EnableSessions, IsRequest}
+use Rattle.wtp_webtransport.specs.Streams.{answered_by, answered, with_part, connects}
+use Rattle.wtp_webtransport.specs.Enabling.{EnablesWebTransport, EnablesConnect, EnableSessions, IsRequest}
 
 -- ---- booleans
 

@@ -1,5 +1,5 @@
 -- A piece that is ahead in the bytes of a stream, and is given at once.
-use Rattle.std.specs.Prelude.{◌≡◌, ℕ, ◌+◌, Bool, true, false, List}
+use Rattle.std.specs.Prelude.{ℕ, ◌+◌, Bool, true, false, List}
 use Rattle.wtp_messages.specs.declared.message.Message.{Message}
 use Rattle.wtp_messages.specs.Content.{fits}
 use Rattle.wtp_webtransport.specs.declared.connection.Connection.{Connection}
