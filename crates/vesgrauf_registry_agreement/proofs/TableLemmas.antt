@@ -1,15 +1,12 @@
--- Stream types, settings, capsule types and error codes, by their rows.
-use Rattle.std.proofs.Common.{◌≡◌, ℕ, Bool, true, false, eqb, List, [], ◌∷◌, map, option_map, refl, ap, arith, ◌∙◌}
+-- Stream types, settings and capsule types, by their rows.
+use Rattle.std.proofs.Common.{◌≡◌, ℕ, false, option_map, arith}
 use Rattle.std.proofs.lemmas.Bool.Decides.{nat_tests}
 use Rattle.vesgrauf_registry.specs.Capsules.{capsules, capsule_of}
-use Rattle.vesgrauf_registry.specs.Codes.{Code, code_of}
-use Rattle.vesgrauf_registry.specs.Codes as codes_of
 use Rattle.vesgrauf_registry.specs.Settings.{settings, setting_of, setting_columns, is_http2_by}
 use Rattle.vesgrauf_registry.specs.Streams.{streams, stream_of}
-use Rattle.vesgrauf_registry.specs.Table.{AtEach, IsOther, Entry, among}
+use Rattle.vesgrauf_registry.specs.Table.{AtEach, IsOther}
 use Rattle.vesgrauf_registry.proofs.TableLemmas.{by_entries}
-use Rattle.vesgrauf_registry_agreement.specs.Views.{registration_in, registration_of, stream_kind_by, setting_name_by, capsule_kind_by, longest_by}
-use Rattle.wtp_core.specs.Codes.{Row, registered, registration, registration_among}
+use Rattle.vesgrauf_registry_agreement.specs.Views.{stream_kind_by, setting_name_by, capsule_kind_by, longest_by}
 use Rattle.wtp_wire.specs.Capsule.{capsule_kind_of, max_value_len}
 use Rattle.wtp_wire.specs.Kind.{is_exercise}
 use Rattle.wtp_wire.specs.SettingId.{is_reserved, setting_id_of, setting_name_of}
@@ -81,25 +78,3 @@ longest_others n h = grind (arith, h)
 
 pub same_longest : (n : ℕ) → option_map (λ k. max_value_len k) (capsule_kind_of n) ≡ longest_by (capsule_of n)
 same_longest n = by_entries SameLongest capsules n longest_at_each (longest_others n)
-
--- ---- error codes
-
--- an entry as a row of wtp_core
-abbrev row_of : Entry Code → Row
-row_of e = record { number = e.number; code = registration_in e }
-
-same_rows : registered ≡ map row_of codes_of.registered
-unfolding registered codes_of.registered
-same_rows = refl
-
-among_rows : (n : ℕ) (es : List (Entry Code)) → registration_among n (map row_of es) ≡ registration_of (among n es)
-among_rows n [] = refl
-among_rows n (e ∷ rest) = by_test (eqb n e.number) refl (among_rows n rest)
-  where
-    by_test : (b : Bool) → eqb n e.number ≡ b → registration_among n (map row_of rest) ≡ registration_of (among n rest) → registration_among n (map row_of (e ∷ rest)) ≡ registration_of (among n (e ∷ rest))
-    by_test true t further = rw t refl
-    by_test false t further = rw t further
-
-pub same_code : (n : ℕ) → registration n ≡ registration_of (code_of n)
-unfolding registration code_of
-same_code n = ap (λ (rows : List Row). registration_among n rows) same_rows ∙ among_rows n codes_of.registered

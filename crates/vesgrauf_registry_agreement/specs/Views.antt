@@ -1,21 +1,15 @@
 -- The entries of the tables, as the definitions of other crates.
 use Rattle.std.specs.Prelude.{ℕ, List, Option, Some, None, option_map}
 use Rattle.vesgrauf_registry.specs.Table.{Entry, CName, Same}
-use Rattle.vesgrauf_registry.specs.Codes.{Code}
 use Rattle.vesgrauf_registry.specs.Streams.{UniStream}
 use Rattle.vesgrauf_registry.specs.declared.capsules.Capsule.{Capsule}
 use Rattle.vesgrauf_registry.specs.declared.capsules.Meaning.{Meaning}
 use Rattle.vesgrauf_registry.specs.declared.capsules.Meaning.TheVariants as meaning
-use Rattle.vesgrauf_registry.specs.declared.codes.Scope.{Scope}
-use Rattle.vesgrauf_registry.specs.declared.codes.Scope.TheVariants as scope
 use Rattle.vesgrauf_registry.specs.declared.frames.FrameType.{FrameType}
 use Rattle.vesgrauf_registry.specs.declared.frames.FrameType.TheVariants as kind
 use Rattle.vesgrauf_registry.specs.declared.settings.Setting.{Setting}
 use Rattle.vesgrauf_registry.specs.declared.streams.StreamContent.{StreamContent}
 use Rattle.vesgrauf_registry.specs.declared.streams.StreamContent.TheVariants as content
-use Rattle.wtp_core.specs.Codes.{Registration}
-use Rattle.wtp_core.specs.declared.error.scope.ErrorScope.{ErrorScope}
-use Rattle.wtp_core.specs.declared.error.scope.ErrorScope.TheVariants as error_scope
 use Rattle.wtp_frames.specs.declared.frame_type.FrameType as frames
 use Rattle.wtp_frames.specs.declared.frame_type.FrameType.TheVariants as frames_kind
 use Rattle.wtp_wire.specs.declared.capsule.CapsuleKind.{CapsuleKind}
@@ -89,20 +83,3 @@ longest_in c = option_map (λ k. c.longest) (capsule_kind_in c.meaning)
 abbrev pub longest_by : Option (Entry Capsule) → Option ℕ
 longest_by None = None
 longest_by (Some e) = longest_in e.columns
-
--- ---- error codes
-
-abbrev pub scope_in : Scope → ErrorScope
-scope_in scope.Stream = error_scope.Stream
-scope_in scope.Connection = error_scope.Connection
-scope_in scope.Either = error_scope.Either
-
-abbrev pub registration_in : Entry Code → Registration
-registration_in e = record {
-  name = e.name;
-  description = e.columns.description;
-  scope = scope_in e.columns.scope;
-}
-
-abbrev pub registration_of : Option (Entry Code) → Option Registration
-registration_of c = option_map registration_in c

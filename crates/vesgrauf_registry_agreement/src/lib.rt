@@ -4,13 +4,11 @@
 
 ghost use Rattle.std.specs.Prelude.{◌≡◌, ℕ, false, option_map};
 ghost use Rattle.vesgrauf_registry.specs.Capsules.{capsule_of};
-ghost use Rattle.vesgrauf_registry.specs.Codes.{code_of};
 ghost use Rattle.vesgrauf_registry.specs.Frames.{columns_of, kind_of};
 ghost use Rattle.vesgrauf_registry.specs.Settings.{is_http2_by, setting_columns, setting_of};
 ghost use Rattle.vesgrauf_registry.specs.Streams.{stream_of};
-ghost use Rattle.vesgrauf_registry_agreement.specs.Views.{registration_of, frame_type_of, frame_kind_of, stream_kind_by, setting_name_by, capsule_kind_by, longest_by};
+ghost use Rattle.vesgrauf_registry_agreement.specs.Views.{frame_type_of, frame_kind_of, stream_kind_by, setting_name_by, capsule_kind_by, longest_by};
 ghost use Rattle.vesgrauf_registry_agreement.specs.Rules.{action_by};
-ghost use Rattle.wtp_core.specs.Codes.{registration};
 ghost use Rattle.wtp_frames.specs.FrameType.{type_of};
 ghost use Rattle.wtp_frames.specs.Rules.{action_of};
 ghost use Rattle.wtp_frames.specs.declared.endpoint.Endpoint.{Endpoint};
@@ -49,9 +47,4 @@ pub fn capsule_types_agree()
     ensures kind { (n : ℕ) → capsule_kind_of n ≡ capsule_kind_by (capsule_of n) }
     ensures longest { (n : ℕ) → option_map (λ k. max_value_len k) (capsule_kind_of n)
         ≡ longest_by (capsule_of n) }
-{}
-
-/// Error codes: `wtp_core` has the same names, descriptions and scopes.
-pub fn error_codes_agree()
-    ensures { (n : ℕ) → registration n ≡ registration_of (code_of n) }
 {}

@@ -1,12 +1,13 @@
 -- Error codes and application error codes, and their numbers.
 use Rattle.std.proofs.Common.{◌≡◌, ℕ, ◌+◌, ◌-◌, ◌*◌, ◌/◌, ◌%◌, ◌^◌, ◌<◌, ◌≤◌, ◌==◌, if◌then◌else◌, refl, sym, ap, ◌∙◌, get_or, length, inl, inr, arith}
 use Rattle.std.proofs.lemmas.Bool.{cases_lt}
+use Rattle.vesgrauf_registry.specs.Codes.{code_of, registered}
 use Rattle.wtp_core.specs.declared.error.ErrorCode.{ErrorCode}
 use Rattle.wtp_core.specs.declared.error.ErrorCode.TheVariants.{Datagram, NoError, StreamCreation, ClosedCriticalStream, FrameUnexpected, Frame, ExcessiveLoad, Id, Settings, MissingSettings, RequestRejected, Message, Decompression, BufferedStreamRejected, SessionGone}
 use Rattle.wtp_core.specs.declared.error.number.TheConstants.{CODES}
 use Rattle.wtp_core.specs.ErrorCodes.{code_number}
 use Rattle.wtp_core.specs.ErrorScope.{scope_of}
-use Rattle.wtp_core.specs.Codes.{registration, registered, code_scope}
+use Rattle.wtp_core.specs.Codes.{code_scope}
 use Rattle.wtp_core.specs.Numbers.{IsReserved}
 use Rattle.wtp_core.specs.ApplicationCodes.{http3_number}
 
@@ -68,7 +69,7 @@ number-not_reserved BufferedStreamRejected (n, e) = omega arith
 number-not_reserved SessionGone (n, e) = omega arith
 
 pub scope-agrees : (x : ErrorCode) → code_scope (code_number x) ≡ scope_of x
-unfolding registration registered
+unfolding code_of registered
 scope-agrees Datagram = refl
 scope-agrees NoError = refl
 scope-agrees StreamCreation = refl

@@ -11,4 +11,3 @@ pub mod NeedLemmas
 pub mod GetLemmas
 pub mod DrainLemmas
 pub mod CodeLemmas
-pub mod RegistryLemmas

@@ -3,13 +3,11 @@
 ghost use Rattle.std.specs.Prelude.{◌≡◌, None, Some, MatchOption};
 ghost use Rattle.wtp_core.specs.Codes.{code_name, code_description, code_scope};
 
-mod registry;
-
 use super::{ErrorCode, ErrorScope, h3_error_codes, qpack_error_codes, wt_error_codes};
 use crate::varint::VarInt;
-use registry::find;
 use std::fmt;
 use std::marker::Model;
+use vesgrauf_registry::codes::{Scope, find_code};
 
 /// An error code of HTTP/3: any number, whether it is registered or not (RFC 9114, section 8.1).
 ///
@@ -187,7 +185,7 @@ impl Code {
         ensures { MatchOption result (code_name self ≡ None)
             (λ name. code_name self ≡ Some name.now) }
     {
-        match find(self) {
+        match find_code(self.number.into_inner()) {
             Some(row) => Some(row.name),
             None => None,
         }
@@ -199,8 +197,8 @@ impl Code {
         ensures { MatchOption result (code_description self ≡ None)
             (λ text. code_description self ≡ Some text.now) }
     {
-        match find(self) {
-            Some(row) => Some(row.description),
+        match find_code(self.number.into_inner()) {
+            Some(row) => Some(row.columns.description),
             None => None,
         }
     }
@@ -219,8 +217,12 @@ impl Code {
     pub fn scope(self) -> ErrorScope
         ensures { result ≡ code_scope self }
     {
-        match find(self) {
-            Some(row) => row.scope,
+        match find_code(self.number.into_inner()) {
+            Some(row) => match row.columns.scope {
+                Scope::Stream => ErrorScope::Stream,
+                Scope::Connection => ErrorScope::Connection,
+                Scope::Either => ErrorScope::Either,
+            },
             None => ErrorScope::Either,
         }
     }
