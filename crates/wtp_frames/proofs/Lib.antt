@@ -1,3 +1,4 @@
+pub mod TypeLemmas
 pub mod HeadLemmas
 pub mod NumberLemmas
 pub mod RunLemmas

@@ -1,6 +1,9 @@
 //! Types of frames (RFC 9114, sections 7.2 and 11.2.1).
 ghost use Rattle.std.specs.Prelude.{◌≡◌};
-ghost use Rattle.wtp_frames.specs.FrameType.{type_of};
+ghost use Rattle.vesgrauf_registry.specs.Frames.{kind_of};
+ghost use Rattle.wtp_frames.specs.FrameType.{type_in, type_of};
+
+use vesgrauf_registry::frames::{self, find_frame};
 
 /// The type of a frame.
 #[derive(Clone, Copy, Debug, PartialEq, Eq)]
@@ -31,20 +34,38 @@ pub enum FrameType {
 
 impl FrameType {
     /// Returns the type with this number.
+    #[tactic(auto, using(crate::proofs::TypeLemmas::kind_is))]
     pub fn of(number: u64) -> Self
         ensures { result ≡ type_of number }
     {
-        match number {
-            0x00 => FrameType::Data,
-            0x01 => FrameType::Headers,
-            0x03 => FrameType::CancelPush,
-            0x04 => FrameType::Settings,
-            0x05 => FrameType::PushPromise,
-            0x07 => FrameType::GoAway,
-            0x0d => FrameType::MaxPushId,
-            0x02 | 0x06 | 0x08 | 0x09 => FrameType::Http2,
-            0x41 => FrameType::WebTransport,
-            _ => FrameType::Unknown,
+        FrameType::of_row(number)
+    }
+
+    // Returns the type of the kind in the row of this number.
+    fn of_row(number: u64) -> Self
+        ensures { result ≡ type_in (kind_of number) }
+    {
+        match find_frame(number) {
+            Some(row) => FrameType::of_kind(row.columns.kind),
+            None => FrameType::Unknown,
+        }
+    }
+
+    // Returns the type of this kind.
+    fn of_kind(kind: frames::FrameType) -> Self
+        ensures { result ≡ type_in kind }
+    {
+        match kind {
+            frames::FrameType::Data => FrameType::Data,
+            frames::FrameType::Headers => FrameType::Headers,
+            frames::FrameType::CancelPush => FrameType::CancelPush,
+            frames::FrameType::Settings => FrameType::Settings,
+            frames::FrameType::PushPromise => FrameType::PushPromise,
+            frames::FrameType::GoAway => FrameType::GoAway,
+            frames::FrameType::MaxPushId => FrameType::MaxPushId,
+            frames::FrameType::Http2 => FrameType::Http2,
+            frames::FrameType::WebTransport => FrameType::WebTransport,
+            frames::FrameType::Unknown => FrameType::Unknown,
         }
     }
 }
