@@ -15,7 +15,8 @@ pub struct Event<'a> {
     /// The stream, or 0 for an event of the connection. A client's first request has the ID 0, too: the kind tells them
     /// apart.
     pub stream: u64,
-    /// The session that the stream belongs to, or whose own stream it is: also of one that is not answered, or was refused.
+    /// The session that the stream belongs to, or whose own stream it is: also of one that is not answered, or was
+    /// refused. Each event of a stream of a session has it.
     pub session: Option<u64>,
     /// The number that the program gave the stream, if it gave one.
     pub user: Option<u64>,
@@ -37,7 +38,8 @@ pub enum Tunnel {
 pub enum EventKind<'a> {
     /// SETTINGS of the peer came.
     Ready(PeerSettings),
-    /// GOAWAY of the peer came, with this ID (RFC 9114, section 5.2).
+    /// GOAWAY of the peer came, with this ID (RFC 9114, section 5.2). A client sends no new request from now on.
+    /// Requests below the ID are processed: all, if it is that of a notice, 2^62 - 4.
     GoAway(u64),
     /// After [`shutdown`](crate::connection::Connection::shutdown): nothing is left, and what was queued is
     /// sent, datagrams too. The connection closes with H3_NO_ERROR.
@@ -66,7 +68,8 @@ pub enum EventKind<'a> {
     Draining,
     /// The peer reset the stream, with this code.
     Reset(StreamCode),
-    /// The peer asked to stop the own half, with this code. It is reset.
+    /// The peer asked to stop the own half, with this code. It is reset. With H3_NO_ERROR a server needs no more of a
+    /// request: its response still comes (RFC 9114, section 4.1).
     Stopped(StreamCode),
     /// The peer violated a rule on the stream, of which the program may not know yet. It comes if
     /// [`tells_failures`](crate::config::Config) is set, before the `Closed` of a stream that the program knows of, and
@@ -109,7 +112,8 @@ pub enum Rule {
 /// Why a stream is over.
 #[derive(Debug, Drop)]
 pub enum Why {
-    /// Both halves are over, and QUIC took all that was queued, and the end.
+    /// Both halves are over, and QUIC took all that was queued, and the end. Whether all of the peer's half came is what
+    /// `End` and `Reset` say.
     Done,
     /// Both halves are over. The own half was reset, by a call or since the peer stopped it: not all that was queued is
     /// sent.

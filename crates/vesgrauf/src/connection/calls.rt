@@ -14,7 +14,8 @@ use vesgrauf_ready::rank::{Kind, Priority};
 
 impl Connection {
     /// Resets the own half of a stream, with a code of HTTP/3 or, on a stream of a session, of the application. What is
-    /// queued is dropped. One that was finished is reset too, unless all of it is acknowledged. That of a session's own stream ends the session, also of one that is still to come.
+    /// queued is dropped. One that was finished is reset too, unless all of it is acknowledged. That of a session's own
+    /// stream ends the session, also one that is still to come.
     ///
     /// # Errors
     ///

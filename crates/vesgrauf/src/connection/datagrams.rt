@@ -118,8 +118,8 @@ impl Connection {
     ///
     /// # Errors
     ///
-    /// Nothing changes. `Closed`; `SessionGone`; `NotOpen`; `TooLarge` if it has more bytes than [`max_datagram`](Self::max_datagram)
-    /// says; and `Memory`.
+    /// Nothing changes. `Closed`; `SessionGone`; `NotOpen`; `TooLarge` if it has more bytes than
+    /// [`max_datagram`](Self::max_datagram) says; and `Memory`.
     pub fn send_datagram(&mut self, session: u64, payload: &[u8]) -> Result<bool, Refused>
         ensures open { IfOk result (λ queued. open_session self.old session ≡ Ok tt) }
         ensures ok { IfOk result (λ queued. SendsDatagram queued session payload.now self.old self.new) }

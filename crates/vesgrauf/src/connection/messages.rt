@@ -25,7 +25,8 @@ use wtp_sending::error::SendError;
 use wtp_sending::peer::Peer as Allows;
 
 impl Connection {
-    /// Sends a request, at a client: its HEADERS, and with `fin` its end. Returns the ID of its stream.
+    /// Sends a request, at a client: its HEADERS, and with `fin` its end. Returns the ID of its stream. A request for a
+    /// session has no end, which would close the session.
     ///
     /// # Errors
     ///

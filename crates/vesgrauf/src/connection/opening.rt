@@ -129,8 +129,8 @@ impl Connection {
         }
     }
 
-    /// Opens a stream of an open session. Returns its ID. Its first bytes, which name the session, are queued (draft-ietf-webtrans-http3-02,
-    /// section 4).
+    /// Opens a stream of an open session. Returns its ID. Its first bytes, which name the session, are queued
+    /// (draft-ietf-webtrans-http3-02, section 4).
     ///
     /// # Errors
     ///
