@@ -1,6 +1,9 @@
 pub mod OwnLemmas
+pub mod PieceLemmas
 pub mod ToldLemmas
 pub mod ReadsLemmas
+pub mod BoundLemmas
+pub mod ProgressLemmas
 pub mod RunLemmas
 pub mod StepLemmas
 pub mod TheirsLemmas

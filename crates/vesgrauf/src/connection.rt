@@ -12,10 +12,12 @@ mod looking;
 mod malformed;
 mod messages;
 mod opening;
+mod pieces;
 mod quick;
 mod reading;
 mod sending;
 mod sessions;
+mod settled;
 mod steps;
 mod table;
 mod waiting;
@@ -115,6 +117,10 @@ struct Pending {
     owes_unidirectional: bool,
     /// Whether the own encoder is to begin.
     begins_table: bool,
+    /// A stream that named its session, and is to join it: it did not yet if memory was refused.
+    named: Option<Member>,
+    /// A stream that is to have its place in the order of sending, for which memory was refused.
+    unplaced: Option<u64>,
     /// The first request that a server does not process, if streams are to be told so.
     unprocessed: Option<u64>,
 }
@@ -130,6 +136,8 @@ impl Pending {
             owes_bidirectional: false,
             owes_unidirectional: false,
             begins_table: false,
+            named: None,
+            unplaced: None,
             unprocessed: None,
         }
     }
@@ -221,6 +229,8 @@ enum Step<'a> {
 }
 
 impl Connection {
+    ghost use Rattle.vesgrauf.specs.Bounds.{InstructionsFit};
+    ghost use Rattle.vesgrauf.specs.Progress.{IsSettled};
     ghost use Rattle.vesgrauf.specs.Own.{Untouched};
     ghost use Rattle.vesgrauf.specs.State.{IsAfterEnd, IsSomeOk, is_last, is_over};
     ghost use Rattle.vesgrauf_queue.specs.State.{waiting};
@@ -228,7 +238,7 @@ impl Connection {
     ghost use Rattle.wtp_sending.specs.Control.{settings_bytes};
     ghost use Rattle.vesgrauf.specs.Theirs.{Left, Tells, TellsAll, IsSilent, told_in, told_by};
     ghost use Rattle.vesgrauf.specs.declared.config.OnMalformed.TheVariants as chosen;
-    ghost use Rattle.std.specs.Prelude.{◌≡◌, if◌then◌else◌, true, false, Some, None, [], IfOk};
+    ghost use Rattle.std.specs.Prelude.{◌≡◌, if◌then◌else◌, true, false, Ok, Some, None, [], IfOk, OnOk};
 
     /// Creates a connection. Its first outputs open its control stream and, with a dynamic table, its decoder stream.
     ///
@@ -289,6 +299,8 @@ impl Connection {
     /// # Errors
     ///
     /// If memory is refused: nothing is lost, the input stays as it is, and the call is to be made again.
+    #[tactic(auto, using(crate::proofs::ProgressLemmas::quiet_settled))]
+    #[inline(always)]
     pub fn next_event<'a>(&mut self, input: &mut Input<'a>) -> Result<Option<Event<'a>>, AllocError>
         ensures last { IsAfterEnd self.old → IsSomeOk result (λ e. is_last e.kind ≡ true) }
         ensures over { IsAfterEnd self.old → IsAfterEnd self.new }
@@ -297,19 +309,12 @@ impl Connection {
         ensures told { is_over self.new ≡ false → IfOk result (λ e. TellsAll self.old.ids (told_by e)
             self.old.streams.entries input.old self.new.streams.entries input.new) }
         ensures config { self.new.config ≡ self.old.config }
+        ensures settled { result ≡ Ok None → IsSettled self.new input.new }
     {
-        if self.is_quiet() {
-            match input.report {
-                Report::Nothing => {
-                    if self.is_still() {
-                        return Ok(None);
-                    }
-                }
-                Report::Stream(id) => return self.read_at_once(id, input),
-                _ => {}
-            }
+        if self.has_nothing_due(input) {
+            return Ok(None);
         }
-        self.next_by_steps(input)
+        self.next_due(input)
     }
 
     // Takes one step.
@@ -411,8 +416,10 @@ impl Connection {
         ensures own { Untouched self.old.streams.entries self.new.streams.entries }
         ensures left { Left self.old.streams.entries self.new.streams.entries }
         ensures config { self.new.config ≡ self.old.config }
+        ensures instructions { OnOk result (InstructionsFit self.new) }
     {
         self.reserve_all()?;
+        self.place_due()?;
         self.shared.increment(&mut self.told)?;
         self.begin_table()?;
         self.queue_instructions()?;

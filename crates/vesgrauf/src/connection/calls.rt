@@ -1,5 +1,5 @@
 //! Calls on one stream.
-ghost use Rattle.std.specs.Prelude.{◌≡◌, is_some, is_ok, true, Some, None, OnOk, OnErr, IfErr};
+ghost use Rattle.std.specs.Prelude.{◌≡◌, is_some, is_ok, true, Some, None, OnOk, OnErr, IfErr, []};
 ghost use Rattle.vesgrauf.specs.State.{code_on, named_at, Becomes, Pauses, Prioritizes, IsStill, IsRefusedBy, IsWhyNamed};
 ghost use Rattle.vesgrauf.specs.declared.refused.Refused.TheVariants as refused;
 ghost use Rattle.vesgrauf.specs.Own.{Untouched};

@@ -1,13 +1,14 @@
 //! Streams that are closed, and sessions that end.
-ghost use Rattle.std.specs.Prelude.{◌≡◌, false, OnOk};
+ghost use Rattle.std.specs.Prelude.{◌≡◌, [], false, OnOk};
 ghost use Rattle.vesgrauf.specs.State.{stream_at, knows_of};
 ghost use Rattle.vesgrauf.specs.Own.{Untouched};
 ghost use Rattle.vesgrauf.specs.Theirs.{Left, Gone, theirs_at};
 
 use crate::code::StreamCode;
+use crate::connection::reading::counted;
 use crate::connection::{Connection, Step};
-use crate::entry::{Member, Peer, Told};
-use crate::event::{EventKind, Why};
+use crate::entry::{Entry, Member, Peer, Told};
+use crate::event::{Event, EventKind, Why};
 use crate::output::Output;
 use std::alloc::AllocError;
 use wtp_connection::connection::Known;
@@ -34,8 +35,42 @@ impl Connection {
     }
 
     // Resets the own half.
-    #[tactic(auto, using(crate::proofs::OwnLemmas::untouched_set, crate::proofs::TheirsLemmas::left_set))]
     pub(super) fn reset_own(&mut self, id: u64, code: u64) -> Result<(), AllocError>
+        ensures own { Untouched self.old.streams.entries self.new.streams.entries }
+        ensures left { Left self.old.streams.entries self.new.streams.entries }
+        ensures config { self.new.config ≡ self.old.config }
+    {
+        if self.reset_half(id, code)? {
+            self.wake();
+        }
+        Ok(())
+    }
+
+    // Resets the own half, unless nothing is to be done for it. Returns whether something was.
+    fn reset_half(&mut self, id: u64, code: u64) -> Result<bool, AllocError>
+        ensures own { Untouched self.old.streams.entries self.new.streams.entries }
+        ensures left { Left self.old.streams.entries self.new.streams.entries }
+        ensures config { self.new.config ≡ self.old.config }
+    {
+        if !self.has_own(id) {
+            return Ok(false);
+        }
+        self.reset_writing(id, code)?;
+        self.leave_order(id);
+        Ok(true)
+    }
+
+    // Returns whether something is to be done for the own half of a stream.
+    fn has_own(&self, id: u64) -> bool {
+        match self.streams.get(&id) {
+            Some(entry) => !entry.writing.is_done(),
+            None => false,
+        }
+    }
+
+    // Resets the own half, if it may be.
+    #[tactic(auto, using(crate::proofs::OwnLemmas::untouched_set, crate::proofs::TheirsLemmas::left_set, std::proofs::lemmas::Map::Steps::set_value_same))]
+    fn reset_writing(&mut self, id: u64, code: u64) -> Result<(), AllocError>
         ensures own { Untouched self.old.streams.entries self.new.streams.entries }
         ensures left { Left self.old.streams.entries self.new.streams.entries }
         ensures config { self.new.config ≡ self.old.config }
@@ -43,25 +78,34 @@ impl Connection {
         let Some(entry) = self.streams.get_mut(&id) else {
             return Ok(());
         };
-        if entry.writing.is_done() {
+        if !entry.writing.reset(&mut self.tools.spares, code, 0) {
             return Ok(());
         }
-        if entry.writing.reset(&mut self.tools.spares, code, 0) {
-            entry.is_reset = true;
-            if entry.is_opened {
-                self.outputs.push_back(Output::Reset(id, code))?;
-            }
+        entry.is_reset = true;
+        if entry.is_opened {
+            self.outputs.push_back(Output::Reset(id, code))?;
         }
+        Ok(())
+    }
+
+    // Nothing more is sent on the own half of a stream. A request on it is refused.
+    #[tactic(auto, using(crate::proofs::OwnLemmas::untouched_set, crate::proofs::TheirsLemmas::left_set))]
+    fn leave_order(&mut self, id: u64)
+        ensures own { Untouched self.old.streams.entries self.new.streams.entries }
+        ensures left { Left self.old.streams.entries self.new.streams.entries }
+        ensures config { self.new.config ≡ self.old.config }
+    {
+        let Some(entry) = self.streams.get_mut(&id) else {
+            return;
+        };
         self.ready.remove(id, entry.kind());
         self.full.remove(&id);
         entry.reading.answer(REFUSED);
-        self.wake();
-        Ok(())
     }
 
     // Resets an own half of which QUIC took the end, unless all of it is acknowledged: QUIC may still send some of it (RFC
     // 9000, section 3.5). Returns whether it is reset.
-    #[tactic(auto, using(crate::proofs::OwnLemmas::untouched_set, crate::proofs::TheirsLemmas::left_set))]
+    #[tactic(auto, using(crate::proofs::OwnLemmas::untouched_set, crate::proofs::TheirsLemmas::left_set, std::proofs::lemmas::Map::Steps::set_value_same))]
     pub(super) fn reset_ended(&mut self, id: u64, code: u64) -> Result<bool, AllocError>
         ensures own { Untouched self.old.streams.entries self.new.streams.entries }
         ensures left { Left self.old.streams.entries self.new.streams.entries }
@@ -95,7 +139,7 @@ impl Connection {
         if entry.peer == Peer::Over {
             return Ok(());
         }
-        if entry.peer == Peer::Reads && !entry.is_ended {
+        if !entry.is_ended {
             if entry.is_opened {
                 self.outputs.push_back(Output::StopSending(id, code))?;
             } else {
@@ -151,7 +195,7 @@ impl Connection {
         entry.reading.drop_kept();
         let owed = entry.withheld;
         entry.withheld = 0;
-        self.count_held(before, 0);
+        self.held = counted(self.held, before, 0);
         self.credit(id, owed)
     }
 
@@ -167,22 +211,42 @@ impl Connection {
         self.remove_if_done(id)
     }
 
-    // Ends the own half after what is queued, if a message may end there.
+    // Ends the own half after what is queued, if a message may end there. Without memory it has its place in the order of
+    // sending from the next step on.
     #[tactic(auto, using(crate::proofs::OwnLemmas::untouched_set, crate::proofs::TheirsLemmas::left_set))]
-    pub(super) fn end_own(&mut self, id: u64) -> Result<(), AllocError>
+    pub(super) fn end_own(&mut self, id: u64)
         ensures own { Untouched self.old.streams.entries self.new.streams.entries }
         ensures left { Left self.old.streams.entries self.new.streams.entries }
         ensures config { self.new.config ≡ self.old.config }
     {
         let Some(entry) = self.streams.get_mut(&id) else {
-            return Ok(());
+            return;
         };
         if entry.may_send() && !entry.writing.is_ended() {
-            self.ready.insert(id, entry.kind())?;
+            if self.ready.insert(id, entry.kind()).is_err() {
+                self.pending.unplaced = Some(id);
+            }
         }
         if entry.writing.finish().is_err() && !entry.has_more() {
             self.ready.remove(id, entry.kind());
         }
+    }
+
+    // Gives a stream its place in the order of sending for which memory was refused.
+    pub(super) fn place_due(&mut self) -> Result<(), AllocError>
+        ensures own { Untouched self.old.streams.entries self.new.streams.entries }
+        ensures left { Left self.old.streams.entries self.new.streams.entries }
+        ensures config { self.new.config ≡ self.old.config }
+    {
+        let Some(id) = self.pending.unplaced else {
+            return Ok(());
+        };
+        if let Some(entry) = self.streams.get(&id) {
+            if entry.may_send() && entry.has_more() {
+                self.ready.insert(id, entry.kind())?;
+            }
+        }
+        self.pending.unplaced = None;
         Ok(())
     }
 
@@ -201,6 +265,7 @@ impl Connection {
             entry.has_session = false;
             self.sessions = self.sessions.saturating_sub(1);
             self.datagrams.opened.push_back(session)?;
+            self.drop_datagrams(session)?;
         }
         for _stream in 0..self.members.len() {
             let Some(member) = self.first_member(session) else {
@@ -338,6 +403,16 @@ impl Connection {
         let Some(entry) = self.streams.remove(&id) else {
             return;
         };
+        self.forget(id, &entry);
+    }
+
+    // Forgets what is noted of a stream that was removed.
+    fn forget(&mut self, id: u64, entry: &Entry)
+        ensures streams { self.new.streams ≡ self.old.streams }
+        ensures ids { self.new.ids ≡ self.old.ids }
+        ensures events { self.new.events ≡ self.old.events }
+        ensures config { self.new.config ≡ self.old.config }
+    {
         if entry.is_quiet {
             self.quiet = self.quiet.saturating_sub(1);
         }

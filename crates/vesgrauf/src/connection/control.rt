@@ -1,16 +1,17 @@
 //! The own control stream, and the end of the connection.
-ghost use Rattle.std.specs.Prelude.{◌≡◌, ◌++◌, false, Some, length, option_map, IfOk, OnOk, OnErr, IfErr};
+ghost use Rattle.std.specs.Prelude.{◌≡◌, ◌++◌, false, Some, length, option_map, IfOk, OnOk, OnErr, IfErr, []};
 ghost use Rattle.vesgrauf.specs.State.{is_over, next_output, stream_at, view_of, with_begun, EndsUnless, IsAfterEnd, IsStill, ShutsDown, RefusesGoaway, goaway_for as goaway_is};
 ghost use Rattle.vesgrauf.specs.declared.output.Output.TheVariants as output;
 ghost use Rattle.vesgrauf_queue.specs.State.{counted, waiting};
 ghost use Rattle.vesgrauf.specs.Config.{announced};
 ghost use Rattle.wtp_sending.specs.Control.{settings_bytes};
 ghost use Rattle.vesgrauf.specs.Own.{Untouched};
+ghost use Rattle.vesgrauf.specs.Progress.{IsSpent};
 ghost use Rattle.vesgrauf.specs.Theirs.{Left, IsSilent};
 
 use crate::connection::{Connection, Ended, Step, Stop};
 use crate::event::{Event, EventKind};
-use crate::output::{Shutdown, Stats, StreamKind};
+use crate::output::{Shutdown, Stats};
 use crate::refused::Refused;
 use std::alloc::AllocError;
 use vesgrauf_queue::queue::Queue;
@@ -38,8 +39,7 @@ impl Connection {
         {
             return Err(AllocError);
         }
-        self.control.id = self.ids.next(StreamKind::Unidirectional);
-        self.ids.take(StreamKind::Unidirectional);
+        self.control.id = self.take_critical();
         if self
             .control
             .push(&mut self.tools.spares, bytes.as_slice())
@@ -164,7 +164,9 @@ impl Connection {
     }
 
     // Returns whether no message and no session is left, and nothing waits to be sent.
-    pub(super) fn is_idle(&self) -> bool {
+    pub(super) fn is_idle(&self) -> bool
+        ensures { result ≡ false → ¬ (IsSpent self.now) }
+    {
         self.streams.len() <= self.quiet
             && self.control.is_idle()
             && self.decoder.is_idle()

@@ -1,5 +1,6 @@
 //! Streams that the peer resets, or asks to stop.
-ghost use Rattle.std.specs.Prelude.{◌≡◌, true, false, IfOk};
+ghost use Rattle.std.specs.Prelude.{◌≡◌, true, false, IfOk, [], None, OnOk};
+ghost use Rattle.wtp_connection.specs.Budget.{code_after};
 ghost use Rattle.std.specs.List.{filter};
 ghost use Rattle.vesgrauf.specs.State.{head, go_on, is_over, is_last, IsAfterEnd, IsTold, EndsUnless, closes_stream, stream_at, knows_of};
 ghost use Rattle.vesgrauf.specs.Own.{Untouched};
@@ -196,6 +197,7 @@ impl Connection {
         ensures own { Untouched self.old.streams.entries self.new.streams.entries }
         ensures left { Left self.old.streams.entries self.new.streams.entries }
         ensures config { self.new.config ≡ self.old.config }
+        ensures budget { code_after self.old.budget ≡ None → OnOk result (code_after self.new.budget ≡ None) }
     {
         let Some(entry) = self.streams.get_mut(&id) else {
             return Ok(());
@@ -257,19 +259,28 @@ impl Connection {
     }
 
     // QUIC has closed a stream: what is kept of the own half is freed. What the peer sent is still read.
-    #[tactic(auto, using(crate::proofs::OwnLemmas::untouched_set, crate::proofs::TheirsLemmas::left_set))]
     pub(super) fn stream_closed(&mut self, id: u64) -> Result<(), AllocError>
         ensures own { Untouched self.old.streams.entries self.new.streams.entries }
         ensures left { Left self.old.streams.entries self.new.streams.entries }
         ensures config { self.new.config ≡ self.old.config }
     {
+        self.free_own(id);
+        self.remove_if_done(id)
+    }
+
+    // Frees what is kept of the own half of a stream.
+    #[tactic(auto, using(crate::proofs::OwnLemmas::untouched_set, crate::proofs::TheirsLemmas::left_set))]
+    fn free_own(&mut self, id: u64)
+        ensures own { Untouched self.old.streams.entries self.new.streams.entries }
+        ensures left { Left self.old.streams.entries self.new.streams.entries }
+        ensures config { self.new.config ≡ self.old.config }
+    {
         let Some(entry) = self.streams.get_mut(&id) else {
-            return Ok(());
+            return;
         };
         entry.writing = Writing::none(self.alloc, self.config.queue());
         self.ready.remove(id, entry.kind());
         self.full.remove(&id);
-        self.remove_if_done(id)
     }
 
     // Leaves a request that the server does not process.
@@ -332,10 +343,16 @@ impl Connection {
         ensures silent { IsSilent result }
         ensures config { self.new.config ≡ self.old.config }
     {
+        // (what is queued is told first)
+        if !self.events.is_empty() {
+            return Step::More;
+        }
         if matches!(input.report, Report::ConnectionClosed(_)) {
             self.closes = None;
         }
-        input.drop_rest();
+        if matches!(input.report, Report::Stream(_)) {
+            input.drop_rest();
+        }
         input.report = Report::Nothing;
         if let Some(id) = self.next_told() {
             self.pending.cursor = id.saturating_add(1);
@@ -352,7 +369,7 @@ impl Connection {
     }
 
     // Tells that a stream is over, since the connection is.
-    #[tactic(auto, using(crate::proofs::OwnLemmas::untouched_set, crate::proofs::TheirsLemmas::left_set))]
+    #[tactic(auto, using(crate::proofs::OwnLemmas::untouched_set, crate::proofs::TheirsLemmas::left_set, std::proofs::lemmas::Map::Steps::set_value_same))]
     fn tell_last(&mut self, id: u64) -> Step<'static>
         ensures last { IsTold result (λ e. is_last e.kind ≡ true) }
         ensures known { IsTold result (λ e. (e.stream ≡ id) × (knows_of (stream_at self.old id) ≡ true)) }

@@ -9,9 +9,9 @@ ghost use Rattle.vesgrauf.specs.declared.config.OnMalformed.TheVariants as chose
 
 use crate::connection::failing::NO_DATAGRAMS;
 use crate::connection::{Connection, Step, Stop, internal};
+use crate::entry::Member;
 use crate::event::{Event, EventKind, Tunnel, Why};
 use crate::output::StreamKind;
-use std::alloc::AllocError;
 use vesgrauf_stream::bytes::Bytes;
 use vesgrauf_stream::heard::Heard;
 use wtp_connection::settings::PeerSettings;
@@ -173,14 +173,10 @@ impl Connection {
         if let Some(entry) = self.streams.get_mut(&id) {
             entry.since = self.ticks;
         }
-        match self.join(id, session) {
-            Ok(event) => self.join_came(id, joining_of(&event)),
-            Err(stop) => {
-                // (without memory it joins later)
-                self.wake();
-                Err(stop)
-            }
-        }
+        // (without memory it joins when it is read again)
+        self.pending.named = Some(Member { session, id });
+        let event = self.join(id, session)?;
+        self.join_came(id, joining_of(&event))
     }
 
     // Handles what became of a stream that is to join its session.
@@ -207,14 +203,14 @@ impl Connection {
 
     // A datagram of a session came in a capsule.
     fn capsule_came(&self, id: u64, payload: Vec<u8>) -> Step<'static>
-        ensures { IsSilent result }
+        ensures silent { IsSilent result }
     {
         self.tell(id, EventKind::Datagram(Bytes::Kept(payload)))
     }
 
     // The peer asks to end a session soon.
     fn draining_came(&self, id: u64) -> Step<'static>
-        ensures { IsSilent result }
+        ensures silent { IsSilent result }
     {
         self.tell(id, EventKind::Draining)
     }
@@ -345,7 +341,7 @@ impl Connection {
             }
             HeadersKind::Interim(status) => Ok(self.tell(id, EventKind::Interim(status, list))),
             HeadersKind::Response(status) => {
-                self.response_came(id, status)?;
+                self.response_came(id, status);
                 Ok(self.tell(id, EventKind::Response(status, list)))
             }
             HeadersKind::Trailers => Ok(self.tell(id, EventKind::Trailers(list))),
@@ -368,6 +364,8 @@ impl Connection {
             Asked::Other
         };
         self.note_request(id, asked);
+        // (a stream may have waited for the session with this ID, which there is not)
+        self.wake_waiting();
         if connects {
             self.tell(id, EventKind::Connect(Tunnel::Other, list))
         } else {
@@ -391,23 +389,37 @@ impl Connection {
     }
 
     // The final response to a request that asked for no session came.
-    #[tactic(auto, using(crate::proofs::OwnLemmas::untouched_set, crate::proofs::TheirsLemmas::left_set))]
-    fn response_came(&mut self, id: u64, status: u32) -> Result<(), AllocError>
+    fn response_came(&mut self, id: u64, status: u32)
         ensures own { Untouched self.old.streams.entries self.new.streams.entries }
         ensures left { Left self.old.streams.entries self.new.streams.entries }
         ensures config { self.new.config ≡ self.old.config }
     {
-        let Some(entry) = self.streams.get_mut(&id) else {
-            return Ok(());
-        };
         if status > 199 && status < 300 {
+            self.connect(id);
+            return;
+        }
+        if self.has_tunnel(id) {
+            self.end_own(id);
+        }
+    }
+
+    // A request to a tunnel was granted.
+    #[tactic(auto, using(crate::proofs::OwnLemmas::untouched_set, crate::proofs::TheirsLemmas::left_set))]
+    fn connect(&mut self, id: u64)
+        ensures own { Untouched self.old.streams.entries self.new.streams.entries }
+        ensures left { Left self.old.streams.entries self.new.streams.entries }
+        ensures config { self.new.config ≡ self.old.config }
+    {
+        if let Some(entry) = self.streams.get_mut(&id) {
             entry.writing.connect();
-            return Ok(());
         }
-        if entry.has_tunnel {
-            return self.end_own(id);
+    }
+
+    fn has_tunnel(&self, id: u64) -> bool {
+        match self.streams.get(&id) {
+            Some(entry) => entry.has_tunnel,
+            None => false,
         }
-        Ok(())
     }
 
     // The peer's half ended.
@@ -444,7 +456,7 @@ impl Connection {
         ensures silent { IfOk result IsSilent }
         ensures config { self.new.config ≡ self.old.config }
     {
-        self.end_own(id)?;
+        self.end_own(id);
         self.end_session(id)?;
         self.closed(id, Why::Session(close))?;
         self.cancel_left(id);

@@ -1,5 +1,5 @@
 //! The end of a connection in steps.
-ghost use Rattle.std.specs.Prelude.{◌≡◌, ◌<◌, Ok, IfSome, OnOk, true};
+ghost use Rattle.std.specs.Prelude.{◌≡◌, ◌<◌, [], Ok, IfSome, OnOk, true};
 ghost use Rattle.vesgrauf.specs.State.{is_over, open_session};
 
 use crate::connection::Connection;

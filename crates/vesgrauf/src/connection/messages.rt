@@ -1,10 +1,11 @@
 //! Messages that are sent.
-ghost use Rattle.std.specs.Prelude.{◌≡◌, ◌⊎◌, false, true, is_some, is_ok, None, Some, OnOk, OnErr, IfOk, IfErr, length};
+ghost use Rattle.std.specs.Prelude.{◌≡◌, ◌⊎◌, false, true, is_some, is_ok, None, Some, OnOk, OnErr, IfOk, IfErr, length, []};
 ghost use Rattle.vesgrauf_stream.specs.Writing.{Sends};
 ghost use Rattle.vesgrauf_stream.specs.Headers.{SendsTrailers, RefusesTrailers};
-ghost use Rattle.vesgrauf.specs.Own.{Untouched, UntouchedBut};
+ghost use Rattle.vesgrauf.specs.Own.{entry_at, Untouched, UntouchedBut};
 ghost use Rattle.vesgrauf.specs.Theirs.{Left};
-ghost use Rattle.vesgrauf.specs.State.{stream_at, Changes, IsFor, IsStill, IsStillBut, IsRefused, SaysOrWaits, StaysFor, IsWhy, IsWhyOf, RefusesBytes, RefusesEnd, FinishesUnless, was_finished, was_told_full, is_over, open_session};
+ghost use Rattle.vesgrauf.specs.State.{stream_at, Changes, IsFor, IsStill, IsStillBut, IsRefused, SaysOrWaits, StaysFor, IsWhy, IsWhyOf, RefusesBytes, RefusesEnd, FinishesUnless, was_finished, was_told_full, is_over, open_session, knows_of, may_wait};
+ghost use Rattle.vesgrauf.specs.declared.output.StreamKind.TheVariants as kinds;
 ghost use Rattle.vesgrauf.specs.declared.refused.Refused.TheVariants as refused;
 
 use crate::connection::{Connection, Stop};
@@ -12,7 +13,6 @@ use crate::entry::{Entry, Peer, SHARED, Told};
 use crate::output::StreamKind;
 use crate::refused::{NotSent, Refused};
 use std::alloc::AllocError;
-use vesgrauf_stream::error::NotSent as Kept;
 use vesgrauf_stream::reading::Reading;
 use vesgrauf_stream::writing::Writing;
 use wtp_connection::connection::Known;
@@ -37,6 +37,7 @@ impl Connection {
     /// support it; and `Memory`.
     pub fn request(&mut self, list: &FieldList, fin: bool) -> Result<u64, Refused>
         ensures id { IfOk result (λ id. id ≡ self.old.ids.bidirectional) }
+        ensures room { IfOk result (λ id. may_wait self.old kinds.Bidirectional ≡ true) }
         ensures own { IfOk result (λ id. UntouchedBut id self.old.streams.entries self.new.streams.entries) }
     {
         if self.ended.is_some() {
@@ -57,12 +58,21 @@ impl Connection {
         self.reserve()?;
         self.choose_policy();
         self.open_request(id, asked, list, fin)?;
-        self.queue_due();
         self.ids.take(StreamKind::Bidirectional);
+        self.queue_due();
+        self.count_session(asked);
+        Ok(id)
+    }
+
+    // Counts a session, if it is one that is asked for.
+    fn count_session(&mut self, asked: Asked)
+        ensures streams { self.new.streams ≡ self.old.streams }
+        ensures ids { self.new.ids ≡ self.old.ids }
+        ensures events { self.new.events ≡ self.old.events }
+    {
         if asked == Asked::Session {
             self.sessions = self.sessions.saturating_add(1);
         }
-        Ok(id)
     }
 
     // Checks that what a request asks for is supported.
@@ -99,6 +109,8 @@ impl Connection {
         fin: bool,
     ) -> Result<(), Refused>
         ensures own { OnOk result (UntouchedBut id self.old.streams.entries self.new.streams.entries) }
+        ensures known { OnOk result (knows_of (entry_at self.new.streams.entries id) ≡ true) }
+        ensures events { self.new.events ≡ self.old.events }
         ensures ids { self.new.ids ≡ self.old.ids }
     {
         let session = session_id(id)?;
@@ -120,7 +132,7 @@ impl Connection {
         if asked == Asked::Session || asked == Asked::Connect {
             entry.priority = SHARED;
         }
-        place.or_insert(entry);
+        place.insert_entry(entry);
         Ok(())
     }
 
@@ -163,19 +175,36 @@ impl Connection {
         ensures left { Left self.old.streams.entries self.new.streams.entries }
         ensures config { self.new.config ≡ self.old.config }
     {
-        let session = session_id(id);
+        let result = match session_id(id) {
+            Ok(session) => self.respond_half(id, session, list, fin),
+            Err(_) => Err(Refused::NoStream),
+        };
+        self.end_send(id);
+        result
+    }
+
+    // Queues the HEADERS of a response, and maybe the end, on the own half of a stream.
+    #[tactic(auto, using(crate::proofs::TheirsLemmas::left_set, std::proofs::lemmas::Map::Steps::set_value_same))]
+    fn respond_half(
+        &mut self,
+        id: u64,
+        session: SessionId,
+        list: &FieldList,
+        fin: bool,
+    ) -> Result<(), Refused>
+        ensures kept { OnErr result (IsStill self.old self.new) }
+        ensures own { UntouchedBut id self.old.streams.entries self.new.streams.entries }
+        ensures left { Left self.old.streams.entries self.new.streams.entries }
+        ensures config { self.new.config ≡ self.old.config }
+    {
         let allows = self.allows();
         let Some(entry) = self.streams.get_mut(&id) else {
             return Err(Refused::NoStream);
         };
-        let result = match session {
-            Ok(session) => entry
-                .writing
-                .respond(&mut self.tools, session, allows, list, fin),
-            Err(_) => Err(Kept::None),
-        };
-        self.end_send(id);
-        Ok(result?)
+        let sent = entry
+            .writing
+            .respond(&mut self.tools, session, allows, list, fin);
+        Ok(sent?)
     }
 
     // A response was sent: what follows for its stream, and for a session.

@@ -1,9 +1,9 @@
 //! Streams that are opened.
-ghost use Rattle.std.specs.Prelude.{◌≡◌, ◌⊎◌, [], true, false, MatchBool, OnOk, OnErr, IfOk, IfErr};
+ghost use Rattle.std.specs.Prelude.{◌≡◌, ◌⊎◌, [], true, false, Some, MatchBool, OnOk, OnErr, IfOk, IfErr};
 ghost use Rattle.wtp_frames.specs.declared.endpoint.Side.TheVariants as side;
 ghost use Rattle.vesgrauf.specs.declared.refused.Refused.TheVariants as refused;
 ghost use Rattle.vesgrauf.specs.State.{open_session, room_for, may_wait, IsStill, IsRefused};
-ghost use Rattle.vesgrauf.specs.Own.{Sends, own_of, Untouched, UntouchedBut};
+ghost use Rattle.vesgrauf.specs.Own.{Sends, own_of, entry_at, Untouched, UntouchedBut};
 ghost use Rattle.vesgrauf.specs.Theirs.{Left, Accepts, Unread, content_of, theirs_of};
 ghost use Rattle.wtp_webtransport.specs.Events.{told_of};
 ghost use Rattle.vesgrauf.specs.Ids.{next_own, opens};
@@ -71,6 +71,9 @@ impl Connection {
         ensures config { self.new.config ≡ self.old.config }
     {
         let next = self.ids.next_of_peer(id);
+        if next >= 1 << 62 {
+            return Err(internal());
+        }
         if self.ids.was(next) {
             return Err(internal());
         }
@@ -87,6 +90,7 @@ impl Connection {
         ensures config { self.new.config ≡ self.old.config }
         ensures ids { self.new.ids ≡ self.old.ids }
         ensures streams { self.new.streams ≡ self.old.streams }
+        ensures events { self.new.events ≡ self.old.events }
     {
         let stream = self.shared.accept(id);
         let writing = half_beside_peer(self.alloc, self.config.queue(), id);
@@ -107,10 +111,22 @@ impl Connection {
         if matches!(known, Known::Open) {
             self.members.insert(Member { session, id })?;
         }
+        self.forget_named(id);
         let Some(entry) = self.streams.get_mut(&id) else {
             return Ok(Said::More);
         };
         Ok(entry.reading.join_session(&mut self.shared, known))
+    }
+
+    // A stream that named its session is not to join it any more.
+    fn forget_named(&mut self, id: u64)
+        ensures still { IsStill self.old self.new }
+    {
+        if let Some(named) = self.pending.named {
+            if named.id == id {
+                self.pending.named = None;
+            }
+        }
     }
 
     // A stream of the peer joined its session.
@@ -140,6 +156,7 @@ impl Connection {
     pub fn open_stream(&mut self, session: u64, kind: StreamKind) -> Result<u64, Refused>
         ensures refused { IfErr result (λ e. IsRefused e self.old self.new) }
         ensures id { IfOk result (λ id. id ≡ next_own self.old.ids kind) }
+        ensures room { IfOk result (λ id. may_wait self.old kind ≡ true) }
         ensures own { IfOk result (λ id. UntouchedBut id self.old.streams.entries self.new.streams.entries) }
     {
         self.check_session(session)?;
@@ -220,12 +237,19 @@ impl Connection {
     // Adds an own stream of a session.
     fn add_member(&mut self, session: u64, id: u64, entry: Entry) -> Result<(), AllocError>
         ensures own { OnOk result (UntouchedBut id self.old.streams.entries self.new.streams.entries) }
+        ensures here { OnOk result (entry_at self.new.streams.entries id ≡ Some entry) }
+        ensures same { OnErr result (self.new.streams.entries ≡ self.old.streams.entries) }
+        ensures events { self.new.events ≡ self.old.events }
         ensures ids { self.new.ids ≡ self.old.ids }
     {
-        let place = self.streams.entry(id)?;
         self.members.insert(Member { session, id })?;
-        place.or_insert(entry);
-        Ok(())
+        match self.streams.insert(id, entry) {
+            Ok(_) => Ok(()),
+            Err(_) => {
+                self.members.remove(&Member { session, id });
+                Err(AllocError)
+            }
+        }
     }
 
     // Checks that a session is open.
@@ -267,18 +291,40 @@ impl Connection {
             return Err(Refused::NotAsked);
         }
         self.reserve()?;
+        self.note_opened(id)?;
+        let kind = StreamKind::of(id);
+        self.count_opened(kind);
+        Ok(self.tell_openable(kind)?)
+    }
+
+    // QUIC has opened the next stream of a kind.
+    fn count_opened(&mut self, kind: StreamKind)
+        ensures own { Untouched self.old.streams.entries self.new.streams.entries }
+        ensures left { Left self.old.streams.entries self.new.streams.entries }
+        ensures config { self.new.config ≡ self.old.config }
+    {
+        self.ids.was_opened(kind);
+    }
+
+    // QUIC has opened an own stream.
+    fn note_opened(&mut self, id: u64) -> Result<(), AllocError>
+        ensures own { Untouched self.old.streams.entries self.new.streams.entries }
+        ensures left { Left self.old.streams.entries self.new.streams.entries }
+        ensures config { self.new.config ≡ self.old.config }
+    {
         if self.control.is(id) {
             self.control.is_opened = true;
-        } else if self.decoder.is(id) {
-            self.decoder.is_opened = true;
-        } else if self.encoder.is(id) {
-            self.encoder.is_opened = true;
-        } else {
-            self.opened_message(id)?;
+            return Ok(());
         }
-        let kind = StreamKind::of(id);
-        self.ids.was_opened(kind);
-        Ok(self.tell_openable(kind)?)
+        if self.decoder.is(id) {
+            self.decoder.is_opened = true;
+            return Ok(());
+        }
+        if self.encoder.is(id) {
+            self.encoder.is_opened = true;
+            return Ok(());
+        }
+        self.opened_message(id)
     }
 
     // QUIC has opened an own stream that is not critical.

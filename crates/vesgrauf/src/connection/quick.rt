@@ -1,5 +1,6 @@
-//! What is read at once: a piece of content, where nothing else is due.
-ghost use Rattle.std.specs.Prelude.{◌≡◌, true, false, Ok, None, IfOk};
+//! What is read at once, where nothing else is due.
+ghost use Rattle.std.specs.Prelude.{◌≡◌, true, false, [], Ok, None, IfOk, OnOk};
+ghost use Rattle.vesgrauf.specs.Progress.{IsSettled, IsQuiet, IsStill};
 ghost use Rattle.vesgrauf.specs.State.{is_over};
 ghost use Rattle.vesgrauf.specs.Own.{Untouched};
 ghost use Rattle.vesgrauf.specs.Theirs.{ReadsOn, Passes, Tells, TellsAll, told_in, told_if, told_by, content_if, content_in, content_found};
@@ -9,36 +10,52 @@ ghost use Rattle.vesgrauf.specs.declared.config.OnMalformed.TheVariants as chose
 
 use crate::connection::{Connection, Step, Stop, internal};
 use crate::event::Event;
-use crate::input::Input;
+use crate::input::{Input, Report};
 use std::alloc::AllocError;
 use vesgrauf_stream::bytes::{Bytes, Chunk};
 use vesgrauf_stream::heard::Heard;
 use vesgrauf_stream::reading::Found;
 
 impl Connection {
-    // Returns whether nothing is due before an input.
+    // Returns whether nothing is due before an input. (Few branches: it is asked at each call.)
+    #[inline(always)]
     pub(super) fn is_quiet(&self) -> bool
-        ensures { result ≡ true → is_over self.now ≡ false }
+        ensures lasts { result ≡ true → is_over self.now ≡ false }
+        ensures quiet { result ≡ true → IsQuiet self.now }
     {
         self.events.is_empty()
             && self.ended.is_none()
             && self.pending.resumed.is_none()
             && !self.pending.begins_table
+            && self.pending.named.is_none()
+            && self.pending.unplaced.is_none()
             && self.datagrams.opened.is_empty()
             && self.told.is_empty()
             && self.tools.instructions.is_empty()
     }
 
+    // Returns whether nothing is due, and nothing came.
+    #[inline(always)]
+    #[tactic(auto, using(crate::proofs::ProgressLemmas::quiet_settled))]
+    pub(super) fn has_nothing_due(&self, input: &Input<'_>) -> bool
+        ensures lasts { result ≡ true → is_over self.now ≡ false }
+        ensures settled { result ≡ true → IsSettled self.now input.now }
+    {
+        matches!(input.report, Report::Nothing) && self.is_quiet() && self.is_still()
+    }
+
     // Returns whether nothing is due where there is no input.
-    pub(super) fn is_still(&self) -> bool {
+    #[inline(always)]
+    fn is_still(&self) -> bool
+        ensures { result ≡ true → IsStill self.now }
+    {
         !self.pending.is_woken
             && !self.pending.has_room
             && self.pending.unprocessed.is_none()
             && !self.is_leaving
     }
 
-    // Returns the next event of bytes of a stream, as `next_by_steps` does, where nothing is due before them. A piece of
-    // content is read at once, with one look-up.
+    // Returns the next event of bytes of a stream, as `next_by_steps` does, where nothing is due before them.
     pub(super) fn read_at_once<'a>(
         &mut self,
         id: u64,
@@ -50,6 +67,7 @@ impl Connection {
             → IfOk result (λ e. TellsAll self.old.ids (told_by e)
             self.old.streams.entries input.old self.new.streams.entries input.new) }
         ensures config { self.new.config ≡ self.old.config }
+        ensures settled { result ≡ Ok None → IsSettled self.new input.new }
     {
         if input.chunk.is_last() {
             return self.next_by_steps(input);
@@ -72,6 +90,7 @@ impl Connection {
             → IfOk result (λ e. TellsAll self.old.ids (told_by e)
             self.old.streams.entries input.old self.new.streams.entries input.new) }
         ensures config { self.new.config ≡ self.old.config }
+        ensures settled { result ≡ Ok None → IsSettled self.new input.new }
     {
         match self.step_at_once(id, input) {
             Ok(None) => self.next_by_steps(input),

@@ -9,6 +9,7 @@ ghost use Rattle.vesgrauf.specs.declared.config.OnMalformed.TheVariants as chose
 use crate::connection::failing::EXCESSIVE_LOAD;
 use crate::connection::{Connection, Step, Stop, internal};
 use crate::entry::Peer;
+use crate::event::Why;
 use crate::input::{Input, Report};
 use crate::output::Output;
 use std::alloc::AllocError;
@@ -216,7 +217,7 @@ impl Connection {
     }
 
     // Returns what is heard next on a stream: nothing yet, if more of its bytes are to be looked at.
-    #[tactic(auto, using(crate::proofs::ReadsLemmas::reads_left, crate::proofs::ReadsLemmas::left_reads))]
+    #[tactic(auto, using(crate::proofs::ReadsLemmas::reads_left, crate::proofs::ReadsLemmas::left_reads, crate::proofs::OwnLemmas::untouched_set))]
     fn read<'a>(&mut self, id: u64, chunk: &mut Chunk<'a>) -> Result<Option<Heard<'a>>, Stop>
         ensures own { Untouched self.old.streams.entries self.new.streams.entries }
         ensures reads { IfOk result (λ heard. ReadsOn id (content_by heard) self.old.streams.entries chunk.old
@@ -432,7 +433,7 @@ impl Connection {
 }
 
 // Returns how many bytes are kept of all streams, where those of one were so many before.
-fn counted(held: usize, before: usize, after: usize) -> usize {
+pub(super) fn counted(held: usize, before: usize, after: usize) -> usize {
     held.saturating_sub(before).saturating_add(after)
 }
 

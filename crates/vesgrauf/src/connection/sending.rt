@@ -1,6 +1,9 @@
 //! What QUIC is to send and to do.
-ghost use Rattle.std.specs.Prelude.{◌≡◌, false, true, None, IfErr, IfSome, OnOk, OnErr};
-ghost use Rattle.vesgrauf.specs.State.{next_output, IsStill, IsRefused, ShowsNext, view_of, blocked_at, blocked_in, is_over, is_own};
+ghost use Rattle.std.specs.Prelude.{◌≡◌, ◌⊎◌, false, true, None, IfErr, IfSome, OnOk, OnErr, []};
+ghost use Rattle.vesgrauf.specs.State.{next_output, IsStill, IsRefused, ShowsNext, view_of, blocked_at, blocked_in, is_over, is_own, Of, stream_at};
+ghost use Rattle.vesgrauf.specs.Progress.{IsSent, NoneIsReady};
+ghost use Rattle.vesgrauf.specs.Streams.{IsNotDue, ShowsOwn};
+ghost use Rattle.vesgrauf_queue.specs.State.{Shows};
 ghost use Rattle.vesgrauf.specs.declared.refused.Refused.TheVariants as refused;
 ghost use Rattle.vesgrauf.specs.Own.{own_at, Took, TookAlone, Untouched, UntouchedBut};
 ghost use Rattle.vesgrauf.specs.Theirs.{Left, IsSilent};
@@ -66,36 +69,70 @@ impl Connection {
 
     /// Returns the bytes that QUIC is to send next, or `None` if no stream may be sent from, or all are blocked. They are
     /// the same until they are sent or the stream is blocked, and no call is made that sends or receives.
+    #[tactic(auto, using(crate::proofs::ProgressLemmas::all_sent))]
     pub fn next_send(&self) -> Option<Next<'_>>
         ensures next { IfSome result (λ n. ShowsNext self.now n.id n.bytes.now n.more.now n.fin) }
         ensures over { is_over self.now ≡ true → result ≡ None }
         ensures blocked { self.now.is_blocked ≡ true → result ≡ None }
+        ensures none { result ≡ None → is_over self.now ≡ false → self.now.is_blocked ≡ false → IsSent self.now }
     {
         if self.ended.is_some() || self.is_blocked {
             return None;
         }
-        if self.control.is_due() {
-            return self.control.next();
+        match self.control.next_due() {
+            Some(next) => Some(next),
+            None => self.next_of_qpack(),
         }
-        if self.decoder.is_due() {
-            return self.decoder.next();
+    }
+
+    // Returns the bytes that QUIC is to send next of a stream that is not the control stream.
+    fn next_of_qpack(&self) -> Option<Next<'_>>
+        ensures next { IfSome result (λ n. ShowsOwn self.now.decoder n.id n.bytes.now n.more.now n.fin
+            ⊎ (ShowsOwn self.now.encoder n.id n.bytes.now n.more.now n.fin
+            ⊎ Of (stream_at self.now n.id) (λ e. Shows e.writing.queue n.bytes.now n.more.now n.fin))) }
+        ensures decoder { result ≡ None → IsNotDue self.now.decoder }
+        ensures encoder { result ≡ None → IsNotDue self.now.encoder }
+        ensures none { result ≡ None → NoneIsReady self.now }
+    {
+        match self.decoder.next_due() {
+            Some(next) => Some(next),
+            None => self.next_of_encoder(),
         }
-        if self.encoder.is_due() {
-            return self.encoder.next();
+    }
+
+    // Returns the bytes that QUIC is to send next of the own encoder stream, or of a stream that is not critical.
+    fn next_of_encoder(&self) -> Option<Next<'_>>
+        ensures next { IfSome result (λ n. ShowsOwn self.now.encoder n.id n.bytes.now n.more.now n.fin
+            ⊎ Of (stream_at self.now n.id) (λ e. Shows e.writing.queue n.bytes.now n.more.now n.fin)) }
+        ensures encoder { result ≡ None → IsNotDue self.now.encoder }
+        ensures none { result ≡ None → NoneIsReady self.now }
+    {
+        match self.encoder.next_due() {
+            Some(next) => Some(next),
+            None => self.next_of_streams(),
         }
-        let Some(id) = self.ready.next() else {
-            return None;
-        };
-        let Some(entry) = self.streams.get(&id) else {
-            return None;
-        };
-        match entry.writing.next() {
-            Some(next) => Some(Next {
-                id,
-                bytes: next.bytes,
-                more: next.more,
-                fin: next.fin,
-            }),
+    }
+
+    // Returns the bytes that QUIC is to send next of a stream that is not critical.
+    #[tactic(auto, using(crate::proofs::ProgressLemmas::turn_gone, crate::proofs::ProgressLemmas::turn_idle))]
+    fn next_of_streams(&self) -> Option<Next<'_>>
+        ensures next { IfSome result (λ n. Of (stream_at self.now n.id)
+            (λ e. Shows e.writing.queue n.bytes.now n.more.now n.fin)) }
+        ensures none { result ≡ None → NoneIsReady self.now }
+    {
+        match self.ready.next() {
+            Some(id) => match self.streams.get(&id) {
+                Some(entry) => match entry.writing.next() {
+                    Some(next) => Some(Next {
+                        id,
+                        bytes: next.bytes,
+                        more: next.more,
+                        fin: next.fin,
+                    }),
+                    None => None,
+                },
+                None => None,
+            },
             None => None,
         }
     }
@@ -142,6 +179,8 @@ impl Connection {
     // QUIC took bytes of a stream: there may be room again, or nothing is to be done for its own half any more.
     fn after_sent(&mut self, id: u64, is_done: bool) -> Result<(), AllocError>
         ensures own { Untouched self.old.streams.entries self.new.streams.entries }
+        ensures left { Left self.old.streams.entries self.new.streams.entries }
+        ensures config { self.new.config ≡ self.old.config }
     {
         self.note_room(id);
         if is_done {
@@ -200,10 +239,7 @@ impl Connection {
                 break;
             };
             self.pending.cursor = id.saturating_add(1);
-            let Some(entry) = self.streams.get_mut(&id) else {
-                continue;
-            };
-            if entry.writing.take_writable() {
+            if self.take_writable(id) {
                 self.full.remove(&id);
                 return self.tell(id, EventKind::Writable);
             }
@@ -211,6 +247,19 @@ impl Connection {
         self.pending.has_room = false;
         self.pending.cursor = 0;
         Step::More
+    }
+
+    // Returns whether a `Writable` is owed on a stream, which is then told.
+    #[tactic(auto, using(crate::proofs::OwnLemmas::untouched_set, crate::proofs::TheirsLemmas::left_set))]
+    fn take_writable(&mut self, id: u64) -> bool
+        ensures own { Untouched self.old.streams.entries self.new.streams.entries }
+        ensures left { Left self.old.streams.entries self.new.streams.entries }
+        ensures config { self.new.config ≡ self.old.config }
+    {
+        match self.streams.get_mut(&id) {
+            Some(entry) => entry.writing.take_writable(),
+            None => false,
+        }
     }
 
     fn next_full(&self) -> Option<u64> {
@@ -247,8 +296,8 @@ impl Connection {
             return Ok(());
         };
         entry.writing.acked(spares, len)?;
-        self.note_room(id);
-        Ok(self.after_end(id)?)
+        let is_done = entry.writing.is_done();
+        Ok(self.after_sent(id, is_done)?)
     }
 
     /// QUIC takes nothing of this for now, or does again. What is said of one scope does not change another: a stream

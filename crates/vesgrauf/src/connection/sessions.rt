@@ -1,5 +1,5 @@
 //! Sessions.
-ghost use Rattle.std.specs.Prelude.{◌≡◌, ◌⊎◌, true, Ok, Err, OnOk, OnErr, IfErr, IfOk};
+ghost use Rattle.std.specs.Prelude.{◌≡◌, ◌⊎◌, true, Ok, Err, OnOk, OnErr, IfErr, IfOk, []};
 ghost use Rattle.vesgrauf_stream.specs.Writing.{Drains};
 ghost use Rattle.vesgrauf.specs.State.{IsStill, IsRefused, Changes, IsWhy, RefusesDrain, is_over, open_session};
 ghost use Rattle.vesgrauf.specs.Own.{Untouched, UntouchedBut};
@@ -88,7 +88,7 @@ impl Connection {
         ensures silent { IfOk result IsSilent }
         ensures config { self.new.config ≡ self.old.config }
     {
-        self.end_own(id)?;
+        self.end_own(id);
         self.end_session(id)?;
         Ok(self.tell(id, EventKind::Response(status, list)))
     }
@@ -202,8 +202,9 @@ impl Connection {
     }
 
     /// Closes a session, with a code and a reason of the application. Its streams are reset and stopped
-    /// (draft-ietf-webtrans-http3-02, section 5). The code and the reason are sent on the session's own stream, so they need
-    /// the peer's windows: [`abort`](Self::abort) of that stream ends the session without them.
+    /// (draft-ietf-webtrans-http3-02, section 5), and its datagrams that wait are dropped (RFC 9297, section 2.1). The code
+    /// and the reason are sent on the session's own stream, so they need the peer's windows: [`abort`](Self::abort) of that
+    /// stream ends the session without them.
     ///
     /// # Errors
     ///
@@ -228,18 +229,30 @@ impl Connection {
         ensures config { self.new.config ≡ self.old.config }
     {
         self.begin_send(session)?;
+        let result = self.close_half(session, code, reason);
+        self.end_send(session);
+        result
+    }
+
+    // Ends the own half of a session, by its end or by a code and a reason.
+    #[tactic(auto, using(crate::proofs::TheirsLemmas::left_set, std::proofs::lemmas::Map::Steps::set_value_same))]
+    fn close_half(&mut self, session: u64, code: u32, reason: &str) -> Result<(), Refused>
+        ensures kept { OnErr result (IsStill self.old self.new) }
+        ensures own { UntouchedBut session self.old.streams.entries self.new.streams.entries }
+        ensures left { Left self.old.streams.entries self.new.streams.entries }
+        ensures config { self.new.config ≡ self.old.config }
+    {
         let Some(entry) = self.streams.get_mut(&session) else {
             return Err(Refused::NotOpen);
         };
-        let result = if code == 0 && reason.is_empty() {
-            entry.writing.finish()
-        } else {
+        if code == 0 && reason.is_empty() {
+            return Ok(entry.writing.finish()?);
+        }
+        Ok(
             entry
                 .writing
-                .close(self.alloc, &mut self.tools.spares, code, reason)
-        };
-        self.end_send(session);
-        Ok(result?)
+                .close(self.alloc, &mut self.tools.spares, code, reason)?,
+        )
     }
 
     // The end of a session is queued: what follows for its streams.

@@ -1,6 +1,7 @@
 //! Steps, until one of them tells an event.
-ghost use Rattle.std.specs.Prelude.{◌≡◌, [], Ok, true, false, IfOk, IfSome};
+ghost use Rattle.std.specs.Prelude.{◌≡◌, [], Ok, None, true, false, IfOk, IfSome, OnOk};
 ghost use Rattle.vesgrauf.specs.Own.{Untouched};
+ghost use Rattle.vesgrauf.specs.Progress.{IsSettled};
 ghost use Rattle.vesgrauf.specs.State.{is_over, is_last, go_on, IsAfterEnd, IsSomeOk, IsTold};
 ghost use Rattle.vesgrauf.specs.Theirs.{Accepts, Tells, TellsAll, told_by, told_in, piece_of};
 ghost use Rattle.vesgrauf.specs.declared.config.OnMalformed.TheVariants as chosen;
@@ -24,6 +25,7 @@ impl Connection {
         ensures told { is_over self.new ≡ false → IfOk result (λ e. TellsAll self.old.ids (told_by e)
             self.old.streams.entries input.old self.new.streams.entries input.new) }
         ensures config { self.new.config ≡ self.old.config }
+        ensures settled { result ≡ Ok None → IsSettled self.new input.new }
     {
         if let Some(event) = self.first_queued() {
             return Ok(Some(event));
@@ -43,6 +45,7 @@ impl Connection {
         ensures told { is_over self.new ≡ false → IfOk result (λ e. TellsAll self.old.ids (told_by e)
             self.old.streams.entries input.old self.new.streams.entries input.new) }
         ensures config { self.new.config ≡ self.old.config }
+        ensures settled { result ≡ Ok None → IsSettled self.new input.new }
     {
         self.accept_or_fail(input.report)?;
         self.take_steps(input)
@@ -83,6 +86,7 @@ impl Connection {
         ensures told { is_over self.new ≡ false → IfOk result (λ e. Tells (told_by e)
             self.old.streams.entries input.old self.new.streams.entries input.new) }
         ensures config { self.new.config ≡ self.old.config }
+        ensures settled { result ≡ Ok None → IsSettled self.new input.new }
     {
         for _step in 0..u64::MAX {
             if let Some(event) = self.first_queued() {
@@ -90,11 +94,15 @@ impl Connection {
             }
             match self.try_step(input)? {
                 Step::Told(event) => return Ok(Some(event)),
-                Step::Nothing => return Ok(None),
+                Step::Nothing => {
+                    self.check_settled(input)?;
+                    return Ok(None);
+                }
                 Step::More => {}
             }
         }
-        Ok(None)
+        // (after so many steps the call is to be made again)
+        Err(AllocError)
     }
 
     // Takes a step, before the end of the connection or after it.
@@ -143,15 +151,17 @@ impl Connection {
         ensures ids { self.new.ids ≡ self.old.ids }
         ensures config { self.new.config ≡ self.old.config }
     {
-        match self.events.pop_front() {
-            Some(event) if !is_content(&event) => Some(self.numbered(event)),
-            _ => None,
+        let event = self.events.pop_front()?;
+        if is_content(&event) {
+            return None;
         }
+        Some(self.numbered(event))
     }
 
     // Returns an event that was queued, with the number that the program has given its stream since.
     fn numbered<'a>(&self, event: Event<'a>) -> Event<'a>
-        ensures { result.kind ≡ event.entry.kind }
+        ensures kind { result.kind ≡ event.entry.kind }
+        ensures stream { result.stream ≡ event.entry.stream }
     {
         let mut event = event;
         if let (EventKind::Stopped(_), Some(entry)) = (
@@ -166,7 +176,7 @@ impl Connection {
 
 // Returns whether an event tells content.
 fn is_content(event: &Event<'_>) -> bool
-    ensures { result ≡ false → piece_of event.now.kind ≡ [] }
+    ensures silent { result ≡ false → piece_of event.now.kind ≡ [] }
 {
     matches!(event.kind, EventKind::Data(_))
 }

@@ -1,5 +1,5 @@
 //! Streams that wait.
-ghost use Rattle.std.specs.Prelude.{◌≡◌};
+ghost use Rattle.std.specs.Prelude.{◌≡◌, []};
 ghost use Rattle.vesgrauf.specs.State.{IsStill, known_in};
 ghost use Rattle.vesgrauf.specs.Own.{Untouched};
 ghost use Rattle.vesgrauf.specs.Theirs.{Left, IsSilent};
@@ -11,8 +11,13 @@ use wtp_frames::endpoint::Side;
 use wtp_webtransport::event::{Event as Said, Waits};
 
 impl Connection {
-    // Returns the session that a stream waits for.
+    // Returns the session that a stream waits for, or is to join.
     pub(super) fn session_awaited(&self, id: u64) -> Option<u64> {
+        if let Some(named) = self.pending.named {
+            if named.id == id {
+                return Some(named.session);
+            }
+        }
         match self.streams.get(&id) {
             Some(entry) => match entry.reading.waits() {
                 Some(Waits::Session(session)) => Some(session),
@@ -120,6 +125,15 @@ impl Connection {
     {
         self.pending.is_woken = true;
         self.pending.cursor = 0;
+    }
+
+    // Looks at them once more, if there are any.
+    pub(super) fn wake_waiting(&mut self)
+        ensures { IsStill self.old self.new }
+    {
+        if !self.waiting.is_empty() {
+            self.wake();
+        }
     }
 
     // Returns what is known of a session. At a client any of its requests is over that has no stream left, and was that of

@@ -1,4 +1,4 @@
-use Rattle.std.proofs.Common.{◌≡◌}
+use Rattle.std.proofs.Common.{◌≡◌, []}
 use Rattle.vesgrauf.specs.Own.{Untouched}
 use Rattle.vesgrauf.specs.Theirs.{Accepts}
 use Rattle.vesgrauf.proofs.connection.Connection.accept.Given as goal

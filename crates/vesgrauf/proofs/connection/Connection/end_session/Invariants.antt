@@ -1,4 +1,4 @@
-use Rattle.std.proofs.Common.{◌≡◌}
+use Rattle.std.proofs.Common.{◌≡◌, []}
 use Rattle.vesgrauf.specs.Own.{Untouched}
 use Rattle.vesgrauf.specs.Theirs.{Left}
 use Rattle.vesgrauf.proofs.connection.Connection.end_session.Given as goal

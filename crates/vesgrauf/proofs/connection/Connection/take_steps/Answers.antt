@@ -1,8 +1,8 @@
-use Rattle.std.proofs.Common.{◌≡◌, ◌∙◌, ap, Some, None}
+use Rattle.std.proofs.Common.{◌≡◌, ◌∙◌, [], ap, Some, None}
 use Rattle.std.specs.Prelude.{is_some}
 use Rattle.vesgrauf.specs.State.{is_over}
 use Rattle.vesgrauf.specs.Theirs.{told_by}
-use Rattle.vesgrauf.proofs.StepLemmas.{steps_on, own_on, popped_after}
+use Rattle.vesgrauf.proofs.StepLemmas.{steps_on, own_on, not_before, popped_after}
 use Rattle.vesgrauf.proofs.connection.Connection.take_steps.Goals as goal
 
 pub returns-in-Told-clause-told : goal.returns-in-Told-clause-told
