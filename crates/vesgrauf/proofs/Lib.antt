@@ -1,6 +1,14 @@
+pub mod CallLemmas
+pub mod GoesLemmas
+pub mod GoesSteps
+pub mod IdLemmas
 pub mod OwnLemmas
+pub mod PieceLemmas
 pub mod ToldLemmas
 pub mod ReadsLemmas
+pub mod BoundLemmas
+pub mod ProgressLemmas
 pub mod RunLemmas
 pub mod StepLemmas
 pub mod TheirsLemmas
+pub mod ToldLemmas

@@ -88,7 +88,7 @@ set_here : (es : List (ℕ × Entry)) (id : ℕ) (e f : Entry) → lookup (is_at
     → lookup (is_at (nat_cmp id)) (set_value (is_at (nat_cmp id)) es f) ≡ Some f
 set_here es id e f h = set_look es id id e f h ∙ ap (λ b. cond b (Some f) (lookup (is_at (nat_cmp id)) es)) (own_key id)
 
-set_there : (es : List (ℕ × Entry)) (id k : ℕ) (e f : Entry) → lookup (is_at (nat_cmp id)) es ≡ Some e
+pub set_there : (es : List (ℕ × Entry)) (id k : ℕ) (e f : Entry) → lookup (is_at (nat_cmp id)) es ≡ Some e
     → is_at (nat_cmp id) k ≡ false
     → lookup (is_at (nat_cmp k)) (set_value (is_at (nat_cmp id)) es f) ≡ lookup (is_at (nat_cmp k)) es
 set_there es id k e f h t =

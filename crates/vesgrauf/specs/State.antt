@@ -35,7 +35,7 @@ use Rattle.wtp_connection.specs.declared.connection.Known.TheVariants as known
 use Rattle.wtp_connection.specs.Streams.{known_alone}
 use Rattle.wtp_webtransport.specs.Sessions.{known_of}
 use Rattle.vesgrauf_queue.specs.State.{is_full, Shows}
-use Rattle.vesgrauf.specs.Streams.{IsDue, is_known, is_it, Says, shown_session}
+use Rattle.vesgrauf.specs.Streams.{ShowsOwn, is_known, is_it, Says, shown_session}
 use Rattle.vesgrauf.specs.Codes.{number_of}
 use Rattle.vesgrauf.specs.declared.code.StreamCode.{StreamCode}
 use Rattle.vesgrauf.specs.declared.code.StreamCode.TheVariants as codes
@@ -255,10 +255,6 @@ output_by None c = output_unless (is_over c) c
 
 abbrev pub next_output : Connection → Option Output
 next_output c = output_by c.closes c
-
--- this critical stream is due, and these are its next bytes
-abbrev pub ShowsOwn : Critical → (id : ℕ) → (bytes more : List ℕ) → (fin : Bool) → Type 0
-ShowsOwn c id bytes more fin = IsDue c × (c.id ≡ Some id) × Shows c.queue bytes more fin
 
 -- What QUIC is to send next: the next bytes of an own critical stream that is due, or of another stream.
 abbrev pub ShowsNext : Connection → (id : ℕ) → (bytes more : List ℕ) → (fin : Bool) → Type 0
@@ -514,9 +510,9 @@ RefusesGoaway false g id e =
 abbrev pub IsHead : Entry → List ℕ → Type 0
 IsHead e bytes = (session_at e.writing ≡ Ok tt) × (bytes ≡ head_by datagram_head (message_at e.writing))
 
--- There is room for as many datagrams as wait.
+-- Fewer datagrams wait than may, of which there is at least one.
 abbrev pub has_place : Connection → Bool
-has_place c = nat_lt (length c.datagrams.queue.items) c.config.datagram_queue
+has_place c = nat_lt (length c.datagrams.queue.items) (max c.config.datagram_queue 1)
 
 -- the first bytes of a datagram of this session are these
 abbrev pub HeadOf : Connection → ℕ → List ℕ → Type 0

@@ -1,6 +1,6 @@
 -- The streams of a connection.
 use Rattle.std.specs.Prelude.{◌≡◌, ℕ, ◌==◌, ◌&&◌, ◌⊎◌, not, if◌then◌else◌, Bool, true, false, List, [], Option, None, Some}
-use Rattle.vesgrauf_queue.specs.State.{State, IsIdle}
+use Rattle.vesgrauf_queue.specs.State.{State, IsIdle, Shows}
 use Rattle.vesgrauf_queue.specs.Steps.{Does, Queues}
 use Rattle.vesgrauf.specs.declared.critical.Critical.{Critical}
 use Rattle.vesgrauf_ready.specs.declared.rank.Kind.{Kind}
@@ -84,6 +84,14 @@ is_it id (Some own) = own == id
 -- QUIC has opened it and takes bytes of it, and there are some
 abbrev pub IsDue : Critical → Type 0
 IsDue c = (c.is_opened ≡ true) × (c.is_blocked ≡ false) × ¬ (IsIdle c.queue)
+
+-- it has no ID, or is not due
+abbrev pub IsNotDue : Critical → Type 0
+IsNotDue c = (c.id ≡ None) ⊎ ¬ (IsDue c)
+
+-- it is due, and these are its next bytes
+abbrev pub ShowsOwn : Critical → (id : ℕ) → (bytes more : List ℕ) → (fin : Bool) → Type 0
+ShowsOwn c id bytes more fin = IsDue c × (c.id ≡ Some id) × Shows c.queue bytes more fin
 
 -- these bytes are queued: no bytes are none
 pub record Says (bytes : List ℕ) (c d : Critical) : Type 0 where

@@ -64,7 +64,7 @@ pub struct Config {
     pub max_instructions: u64,
     /// What a server does with a request that is malformed, or of which a field section is too large.
     pub on_malformed: OnMalformed,
-    /// How many datagrams may be queued.
+    /// How many datagrams may be queued. At least 1.
     pub datagram_queue: usize,
     /// Whether the bytes that QUIC took stay in place until they are acknowledged: for a QUIC library that keeps
     /// pointers.

@@ -12,10 +12,12 @@ mod looking;
 mod malformed;
 mod messages;
 mod opening;
+mod pieces;
 mod quick;
 mod reading;
 mod sending;
 mod sessions;
+mod settled;
 mod steps;
 mod table;
 mod waiting;
@@ -115,6 +117,10 @@ struct Pending {
     owes_unidirectional: bool,
     /// Whether the own encoder is to begin.
     begins_table: bool,
+    /// A stream that named its session, and is to join it: it did not yet if memory was refused.
+    named: Option<Member>,
+    /// A stream that is to have its place in the order of sending, for which memory was refused.
+    unplaced: Option<u64>,
     /// The first request that a server does not process, if streams are to be told so.
     unprocessed: Option<u64>,
 }
@@ -130,6 +136,8 @@ impl Pending {
             owes_bidirectional: false,
             owes_unidirectional: false,
             begins_table: false,
+            named: None,
+            unplaced: None,
             unprocessed: None,
         }
     }
@@ -154,6 +162,7 @@ impl DatagramQueue {
     ghost use Rattle.std.specs.Prelude.{◌≡◌, []};
 
     // None is queued, and they may be as large as QUIC's.
+    #[tactic(auto, using(crate::proofs::GoesSteps::sound_begun))]
     fn new(alloc: Global) -> Self
         ensures { result.queue.items ≡ [] }
     {
@@ -221,14 +230,17 @@ enum Step<'a> {
 }
 
 impl Connection {
+    ghost use Rattle.vesgrauf.specs.Bounds.{InstructionsFit, IsBounded};
+    ghost use Rattle.vesgrauf.specs.Progress.{IsSettled};
     ghost use Rattle.vesgrauf.specs.Own.{Untouched};
     ghost use Rattle.vesgrauf.specs.State.{IsAfterEnd, IsSomeOk, is_last, is_over};
+    ghost use Rattle.vesgrauf.specs.Told.{GoesOn, said_by, told_by_call, Sound};
     ghost use Rattle.vesgrauf_queue.specs.State.{waiting};
     ghost use Rattle.vesgrauf.specs.Config.{announced};
     ghost use Rattle.wtp_sending.specs.Control.{settings_bytes};
     ghost use Rattle.vesgrauf.specs.Theirs.{Left, Tells, TellsAll, IsSilent, told_in, told_by};
     ghost use Rattle.vesgrauf.specs.declared.config.OnMalformed.TheVariants as chosen;
-    ghost use Rattle.std.specs.Prelude.{◌≡◌, if◌then◌else◌, true, false, Some, None, [], IfOk};
+    ghost use Rattle.std.specs.Prelude.{◌≡◌, if◌then◌else◌, true, false, Ok, Some, None, [], IfOk, OnOk};
 
     /// Creates a connection. Its first outputs open its control stream and, with a dynamic table, its decoder stream.
     ///
@@ -239,8 +251,10 @@ impl Connection {
         ensures of_config { IfOk result (λ c. c.config ≡ config) }
         ensures streams { IfOk result (λ c. c.streams.entries ≡ []) }
         ensures outputs { IfOk result (λ c. (c.events.items ≡ []) × (c.outputs.items ≡ [])) }
+        ensures bounded { IfOk result (λ c. IsBounded c) }
         ensures datagrams { IfOk result (λ c. c.datagrams.queue.items ≡ []) }
         ensures open { IfOk result (λ c. (c.sessions ≡ 0) × (c.ended ≡ None) × (c.closes ≡ None)) }
+        ensures sound { IfOk result (λ c. Sound c.streams.entries c.ids) }
         ensures starts { IfOk result (λ c. waiting c.control.queue ≡ settings_bytes (announced config)) }
     {
         let queue = config.queue();
@@ -289,6 +303,8 @@ impl Connection {
     /// # Errors
     ///
     /// If memory is refused: nothing is lost, the input stays as it is, and the call is to be made again.
+    #[tactic(auto, using(crate::proofs::ProgressLemmas::quiet_settled))]
+    #[inline(always)]
     pub fn next_event<'a>(&mut self, input: &mut Input<'a>) -> Result<Option<Event<'a>>, AllocError>
         ensures last { IsAfterEnd self.old → IsSomeOk result (λ e. is_last e.kind ≡ true) }
         ensures over { IsAfterEnd self.old → IsAfterEnd self.new }
@@ -297,41 +313,41 @@ impl Connection {
         ensures told { is_over self.new ≡ false → IfOk result (λ e. TellsAll self.old.ids (told_by e)
             self.old.streams.entries input.old self.new.streams.entries input.new) }
         ensures config { self.new.config ≡ self.old.config }
+        ensures goes { GoesOn (told_by_call result) self.old self.new }
+        ensures settled { result ≡ Ok None → IsSettled self.new input.new }
+        ensures bounded { IsBounded self.old → is_over self.new ≡ false → OnOk result (IsBounded self.new) }
     {
-        if self.is_quiet() {
-            match input.report {
-                Report::Nothing => {
-                    if self.is_still() {
-                        return Ok(None);
-                    }
-                }
-                Report::Stream(id) => return self.read_at_once(id, input),
-                _ => {}
-            }
+        if self.has_nothing_due(input) {
+            return Ok(None);
         }
-        self.next_by_steps(input)
+        self.next_due(input)
     }
 
     // Takes one step.
-    #[tactic(auto, using(crate::proofs::StepLemmas::left_then_tells))]
+    #[tactic(auto, using(crate::proofs::StepLemmas::left_then_tells, crate::proofs::BoundLemmas::left_bounds))]
     fn step<'a>(&mut self, input: &mut Input<'a>) -> Result<Step<'a>, Stop>
         ensures own { self.old.config.on_malformed ≡ chosen.Reset
             → Untouched self.old.streams.entries self.new.streams.entries }
         ensures tells { IfOk result (λ s. Tells (told_in s)
             self.old.streams.entries input.old self.new.streams.entries input.new) }
         ensures config { self.new.config ≡ self.old.config }
+        ensures goes { GoesOn (said_by result) self.old self.new }
+        ensures bounded { IsBounded self.old → OnOk result (IsBounded self.new) }
     {
         self.prepare()?;
         self.step_due(input)
     }
 
     // Takes a step for a session that opened, or another.
+    #[tactic(auto, using(crate::proofs::BoundLemmas::left_bounds))]
     fn step_due<'a>(&mut self, input: &mut Input<'a>) -> Result<Step<'a>, Stop>
         ensures own { self.old.config.on_malformed ≡ chosen.Reset
             → Untouched self.old.streams.entries self.new.streams.entries }
         ensures tells { IfOk result (λ s. Tells (told_in s)
             self.old.streams.entries input.old self.new.streams.entries input.new) }
         ensures config { self.new.config ≡ self.old.config }
+        ensures goes { GoesOn (said_by result) self.old self.new }
+        ensures bounded { IsBounded self.old → OnOk result (IsBounded self.new) }
     {
         if let Some(session) = self.session_opened() {
             return Ok(self.step_opened(session));
@@ -346,6 +362,8 @@ impl Connection {
         ensures tells { IfOk result (λ s. Tells (told_in s)
             self.old.streams.entries input.old self.new.streams.entries input.new) }
         ensures config { self.new.config ≡ self.old.config }
+        ensures goes { GoesOn (said_by result) self.old self.new }
+        ensures bounded { IsBounded self.old → OnOk result (IsBounded self.new) }
     {
         if let Some(id) = self.pending.resumed {
             return self.read_kept(id);
@@ -354,13 +372,15 @@ impl Connection {
     }
 
     // Takes a step by what the input reports.
-    #[tactic(auto, using(crate::proofs::ReadsLemmas::reported_tells))]
+    #[tactic(auto, using(crate::proofs::ReadsLemmas::reported_tells, crate::proofs::BoundLemmas::left_bounds))]
     fn take_input<'a>(&mut self, input: &mut Input<'a>) -> Result<Step<'a>, Stop>
         ensures own { self.old.config.on_malformed ≡ chosen.Reset
             → Untouched self.old.streams.entries self.new.streams.entries }
         ensures tells { IfOk result (λ s. Tells (told_in s)
             self.old.streams.entries input.old self.new.streams.entries input.new) }
         ensures config { self.new.config ≡ self.old.config }
+        ensures goes { GoesOn (said_by result) self.old self.new }
+        ensures bounded { IsBounded self.old → OnOk result (IsBounded self.new) }
     {
         match input.report {
             Report::Nothing => self.step_alone(),
@@ -383,6 +403,7 @@ impl Connection {
         ensures own { Untouched self.old.streams.entries self.new.streams.entries }
         ensures left { Left self.old.streams.entries self.new.streams.entries }
         ensures config { self.new.config ≡ self.old.config }
+        ensures goes { GoesOn [] self.old self.new }
     {
         match report {
             Report::Nothing | Report::Stream(_) | Report::Datagram => Ok(()),
@@ -411,8 +432,11 @@ impl Connection {
         ensures own { Untouched self.old.streams.entries self.new.streams.entries }
         ensures left { Left self.old.streams.entries self.new.streams.entries }
         ensures config { self.new.config ≡ self.old.config }
+        ensures goes { GoesOn [] self.old self.new }
+        ensures instructions { OnOk result (InstructionsFit self.new) }
     {
         self.reserve_all()?;
+        self.place_due()?;
         self.shared.increment(&mut self.told)?;
         self.begin_table()?;
         self.queue_instructions()?;
@@ -425,6 +449,7 @@ impl Connection {
         ensures left { Left self.old.streams.entries self.new.streams.entries }
         ensures silent { IfOk result IsSilent }
         ensures config { self.new.config ≡ self.old.config }
+        ensures goes { GoesOn (said_by result) self.old self.new }
     {
         if let Some(first) = self.pending.unprocessed {
             return self.leave_unprocessed(first);

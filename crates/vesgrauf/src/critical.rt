@@ -22,12 +22,12 @@ pub(crate) struct Critical {
 }
 
 impl Critical {
-    ghost use Rattle.std.specs.Prelude.{◌≡◌, ◌⊎◌, ◌==◌, ◌++◌, ◌↔◌, [], take, drop, length, not, false, true, IsTrue, None, Some, option_map, MatchOption, OnOk, OnErr, IfErr};
+    ghost use Rattle.std.specs.Prelude.{◌≡◌, ◌⊎◌, ◌==◌, ◌++◌, ◌↔◌, [], take, drop, length, not, false, true, IsTrue, None, Some, option_map, MatchOption, IfSome, OnOk, OnErr, IfErr};
     ghost use Rattle.vesgrauf_queue.specs.State.{IsIdle, Shows};
     ghost use Rattle.vesgrauf_queue.specs.Steps.{IsNew, Does, Puts, ends_with};
     ghost use Rattle.vesgrauf_queue.specs.State.{waiting, IsWhyNot};
     ghost use Rattle.vesgrauf_queue.specs.Pieces.{shown};
-    ghost use Rattle.vesgrauf.specs.Streams.{IsDue, Says, is_it};
+    ghost use Rattle.vesgrauf.specs.Streams.{IsDue, IsNotDue, ShowsOwn, Says, is_it};
 
     // Creates a stream that has no ID yet.
     pub(crate) fn new(alloc: Global, config: QueueConfig) -> Self
@@ -102,6 +102,17 @@ impl Critical {
             }),
             None => None,
         }
+    }
+
+    // Returns what QUIC is to take next, if it may take bytes and there are some.
+    pub(crate) fn next_due(&self) -> Option<Next<'_>>
+        ensures next { IfSome result (λ n. ShowsOwn self.now n.id n.bytes.now n.more.now n.fin) }
+        ensures none { result ≡ None → IsNotDue self.now }
+    {
+        if !self.is_due() {
+            return None;
+        }
+        self.next()
     }
 
     // QUIC took bytes.

@@ -34,7 +34,7 @@ pub(crate) enum Report {
 }
 
 impl<'a> Input<'a> {
-    ghost use Rattle.std.specs.Prelude.{◌≡◌, false, []};
+    ghost use Rattle.std.specs.Prelude.{◌≡◌, true, false, []};
     ghost use Rattle.vesgrauf.specs.declared.input.Report.TheVariants.{Nothing, Stream, Reset, Stopped, Closed, Datagram, DatagramLimit, ConnectionClosed};
     ghost use Rattle.vesgrauf.specs.Inputs.{Brings, IsSameOrRead};
 
@@ -120,6 +120,13 @@ impl<'a> Input<'a> {
         self.credit
     }
 
+    // Returns whether all of it is taken in.
+    pub(crate) fn is_taken(&self) -> bool
+        ensures { result ≡ true → self.now.report ≡ Nothing }
+    {
+        matches!(self.report, Report::Nothing)
+    }
+
     // Counts what was taken in of `len` bytes.
     pub(crate) fn count(&mut self, len: usize)
         ensures report { self.new.report ≡ self.old.report }
@@ -128,6 +135,15 @@ impl<'a> Input<'a> {
         self.credit = self
             .credit
             .saturating_add(len.saturating_sub(self.chunk.len()));
+    }
+
+    // Counts so many bytes that were taken in.
+    #[inline(always)]
+    pub(crate) fn count_read(&mut self, read: usize)
+        ensures report { self.new.report ≡ self.old.report }
+        ensures chunk { self.new.chunk ≡ self.old.chunk }
+    {
+        self.credit = self.credit.saturating_add(read);
     }
 
     // Nothing is left to report if all bytes are taken in, if that may be said, and if the stream does not end after them.

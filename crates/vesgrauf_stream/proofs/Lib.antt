@@ -1,4 +1,5 @@
 pub mod ReadingLemmas
+pub mod PieceLemmas
 pub mod TurnLemmas
 pub mod WritingLemmas
 pub mod HeadersLemmas

@@ -8,7 +8,7 @@ use Rattle.wtp_webtransport.specs.declared.connection.Connection.{Connection}
 use Rattle.wtp_webtransport.specs.declared.stream.Stream.{Stream}
 use Rattle.wtp_webtransport.specs.Events.{Told}
 use Rattle.wtp_webtransport.specs.Events as told
-use Rattle.wtp_webtransport.specs.Places.{EndsAt, IsPlaced}
+use Rattle.wtp_webtransport.specs.Places.{IsPlaced}
 use Rattle.wtp_webtransport.specs.Receiving.{Outcome}
 use Rattle.wtp_webtransport.specs.Tables.{Call}
 use Rattle.wtp_webtransport.proofs.PlaceLemmas.{called_placed, called_within}

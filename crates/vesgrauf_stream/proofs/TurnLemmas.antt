@@ -1,5 +1,5 @@
 -- What is not read of a stream after its turns.
-use Rattle.std.proofs.Common.{◌≡◌, ℕ, ◌+◌, ◌≤◌, ◌||◌, Bool, true, false, List, [], ◌∷◌, ◌++◌, length, drop, refl, sym, ap, ◌∙◌, subst, append_assoc, append-nil, le_trans}
+use Rattle.std.proofs.Common.{◌≡◌, ℕ, ◌+◌, ◌≤◌, ◌||◌, Bool, true, false, List, [], ◌∷◌, ◌++◌, length, drop, refl, sym, ap, ◌∙◌, append_assoc, append-nil, le_trans}
 use Rattle.std.proofs.lemmas.List.{drop-append-le, drop-drop}
 use Rattle.vesgrauf_stream.specs.Turns.{Turn, Comes, Reads, Unread, Leads, bytes_in, read_in, end_in}
 

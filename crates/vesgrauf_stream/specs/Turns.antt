@@ -1,5 +1,5 @@
 -- What happens to the bytes of one stream: they come, and they are read.
-use Rattle.std.specs.Prelude.{◌≡◌, ℕ, ◌+◌, ◌≤◌, ◌==◌, ◌&&◌, ◌||◌, Bool, false, List, [], ◌∷◌, ◌++◌, length, take, drop}
+use Rattle.std.specs.Prelude.{◌≡◌, ℕ, ◌+◌, ◌≤◌, ◌||◌, Bool, false, List, [], ◌∷◌, ◌++◌, length, drop}
 
 -- Bytes come, and whether the stream ends after them; or so many of those that were not read are looked at, and so
 -- many of these are read.

@@ -2,6 +2,7 @@
 ghost use Rattle.std.specs.Prelude.{◌≡◌, ◌≤◌, vec_len, take, drop};
 
 mod calls;
+mod pieces;
 
 use crate::bytes::Chunk;
 use crate::heard::{Heard, heard_in, kept_from};
@@ -51,7 +52,7 @@ pub(crate) struct Looked {
 }
 
 impl Reading {
-    ghost use Rattle.std.specs.Prelude.{◌≡◌, ◌≤◌, ◌-◌, ◌==◌, ◌&&◌, [], ◌++◌, false, length, min, take, drop, vec_len, vec_capacity, IfOk, OnOk, OnErr};
+    ghost use Rattle.std.specs.Prelude.{◌≡◌, ◌≤◌, ◌+◌, ◌-◌, ◌==◌, ◌&&◌, [], ◌++◌, false, length, min, take, drop, vec_len, vec_capacity, IfOk, OnOk, OnErr};
     ghost use Rattle.vesgrauf_stream.specs.Reading.{kept_of, unread, is_ended, Hears, LooksAt, IsUntouched, Keeps};
 
     /// Creates the state of a stream of which nothing came.
@@ -95,6 +96,7 @@ impl Reading {
             shared.new self.new input.new) }
         ensures err { OnErr result (IsUntouched shared.old self.old input.old shared.new self.new input.new) }
         ensures fields { fields.new ≡ fields.old }
+        ensures shrinks { length (kept_of self.new) ≤ length (kept_of self.old) }
     {
         if self.len() == 0 {
             return Ok(self.next_of_input(shared, fields, input));
@@ -113,6 +115,7 @@ impl Reading {
         ensures heard { Hears fields.old.limit shared.old self.old input.old result
             shared.new self.new input.new }
         ensures fields { fields.new ≡ fields.old }
+        ensures shrinks { length (kept_of self.new) ≤ length (kept_of self.old) }
     {
         let fin = self.ends_with(input);
         let received = shared.receive(&mut self.stream, input.bytes, fin, fields);
@@ -132,6 +135,7 @@ impl Reading {
             shared.new self.new input.new) }
         ensures err { OnErr result (IsUntouched shared.old self.old input.old shared.new self.new input.new) }
         ensures fields { fields.new ≡ fields.old }
+        ensures shrinks { length (kept_of self.new) ≤ length (kept_of self.old) }
     {
         let all = self.len() + input.len();
         let len = self.reach.min(all);
@@ -204,6 +208,7 @@ impl Reading {
         ensures stream { self.new.stream ≡ self.old.stream }
         ensures ended { self.new.ended ≡ self.old.ended }
         ensures reach { self.new.reach ≡ self.old.reach }
+        ensures shrinks { length (kept_of self.new) + joined ≤ length (kept_of self.old) }
     {
         let len = self.buffer.len() - joined;
         self.buffer.truncate(len);

@@ -1,13 +1,15 @@
 //! Streams that are closed, and sessions that end.
-ghost use Rattle.std.specs.Prelude.{◌≡◌, false, OnOk};
+ghost use Rattle.std.specs.Prelude.{◌≡◌, [], false, OnOk};
 ghost use Rattle.vesgrauf.specs.State.{stream_at, knows_of};
 ghost use Rattle.vesgrauf.specs.Own.{Untouched};
 ghost use Rattle.vesgrauf.specs.Theirs.{Left, Gone, theirs_at};
+ghost use Rattle.vesgrauf.specs.Told.{GoesOn};
 
 use crate::code::StreamCode;
-use crate::connection::{Connection, Step};
-use crate::entry::{Member, Peer, Told};
-use crate::event::{EventKind, Why};
+use crate::connection::Connection;
+use crate::connection::reading::counted;
+use crate::entry::{Entry, Member, Peer, Told};
+use crate::event::{Event, EventKind, Why};
 use crate::output::Output;
 use std::alloc::AllocError;
 use wtp_connection::connection::Known;
@@ -22,6 +24,7 @@ impl Connection {
         ensures own { Untouched self.old.streams.entries self.new.streams.entries }
         ensures left { Left self.old.streams.entries self.new.streams.entries }
         ensures config { self.new.config ≡ self.old.config }
+        ensures goes { GoesOn [] self.old self.new }
     {
         let code = code.number().into_inner();
         self.reset_own(id, code)?;
@@ -34,38 +37,86 @@ impl Connection {
     }
 
     // Resets the own half.
-    #[tactic(auto, using(crate::proofs::OwnLemmas::untouched_set, crate::proofs::TheirsLemmas::left_set))]
     pub(super) fn reset_own(&mut self, id: u64, code: u64) -> Result<(), AllocError>
         ensures own { Untouched self.old.streams.entries self.new.streams.entries }
         ensures left { Left self.old.streams.entries self.new.streams.entries }
         ensures config { self.new.config ≡ self.old.config }
+        ensures goes { GoesOn [] self.old self.new }
+    {
+        if self.reset_half(id, code)? {
+            self.wake();
+        }
+        Ok(())
+    }
+
+    // Resets the own half, unless nothing is to be done for it. Returns whether something was.
+    fn reset_half(&mut self, id: u64, code: u64) -> Result<bool, AllocError>
+        ensures own { Untouched self.old.streams.entries self.new.streams.entries }
+        ensures left { Left self.old.streams.entries self.new.streams.entries }
+        ensures config { self.new.config ≡ self.old.config }
+        ensures goes { GoesOn [] self.old self.new }
+    {
+        if !self.has_own(id) {
+            return Ok(false);
+        }
+        self.reset_writing(id, code)?;
+        self.leave_order(id);
+        Ok(true)
+    }
+
+    // Returns whether something is to be done for the own half of a stream.
+    fn has_own(&self, id: u64) -> bool {
+        match self.streams.get(&id) {
+            Some(entry) => !entry.writing.is_done(),
+            None => false,
+        }
+    }
+
+    // Resets the own half, if it may be.
+    #[tactic(auto, using(crate::proofs::OwnLemmas::untouched_set, crate::proofs::TheirsLemmas::left_set, crate::proofs::GoesLemmas::goes_set, std::proofs::lemmas::Map::Steps::set_value_same))]
+    fn reset_writing(&mut self, id: u64, code: u64) -> Result<(), AllocError>
+        ensures own { Untouched self.old.streams.entries self.new.streams.entries }
+        ensures left { Left self.old.streams.entries self.new.streams.entries }
+        ensures config { self.new.config ≡ self.old.config }
+        ensures goes { GoesOn [] self.old self.new }
     {
         let Some(entry) = self.streams.get_mut(&id) else {
             return Ok(());
         };
-        if entry.writing.is_done() {
+        if !entry.writing.reset(&mut self.tools.spares, code, 0) {
             return Ok(());
         }
-        if entry.writing.reset(&mut self.tools.spares, code, 0) {
-            entry.is_reset = true;
-            if entry.is_opened {
-                self.outputs.push_back(Output::Reset(id, code))?;
-            }
+        entry.is_reset = true;
+        if entry.is_opened {
+            self.outputs.push_back(Output::Reset(id, code))?;
         }
+        Ok(())
+    }
+
+    // Nothing more is sent on the own half of a stream. A request on it is refused.
+    #[tactic(auto, using(crate::proofs::OwnLemmas::untouched_set, crate::proofs::TheirsLemmas::left_set, crate::proofs::GoesLemmas::goes_set))]
+    fn leave_order(&mut self, id: u64)
+        ensures own { Untouched self.old.streams.entries self.new.streams.entries }
+        ensures left { Left self.old.streams.entries self.new.streams.entries }
+        ensures config { self.new.config ≡ self.old.config }
+        ensures goes { GoesOn [] self.old self.new }
+    {
+        let Some(entry) = self.streams.get_mut(&id) else {
+            return;
+        };
         self.ready.remove(id, entry.kind());
         self.full.remove(&id);
         entry.reading.answer(REFUSED);
-        self.wake();
-        Ok(())
     }
 
     // Resets an own half of which QUIC took the end, unless all of it is acknowledged: QUIC may still send some of it (RFC
     // 9000, section 3.5). Returns whether it is reset.
-    #[tactic(auto, using(crate::proofs::OwnLemmas::untouched_set, crate::proofs::TheirsLemmas::left_set))]
+    #[tactic(auto, using(crate::proofs::OwnLemmas::untouched_set, crate::proofs::TheirsLemmas::left_set, crate::proofs::GoesLemmas::goes_set, std::proofs::lemmas::Map::Steps::set_value_same))]
     pub(super) fn reset_ended(&mut self, id: u64, code: u64) -> Result<bool, AllocError>
         ensures own { Untouched self.old.streams.entries self.new.streams.entries }
         ensures left { Left self.old.streams.entries self.new.streams.entries }
         ensures config { self.new.config ≡ self.old.config }
+        ensures goes { GoesOn [] self.old self.new }
     {
         let Some(entry) = self.streams.get_mut(&id) else {
             return Ok(false);
@@ -83,11 +134,12 @@ impl Connection {
     }
 
     // Asks the peer to stop its half, which is read no further.
-    #[tactic(auto, using(crate::proofs::OwnLemmas::untouched_set, crate::proofs::TheirsLemmas::left_set))]
+    #[tactic(auto, using(crate::proofs::OwnLemmas::untouched_set, crate::proofs::TheirsLemmas::left_set, crate::proofs::GoesLemmas::goes_set))]
     pub(super) fn stop_peer(&mut self, id: u64, code: u64) -> Result<(), AllocError>
         ensures own { Untouched self.old.streams.entries self.new.streams.entries }
         ensures left { Left self.old.streams.entries self.new.streams.entries }
         ensures config { self.new.config ≡ self.old.config }
+        ensures goes { GoesOn [] self.old self.new }
     {
         let Some(entry) = self.streams.get_mut(&id) else {
             return Ok(());
@@ -95,7 +147,7 @@ impl Connection {
         if entry.peer == Peer::Over {
             return Ok(());
         }
-        if entry.peer == Peer::Reads && !entry.is_ended {
+        if !entry.is_ended {
             if entry.is_opened {
                 self.outputs.push_back(Output::StopSending(id, code))?;
             } else {
@@ -111,17 +163,19 @@ impl Connection {
         ensures own { Untouched self.old.streams.entries self.new.streams.entries }
         ensures left { Left self.old.streams.entries self.new.streams.entries }
         ensures config { self.new.config ≡ self.old.config }
+        ensures goes { GoesOn [] self.old self.new }
     {
         self.outputs.retain(|output| !is_stop(output, id));
     }
 
     // Reads the peer's half no further, whose end is still to come.
-    #[tactic(auto, using(crate::proofs::OwnLemmas::untouched_set, crate::proofs::TheirsLemmas::left_set))]
+    #[tactic(auto, using(crate::proofs::OwnLemmas::untouched_set, crate::proofs::TheirsLemmas::left_set, crate::proofs::GoesLemmas::goes_set))]
     pub(super) fn drop_peer(&mut self, id: u64) -> Result<(), AllocError>
         ensures own { Untouched self.old.streams.entries self.new.streams.entries }
         ensures left { Left self.old.streams.entries self.new.streams.entries }
         ensures gone { OnOk result (theirs_at self.new.streams.entries id ≡ Gone) }
         ensures config { self.new.config ≡ self.old.config }
+        ensures goes { GoesOn [] self.old self.new }
     {
         let Some(entry) = self.streams.get_mut(&id) else {
             return Ok(());
@@ -135,12 +189,13 @@ impl Connection {
     }
 
     // The peer's half is read no further: it is over, or what comes is dropped until its end. What is kept of it is dropped.
-    #[tactic(auto, using(crate::proofs::OwnLemmas::untouched_set, crate::proofs::TheirsLemmas::left_set, crate::proofs::ReadsLemmas::gone_set))]
+    #[tactic(auto, using(crate::proofs::OwnLemmas::untouched_set, crate::proofs::TheirsLemmas::left_set, crate::proofs::ReadsLemmas::gone_set, crate::proofs::GoesLemmas::goes_set, crate::proofs::GoesSteps::goes_set_then,))]
     fn leave_peer(&mut self, id: u64, is_over: bool) -> Result<(), AllocError>
         ensures own { Untouched self.old.streams.entries self.new.streams.entries }
         ensures left { Left self.old.streams.entries self.new.streams.entries }
         ensures gone { theirs_at self.new.streams.entries id ≡ Gone }
         ensures config { self.new.config ≡ self.old.config }
+        ensures goes { GoesOn [] self.old self.new }
     {
         self.waiting.remove(&id);
         let Some(entry) = self.streams.get_mut(&id) else {
@@ -151,48 +206,72 @@ impl Connection {
         entry.reading.drop_kept();
         let owed = entry.withheld;
         entry.withheld = 0;
-        self.count_held(before, 0);
+        self.held = counted(self.held, before, 0);
         self.credit(id, owed)
     }
 
     // The peer's half is over.
-    #[tactic(auto, using(crate::proofs::OwnLemmas::untouched_set, crate::proofs::TheirsLemmas::left_set, crate::proofs::ReadsLemmas::gone_left))]
+    #[tactic(auto, using(crate::proofs::OwnLemmas::untouched_set, crate::proofs::TheirsLemmas::left_set, crate::proofs::ReadsLemmas::gone_left, crate::proofs::GoesLemmas::goes_set))]
     pub(super) fn peer_is_over(&mut self, id: u64) -> Result<(), AllocError>
         ensures own { Untouched self.old.streams.entries self.new.streams.entries }
         ensures left { Left self.old.streams.entries self.new.streams.entries }
         ensures gone { OnOk result (theirs_at self.new.streams.entries id ≡ Gone) }
         ensures config { self.new.config ≡ self.old.config }
+        ensures goes { GoesOn [] self.old self.new }
     {
         self.leave_peer(id, true)?;
         self.remove_if_done(id)
     }
 
-    // Ends the own half after what is queued, if a message may end there.
-    #[tactic(auto, using(crate::proofs::OwnLemmas::untouched_set, crate::proofs::TheirsLemmas::left_set))]
-    pub(super) fn end_own(&mut self, id: u64) -> Result<(), AllocError>
+    // Ends the own half after what is queued, if a message may end there. Without memory it has its place in the order of
+    // sending from the next step on.
+    #[tactic(auto, using(crate::proofs::OwnLemmas::untouched_set, crate::proofs::TheirsLemmas::left_set, crate::proofs::GoesLemmas::goes_set))]
+    pub(super) fn end_own(&mut self, id: u64)
         ensures own { Untouched self.old.streams.entries self.new.streams.entries }
         ensures left { Left self.old.streams.entries self.new.streams.entries }
         ensures config { self.new.config ≡ self.old.config }
+        ensures goes { GoesOn [] self.old self.new }
     {
         let Some(entry) = self.streams.get_mut(&id) else {
-            return Ok(());
+            return;
         };
         if entry.may_send() && !entry.writing.is_ended() {
-            self.ready.insert(id, entry.kind())?;
+            if self.ready.insert(id, entry.kind()).is_err() {
+                self.pending.unplaced = Some(id);
+            }
         }
         if entry.writing.finish().is_err() && !entry.has_more() {
             self.ready.remove(id, entry.kind());
         }
+    }
+
+    // Gives a stream its place in the order of sending for which memory was refused.
+    pub(super) fn place_due(&mut self) -> Result<(), AllocError>
+        ensures own { Untouched self.old.streams.entries self.new.streams.entries }
+        ensures left { Left self.old.streams.entries self.new.streams.entries }
+        ensures config { self.new.config ≡ self.old.config }
+        ensures goes { GoesOn [] self.old self.new }
+    {
+        let Some(id) = self.pending.unplaced else {
+            return Ok(());
+        };
+        if let Some(entry) = self.streams.get(&id) {
+            if entry.may_send() && entry.has_more() {
+                self.ready.insert(id, entry.kind())?;
+            }
+        }
+        self.pending.unplaced = None;
         Ok(())
     }
 
     // Ends the session whose own stream this is, if it is one: its streams are closed (draft-ietf-webtrans-http3-02,
     // section 5).
-    #[tactic(auto, using(crate::proofs::OwnLemmas::untouched_set, crate::proofs::TheirsLemmas::left_set))]
+    #[tactic(auto, using(crate::proofs::OwnLemmas::untouched_set, crate::proofs::TheirsLemmas::left_set, crate::proofs::GoesLemmas::goes_set))]
     pub(super) fn end_session(&mut self, session: u64) -> Result<(), AllocError>
         ensures own { Untouched self.old.streams.entries self.new.streams.entries }
         ensures left { Left self.old.streams.entries self.new.streams.entries }
         ensures config { self.new.config ≡ self.old.config }
+        ensures goes { GoesOn [] self.old self.new }
     {
         let Some(entry) = self.streams.get_mut(&session) else {
             return Ok(());
@@ -201,6 +280,7 @@ impl Connection {
             entry.has_session = false;
             self.sessions = self.sessions.saturating_sub(1);
             self.datagrams.opened.push_back(session)?;
+            self.drop_datagrams(session)?;
         }
         for _stream in 0..self.members.len() {
             let Some(member) = self.first_member(session) else {
@@ -228,6 +308,7 @@ impl Connection {
         ensures own { Untouched self.old.streams.entries self.new.streams.entries }
         ensures left { Left self.old.streams.entries self.new.streams.entries }
         ensures config { self.new.config ≡ self.old.config }
+        ensures goes { GoesOn [] self.old self.new }
     {
         let gone = Code::WEBTRANSPORT_SESSION_GONE;
         let code = gone.number().into_inner();
@@ -265,19 +346,28 @@ impl Connection {
     }
 
     // Tells the program that a stream is over, if it knows of the stream.
-    #[tactic(auto, using(crate::proofs::OwnLemmas::untouched_set, crate::proofs::TheirsLemmas::left_set))]
+    #[tactic(auto, using(crate::proofs::OwnLemmas::untouched_set, crate::proofs::TheirsLemmas::left_set, crate::proofs::GoesLemmas::goes_closed, crate::proofs::GoesLemmas::goes_ended, std::proofs::lemmas::Map::Steps::set_value_same))]
     pub(super) fn closed(&mut self, id: u64, why: Why) -> Result<(), AllocError>
         ensures own { Untouched self.old.streams.entries self.new.streams.entries }
         ensures left { Left self.old.streams.entries self.new.streams.entries }
         ensures config { self.new.config ≡ self.old.config }
+        ensures goes { GoesOn [] self.old self.new }
         ensures done { OnOk result (knows_of (stream_at self.new id) ≡ false) }
     {
-        if let Step::Told(event) = self.tell(id, EventKind::Closed(why)) {
-            self.events.push_back(event)?;
-        }
-        if let Some(entry) = self.streams.get_mut(&id) {
+        let Some(entry) = self.streams.get_mut(&id) else {
+            return Ok(());
+        };
+        if !entry.is_known() {
             entry.told = Told::Over;
+            return Ok(());
         }
+        self.events.push_back(Event {
+            stream: id,
+            session: entry.session_shown(id),
+            user: entry.user,
+            kind: EventKind::Closed(why),
+        })?;
+        entry.told = Told::Over;
         Ok(())
     }
 
@@ -286,6 +376,7 @@ impl Connection {
         ensures own { Untouched self.old.streams.entries self.new.streams.entries }
         ensures left { Left self.old.streams.entries self.new.streams.entries }
         ensures config { self.new.config ≡ self.old.config }
+        ensures goes { GoesOn [] self.old self.new }
     {
         if self.has_refused(id) {
             return self.stop_refused(id);
@@ -310,6 +401,7 @@ impl Connection {
         ensures own { Untouched self.old.streams.entries self.new.streams.entries }
         ensures left { Left self.old.streams.entries self.new.streams.entries }
         ensures config { self.new.config ≡ self.old.config }
+        ensures goes { GoesOn [] self.old self.new }
     {
         let Some(entry) = self.streams.get(&id) else {
             return Ok(());
@@ -330,14 +422,26 @@ impl Connection {
     }
 
     // Forgets a stream.
+    #[tactic(auto, using(crate::proofs::GoesLemmas::goes_removed))]
     pub(super) fn remove(&mut self, id: u64)
         ensures own { Untouched self.old.streams.entries self.new.streams.entries }
         ensures left { Left self.old.streams.entries self.new.streams.entries }
         ensures config { self.new.config ≡ self.old.config }
+        ensures goes { knows_of (stream_at self.old id) ≡ false → GoesOn [] self.old self.new }
     {
         let Some(entry) = self.streams.remove(&id) else {
             return;
         };
+        self.forget(id, &entry);
+    }
+
+    // Forgets what is noted of a stream that was removed.
+    fn forget(&mut self, id: u64, entry: &Entry)
+        ensures streams { self.new.streams ≡ self.old.streams }
+        ensures ids { self.new.ids ≡ self.old.ids }
+        ensures events { self.new.events ≡ self.old.events }
+        ensures config { self.new.config ≡ self.old.config }
+    {
         if entry.is_quiet {
             self.quiet = self.quiet.saturating_sub(1);
         }

@@ -1,16 +1,18 @@
 //! The own control stream, and the end of the connection.
-ghost use Rattle.std.specs.Prelude.{◌≡◌, ◌++◌, false, Some, length, option_map, IfOk, OnOk, OnErr, IfErr};
+ghost use Rattle.std.specs.Prelude.{◌≡◌, ◌++◌, false, Some, length, option_map, IfOk, OnOk, OnErr, IfErr, []};
 ghost use Rattle.vesgrauf.specs.State.{is_over, next_output, stream_at, view_of, with_begun, EndsUnless, IsAfterEnd, IsStill, ShutsDown, RefusesGoaway, goaway_for as goaway_is};
 ghost use Rattle.vesgrauf.specs.declared.output.Output.TheVariants as output;
 ghost use Rattle.vesgrauf_queue.specs.State.{counted, waiting};
 ghost use Rattle.vesgrauf.specs.Config.{announced};
 ghost use Rattle.wtp_sending.specs.Control.{settings_bytes};
 ghost use Rattle.vesgrauf.specs.Own.{Untouched};
+ghost use Rattle.vesgrauf.specs.Progress.{IsSpent};
 ghost use Rattle.vesgrauf.specs.Theirs.{Left, IsSilent};
+ghost use Rattle.vesgrauf.specs.Told.{GoesOn, said_in};
 
 use crate::connection::{Connection, Ended, Step, Stop};
 use crate::event::{Event, EventKind};
-use crate::output::{Shutdown, Stats, StreamKind};
+use crate::output::{Shutdown, Stats};
 use crate::refused::Refused;
 use std::alloc::AllocError;
 use vesgrauf_queue::queue::Queue;
@@ -28,6 +30,7 @@ impl Connection {
         ensures others { view_of self.new ≡ with_begun self.new (view_of self.old) }
         ensures starts { OnOk result (waiting self.new.control.queue
             ≡ waiting self.old.control.queue ++ settings_bytes (announced self.old.config)) }
+        ensures goes { GoesOn [] self.old self.new }
     {
         let settings = self.settings()?;
         let mut bytes = Vec::new(self.alloc);
@@ -38,8 +41,7 @@ impl Connection {
         {
             return Err(AllocError);
         }
-        self.control.id = self.ids.next(StreamKind::Unidirectional);
-        self.ids.take(StreamKind::Unidirectional);
+        self.control.id = self.take_critical();
         if self
             .control
             .push(&mut self.tools.spares, bytes.as_slice())
@@ -90,6 +92,7 @@ impl Connection {
         ensures why { IfErr result (λ e.
             RefusesGoaway (is_over self.old) self.old.goaways (goaway_is phase self.old) e) }
         ensures kept { OnErr result (IsStill self.old self.new) }
+        ensures goes { GoesOn [] self.old self.new }
     {
         if self.ended.is_some() {
             return Err(Refused::Closed);
@@ -133,6 +136,7 @@ impl Connection {
         ensures end { EndsUnless (is_over self.old) code self.old self.new }
         ensures after { is_over self.old ≡ false → IsAfterEnd self.new }
         ensures output { is_over self.old ≡ false → next_output self.new ≡ Some (output.Close code) }
+        ensures goes { GoesOn [] self.old self.new }
     {
         self.break_off(code.number().into_inner());
     }
@@ -164,7 +168,9 @@ impl Connection {
     }
 
     // Returns whether no message and no session is left, and nothing waits to be sent.
-    pub(super) fn is_idle(&self) -> bool {
+    pub(super) fn is_idle(&self) -> bool
+        ensures { result ≡ false → ¬ (IsSpent self.now) }
+    {
         self.streams.len() <= self.quiet
             && self.control.is_idle()
             && self.decoder.is_idle()
@@ -174,11 +180,13 @@ impl Connection {
     }
 
     // Closes the connection, of which nothing is left.
+    #[tactic(auto, using(crate::proofs::GoesLemmas::goes_aside))]
     pub(super) fn shut_down<'a>(&mut self) -> Step<'a>
         ensures own { Untouched self.old.streams.entries self.new.streams.entries }
         ensures left { Left self.old.streams.entries self.new.streams.entries }
         ensures silent { IsSilent result }
         ensures config { self.new.config ≡ self.old.config }
+        ensures goes { GoesOn (said_in result) self.old self.new }
     {
         let code = Code::H3_NO_ERROR.number().into_inner();
         self.datagrams.queue.clear();

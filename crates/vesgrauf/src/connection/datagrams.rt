@@ -1,7 +1,9 @@
 //! Datagrams (RFC 9297).
 ghost use Rattle.std.specs.Prelude.{◌≡◌, ◌-◌, ◌++◌, [], Ok, Some, MatchOption, OnOk, IfOk, IfSome, OnErr, IfErr, List, ℕ, length, option_map};
 ghost use Rattle.vesgrauf.specs.State.{Adds, head, open_session, HeadOf, KeepsDatagrams, KeepsOthers, SendsDatagram};
+ghost use Rattle.vesgrauf.specs.Bounds.{DatagramsFit};
 ghost use Rattle.vesgrauf.specs.Own.{Untouched};
+ghost use Rattle.vesgrauf.specs.Told.{GoesOn, said_by, said_if};
 ghost use Rattle.vesgrauf.specs.declared.refused.Refused.TheVariants as refused;
 ghost use Rattle.vesgrauf.specs.Theirs.{Left, IsSilent, IsSilentIf};
 
@@ -16,6 +18,7 @@ use wtp_connection::connection::Known;
 use wtp_connection::connection::datagrams::DatagramFor;
 use wtp_connection::fault::Fault as StreamsFault;
 use wtp_core::error::Code;
+use wtp_core::varint::first_varint;
 use wtp_webtransport::fault::Fault;
 
 /// How many datagrams are kept whose sessions are to come.
@@ -67,6 +70,7 @@ impl Connection {
         ensures left { Left self.old.streams.entries self.new.streams.entries }
         ensures silent { IfOk result IsSilent }
         ensures config { self.new.config ≡ self.old.config }
+        ensures goes { GoesOn (said_by result) self.old self.new }
     {
         let found = match self.shared.datagram(bytes) {
             Ok(found) => found,
@@ -98,6 +102,7 @@ impl Connection {
         ensures left { Left self.old.streams.entries self.new.streams.entries }
         ensures silent { IsSilentIf result }
         ensures config { self.new.config ≡ self.old.config }
+        ensures goes { GoesOn (said_if result) self.old self.new }
     {
         let payload = self.datagrams.take_early(session)?;
         if self.is_open(session) {
@@ -125,13 +130,15 @@ impl Connection {
         ensures ok { IfOk result (λ queued. SendsDatagram queued session payload.now self.old self.new) }
         ensures others { KeepsOthers self.old self.new }
         ensures kept { OnErr result (KeepsDatagrams self.old self.new) }
+        ensures goes { GoesOn [] self.old self.new }
+        ensures fits { DatagramsFit self.old → DatagramsFit self.new }
     {
         self.check_session(session)?;
         let head = self.datagram_head(session)?;
         if head.len().saturating_add(payload.len()) > self.datagrams.limit {
             return Err(Refused::TooLarge);
         }
-        if self.datagrams.queue.len() >= self.config.datagram_queue {
+        if self.datagrams.queue.len() >= self.config.datagram_queue.max(1) {
             self.datagrams.is_owed = true;
             return Ok(false);
         }
@@ -187,20 +194,55 @@ impl Connection {
         ensures own { Untouched self.old.streams.entries self.new.streams.entries }
         ensures left { Left self.old.streams.entries self.new.streams.entries }
         ensures config { self.new.config ≡ self.old.config }
+        ensures goes { GoesOn [] self.old self.new }
     {
         self.reserve()?;
+        let left = self.datagrams.queue.len().saturating_sub(1);
+        self.tell_room(left)?;
         self.datagrams.queue.pop_front();
-        if self.ended.is_some() {
+        Ok(())
+    }
+
+    // Drops the queued datagrams of a session that is over: none is sent after the end of the own half of its stream (RFC
+    // 9297, section 2.1).
+    pub(super) fn drop_datagrams(&mut self, session: u64) -> Result<(), AllocError>
+        ensures own { Untouched self.old.streams.entries self.new.streams.entries }
+        ensures left { Left self.old.streams.entries self.new.streams.entries }
+        ensures config { self.new.config ≡ self.old.config }
+        ensures goes { GoesOn [] self.old self.new }
+    {
+        self.datagrams
+            .queue
+            .retain(|datagram| !is_of(datagram.as_slice(), session));
+        let left = self.datagrams.queue.len();
+        self.tell_room(left)
+    }
+
+    // Tells that there is room for datagrams again, of which so many are left, if that is owed.
+    #[tactic(auto, using(crate::proofs::GoesLemmas::goes_general))]
+    fn tell_room(&mut self, left: usize) -> Result<(), AllocError>
+        ensures own { Untouched self.old.streams.entries self.new.streams.entries }
+        ensures left { Left self.old.streams.entries self.new.streams.entries }
+        ensures config { self.new.config ≡ self.old.config }
+        ensures goes { GoesOn [] self.old self.new }
+    {
+        if self.ended.is_some() || !self.datagrams.is_owed {
             return Ok(());
         }
-        if self.datagrams.is_owed && self.datagrams.queue.len() <= self.config.datagram_queue / 2 {
+        if left <= self.config.datagram_queue / 2 {
+            self.events
+                .push_back(Event::of_connection(EventKind::DatagramsWritable))?;
             self.datagrams.is_owed = false;
-            let event = Event::of_connection(EventKind::DatagramsWritable);
-            if self.events.push_back(event).is_err() {
-                return Err(Refused::Memory);
-            }
         }
         Ok(())
+    }
+}
+
+// Returns whether a datagram is of this session.
+fn is_of(datagram: &[u8], session: u64) -> bool {
+    match first_varint(datagram) {
+        Some((quarter, _)) => quarter.into_inner() == session / 4,
+        None => false,
     }
 }
 

@@ -1,9 +1,11 @@
 //! Streams that the peer resets, or asks to stop.
-ghost use Rattle.std.specs.Prelude.{◌≡◌, true, false, IfOk};
+ghost use Rattle.std.specs.Prelude.{◌≡◌, true, false, IfOk, [], None, OnOk};
+ghost use Rattle.wtp_connection.specs.Budget.{code_after};
 ghost use Rattle.std.specs.List.{filter};
 ghost use Rattle.vesgrauf.specs.State.{head, go_on, is_over, is_last, IsAfterEnd, IsTold, EndsUnless, closes_stream, stream_at, knows_of};
 ghost use Rattle.vesgrauf.specs.Own.{Untouched};
 ghost use Rattle.vesgrauf.specs.Theirs.{Left, IsSilent};
+ghost use Rattle.vesgrauf.specs.Told.{GoesOn, ends, word_of, said_by, said_in};
 
 use crate::code::StreamCode;
 use crate::connection::failing::EXCESSIVE_LOAD;
@@ -22,11 +24,12 @@ use wtp_webtransport::event::Event as Said;
 
 impl Connection {
     // The peer reset a stream.
-    #[tactic(auto, using(crate::proofs::OwnLemmas::untouched_set, crate::proofs::TheirsLemmas::left_set))]
+    #[tactic(auto, using(crate::proofs::OwnLemmas::untouched_set, crate::proofs::TheirsLemmas::left_set, crate::proofs::GoesLemmas::goes_set))]
     pub(super) fn reset_came(&mut self, id: u64, code: u64) -> Result<(), Stop>
         ensures own { Untouched self.old.streams.entries self.new.streams.entries }
         ensures left { Left self.old.streams.entries self.new.streams.entries }
         ensures config { self.new.config ≡ self.old.config }
+        ensures goes { GoesOn [] self.old self.new }
     {
         match self.peer_of(id) {
             Peer::Over => return Ok(self.forget_stop(id)),
@@ -53,6 +56,7 @@ impl Connection {
         ensures own { Untouched self.old.streams.entries self.new.streams.entries }
         ensures left { Left self.old.streams.entries self.new.streams.entries }
         ensures config { self.new.config ≡ self.old.config }
+        ensures goes { GoesOn [] self.old self.new }
     {
         self.queue_event(id, EventKind::Reset(shown))?;
         self.half_ended(id, event)?;
@@ -67,6 +71,7 @@ impl Connection {
         ensures own { Untouched self.old.streams.entries self.new.streams.entries }
         ensures left { Left self.old.streams.entries self.new.streams.entries }
         ensures config { self.new.config ≡ self.old.config }
+        ensures goes { GoesOn [] self.old self.new }
     {
         let has_session = match self.streams.get(&id) {
             Some(entry) => entry.has_session,
@@ -83,6 +88,7 @@ impl Connection {
         ensures own { Untouched self.old.streams.entries self.new.streams.entries }
         ensures left { Left self.old.streams.entries self.new.streams.entries }
         ensures config { self.new.config ≡ self.old.config }
+        ensures goes { GoesOn [] self.old self.new }
     {
         let Some(entry) = self.streams.get(&id) else {
             return Ok(());
@@ -95,11 +101,12 @@ impl Connection {
     }
 
     // The peer asked to stop the own half of a stream.
-    #[tactic(auto, using(crate::proofs::OwnLemmas::untouched_set, crate::proofs::TheirsLemmas::left_set))]
+    #[tactic(auto, using(crate::proofs::OwnLemmas::untouched_set, crate::proofs::TheirsLemmas::left_set, crate::proofs::GoesLemmas::goes_set))]
     pub(super) fn stop_came(&mut self, id: u64, code: u64) -> Result<(), Stop>
         ensures own { Untouched self.old.streams.entries self.new.streams.entries }
         ensures left { Left self.old.streams.entries self.new.streams.entries }
         ensures config { self.new.config ≡ self.old.config }
+        ensures goes { GoesOn [] self.old self.new }
     {
         if let Some(own) = self.own_purpose(id) {
             return match self.shared.stopped(own) {
@@ -124,11 +131,12 @@ impl Connection {
     }
 
     // The own half of a stream is stopped. Returns what the stream says, or `None` if there is none.
-    #[tactic(auto, using(crate::proofs::OwnLemmas::untouched_set, crate::proofs::TheirsLemmas::left_set))]
+    #[tactic(auto, using(crate::proofs::OwnLemmas::untouched_set, crate::proofs::TheirsLemmas::left_set, crate::proofs::GoesLemmas::goes_set))]
     fn note_stop(&mut self, id: u64, code: u64) -> Option<Said<'static>>
         ensures own { Untouched self.old.streams.entries self.new.streams.entries }
         ensures left { Left self.old.streams.entries self.new.streams.entries }
         ensures config { self.new.config ≡ self.old.config }
+        ensures goes { GoesOn [] self.old self.new }
     {
         let entry = self.streams.get_mut(&id)?;
         if !entry.is_known() {
@@ -142,6 +150,7 @@ impl Connection {
         ensures own { Untouched self.old.streams.entries self.new.streams.entries }
         ensures left { Left self.old.streams.entries self.new.streams.entries }
         ensures config { self.new.config ≡ self.old.config }
+        ensures goes { GoesOn [] self.old self.new }
     {
         let Some(event) = self.note_stop(id, code) else {
             return Ok(());
@@ -155,11 +164,12 @@ impl Connection {
     }
 
     // Tells the program of a stop that came before it knew of the stream. A session that was stopped does not come to be.
-    #[tactic(auto, using(crate::proofs::OwnLemmas::untouched_set, crate::proofs::TheirsLemmas::left_set))]
+    #[tactic(auto, using(crate::proofs::OwnLemmas::untouched_set, crate::proofs::TheirsLemmas::left_set, crate::proofs::GoesLemmas::goes_set))]
     pub(super) fn tell_stop(&mut self, id: u64) -> Result<(), Stop>
         ensures own { Untouched self.old.streams.entries self.new.streams.entries }
         ensures left { Left self.old.streams.entries self.new.streams.entries }
         ensures config { self.new.config ≡ self.old.config }
+        ensures goes { GoesOn [] self.old self.new }
     {
         let Some(entry) = self.streams.get_mut(&id) else {
             return Ok(());
@@ -177,6 +187,7 @@ impl Connection {
         ensures own { Untouched self.old.streams.entries self.new.streams.entries }
         ensures left { Left self.old.streams.entries self.new.streams.entries }
         ensures config { self.new.config ≡ self.old.config }
+        ensures goes { GoesOn [] self.old self.new }
     {
         match event {
             Said::Reset(Some(fault)) | Said::StreamError(fault) => {
@@ -191,11 +202,13 @@ impl Connection {
     }
 
     // Counts a request that its client gives up before its answer (RFC 9114, section 10.5).
-    #[tactic(auto, using(crate::proofs::OwnLemmas::untouched_set, crate::proofs::TheirsLemmas::left_set))]
+    #[tactic(auto, using(crate::proofs::OwnLemmas::untouched_set, crate::proofs::TheirsLemmas::left_set, crate::proofs::GoesLemmas::goes_set))]
     fn give_up(&mut self, id: u64) -> Result<(), Stop>
         ensures own { Untouched self.old.streams.entries self.new.streams.entries }
         ensures left { Left self.old.streams.entries self.new.streams.entries }
         ensures config { self.new.config ≡ self.old.config }
+        ensures goes { GoesOn [] self.old self.new }
+        ensures budget { code_after self.old.budget ≡ None → OnOk result (code_after self.new.budget ≡ None) }
     {
         let Some(entry) = self.streams.get_mut(&id) else {
             return Ok(());
@@ -213,6 +226,7 @@ impl Connection {
     }
 
     // Queues an event of a stream, if the program knows of the stream.
+    #[tactic(auto, using(crate::proofs::GoesLemmas::goes_said))]
     pub(super) fn queue_event(
         &mut self,
         id: u64,
@@ -221,6 +235,7 @@ impl Connection {
         ensures own { Untouched self.old.streams.entries self.new.streams.entries }
         ensures left { Left self.old.streams.entries self.new.streams.entries }
         ensures config { self.new.config ≡ self.old.config }
+        ensures goes { ends (word_of kind.entry) ≡ false → GoesOn [] self.old self.new }
     {
         if let Step::Told(event) = self.tell(id, kind) {
             self.events.push_back(event)?;
@@ -257,19 +272,30 @@ impl Connection {
     }
 
     // QUIC has closed a stream: what is kept of the own half is freed. What the peer sent is still read.
-    #[tactic(auto, using(crate::proofs::OwnLemmas::untouched_set, crate::proofs::TheirsLemmas::left_set))]
     pub(super) fn stream_closed(&mut self, id: u64) -> Result<(), AllocError>
         ensures own { Untouched self.old.streams.entries self.new.streams.entries }
         ensures left { Left self.old.streams.entries self.new.streams.entries }
         ensures config { self.new.config ≡ self.old.config }
+        ensures goes { GoesOn [] self.old self.new }
+    {
+        self.free_own(id);
+        self.remove_if_done(id)
+    }
+
+    // Frees what is kept of the own half of a stream.
+    #[tactic(auto, using(crate::proofs::OwnLemmas::untouched_set, crate::proofs::TheirsLemmas::left_set, crate::proofs::GoesLemmas::goes_set))]
+    fn free_own(&mut self, id: u64)
+        ensures own { Untouched self.old.streams.entries self.new.streams.entries }
+        ensures left { Left self.old.streams.entries self.new.streams.entries }
+        ensures config { self.new.config ≡ self.old.config }
+        ensures goes { GoesOn [] self.old self.new }
     {
         let Some(entry) = self.streams.get_mut(&id) else {
-            return Ok(());
+            return;
         };
         entry.writing = Writing::none(self.alloc, self.config.queue());
         self.ready.remove(id, entry.kind());
         self.full.remove(&id);
-        self.remove_if_done(id)
     }
 
     // Leaves a request that the server does not process.
@@ -278,6 +304,7 @@ impl Connection {
         ensures left { Left self.old.streams.entries self.new.streams.entries }
         ensures silent { IfOk result IsSilent }
         ensures config { self.new.config ≡ self.old.config }
+        ensures goes { GoesOn (said_by result) self.old self.new }
     {
         let Some(id) = self.first_request(first) else {
             self.pending.unprocessed = None;
@@ -300,9 +327,11 @@ impl Connection {
     }
 
     // Ends the connection by an error.
+    #[tactic(auto, using(crate::proofs::GoesLemmas::goes_filtered))]
     pub(super) fn break_off(&mut self, code: u64)
         ensures end { EndsUnless (is_over self.old) code self.old self.new }
         ensures after { is_over self.old ≡ false → IsAfterEnd self.new }
+        ensures goes { GoesOn [] self.old self.new }
     {
         if self.ended.is_some() {
             return;
@@ -322,7 +351,7 @@ impl Connection {
 
     // Takes a step after the end of the connection: what comes is dropped, and each stream that the program knows of is
     // told to be over.
-    #[tactic(auto, using(crate::proofs::OwnLemmas::untouched_set, crate::proofs::TheirsLemmas::left_set))]
+    #[tactic(auto, using(crate::proofs::OwnLemmas::untouched_set, crate::proofs::TheirsLemmas::left_set, crate::proofs::GoesLemmas::goes_aside))]
     pub(super) fn step_after_end<'a>(&mut self, ended: Ended, input: &mut Input<'a>) -> Step<'a>
         ensures last { IsTold result (λ e. is_last e.kind ≡ true) }
         ensures over { is_over self.old ≡ true → is_over self.new ≡ true }
@@ -331,11 +360,18 @@ impl Connection {
         ensures left { Left self.old.streams.entries self.new.streams.entries }
         ensures silent { IsSilent result }
         ensures config { self.new.config ≡ self.old.config }
+        ensures goes { GoesOn (said_in result) self.old self.new }
     {
+        // (what is queued is told first)
+        if !self.events.is_empty() {
+            return Step::More;
+        }
         if matches!(input.report, Report::ConnectionClosed(_)) {
             self.closes = None;
         }
-        input.drop_rest();
+        if matches!(input.report, Report::Stream(_)) {
+            input.drop_rest();
+        }
         input.report = Report::Nothing;
         if let Some(id) = self.next_told() {
             self.pending.cursor = id.saturating_add(1);
@@ -352,7 +388,7 @@ impl Connection {
     }
 
     // Tells that a stream is over, since the connection is.
-    #[tactic(auto, using(crate::proofs::OwnLemmas::untouched_set, crate::proofs::TheirsLemmas::left_set))]
+    #[tactic(auto, using(crate::proofs::OwnLemmas::untouched_set, crate::proofs::TheirsLemmas::left_set, crate::proofs::GoesLemmas::goes_last, std::proofs::lemmas::Map::Steps::set_value_same))]
     fn tell_last(&mut self, id: u64) -> Step<'static>
         ensures last { IsTold result (λ e. is_last e.kind ≡ true) }
         ensures known { IsTold result (λ e. (e.stream ≡ id) × (knows_of (stream_at self.old id) ≡ true)) }
@@ -363,6 +399,7 @@ impl Connection {
         ensures left { Left self.old.streams.entries self.new.streams.entries }
         ensures silent { IsSilent result }
         ensures config { self.new.config ≡ self.old.config }
+        ensures goes { self.old.events.items ≡ [] → GoesOn (said_in result) self.old self.new }
     {
         let Some(entry) = self.streams.get_mut(&id) else {
             return Step::More;

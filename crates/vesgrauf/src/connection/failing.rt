@@ -1,8 +1,9 @@
 //! Rules that the peer violates, and where.
-ghost use Rattle.std.specs.Prelude.{◌≡◌, true};
+ghost use Rattle.std.specs.Prelude.{◌≡◌, true, []};
 ghost use Rattle.vesgrauf.specs.State.{is_over};
 ghost use Rattle.vesgrauf.specs.Own.{Untouched};
 ghost use Rattle.vesgrauf.specs.Theirs.{Left};
+ghost use Rattle.vesgrauf.specs.Told.{GoesOn};
 
 use crate::connection::Connection;
 use crate::entry::Told;
@@ -60,6 +61,7 @@ impl Connection {
         ensures left { Left self.old.streams.entries self.new.streams.entries }
         ensures over { is_over self.new ≡ true }
         ensures config { self.new.config ≡ self.old.config }
+        ensures goes { GoesOn [] self.old self.new }
     {
         if let Some(fault) = fault {
             let offset = match stream {
@@ -77,10 +79,12 @@ impl Connection {
 
     // Tells of the rule that the peer violated on a stream, if the program is to know of it: nothing follows the last event
     // of a stream.
+    #[tactic(auto, using(crate::proofs::GoesLemmas::goes_failed))]
     pub(super) fn tell_failure(&mut self, id: u64, why: &Why) -> Result<(), AllocError>
         ensures own { Untouched self.old.streams.entries self.new.streams.entries }
         ensures left { Left self.old.streams.entries self.new.streams.entries }
         ensures config { self.new.config ≡ self.old.config }
+        ensures goes { GoesOn [] self.old self.new }
     {
         let Some(rule) = rule_of(why) else {
             return Ok(());
@@ -109,11 +113,12 @@ impl Connection {
     }
 
     // Counts bytes of a stream that were read.
-    #[tactic(auto, using(crate::proofs::OwnLemmas::untouched_set, crate::proofs::TheirsLemmas::left_set))]
+    #[tactic(auto, using(crate::proofs::OwnLemmas::untouched_set, crate::proofs::TheirsLemmas::left_set, crate::proofs::GoesLemmas::goes_set))]
     pub(super) fn count_read(&mut self, id: u64, len: usize)
         ensures own { Untouched self.old.streams.entries self.new.streams.entries }
         ensures left { Left self.old.streams.entries self.new.streams.entries }
         ensures config { self.new.config ≡ self.old.config }
+        ensures goes { GoesOn [] self.old self.new }
     {
         if let Some(entry) = self.streams.get_mut(&id) {
             entry.offset = entry.offset.saturating_add(len as u64);

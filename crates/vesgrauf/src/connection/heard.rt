@@ -1,6 +1,7 @@
 //! What is heard on a stream, and what follows from it.
 ghost use Rattle.std.specs.Prelude.{◌≡◌, [], false, IfOk};
 ghost use Rattle.vesgrauf.specs.Own.{Untouched};
+ghost use Rattle.vesgrauf.specs.Told.{GoesOn, ends, word_of, said_by, said_in};
 ghost use Rattle.vesgrauf.specs.State.{stream_at, told_on};
 ghost use Rattle.vesgrauf.specs.Theirs.{Left, Hands, IsSilent, IsOf, told_in, content_in, content_of, piece_of};
 ghost use Rattle.vesgrauf_stream.specs.Reading.{bytes_of};
@@ -9,9 +10,9 @@ ghost use Rattle.vesgrauf.specs.declared.config.OnMalformed.TheVariants as chose
 
 use crate::connection::failing::NO_DATAGRAMS;
 use crate::connection::{Connection, Step, Stop, internal};
+use crate::entry::Member;
 use crate::event::{Event, EventKind, Tunnel, Why};
 use crate::output::StreamKind;
-use std::alloc::AllocError;
 use vesgrauf_stream::bytes::Bytes;
 use vesgrauf_stream::heard::Heard;
 use wtp_connection::settings::PeerSettings;
@@ -63,6 +64,7 @@ impl Connection {
         ensures hands { IfOk result (λ s. Hands id (content_in heard.entry) (told_in s)
             self.old.streams.entries self.new.streams.entries) }
         ensures config { self.new.config ≡ self.old.config }
+        ensures goes { GoesOn (said_by result) self.old self.new }
     {
         match heard {
             Heard::Data(bytes) => self.content_came(id, bytes),
@@ -80,6 +82,7 @@ impl Connection {
         ensures hands { IfOk result (λ s. Hands id (bytes_of bytes.entry) (told_in s)
             self.old.streams.entries self.new.streams.entries) }
         ensures config { self.new.config ≡ self.old.config }
+        ensures goes { GoesOn (said_by result) self.old self.new }
     {
         match self.tell(id, EventKind::Data(bytes)) {
             Step::Told(event) => Ok(Step::Told(event)),
@@ -91,9 +94,11 @@ impl Connection {
     }
 
     // Tells the program something of a stream, if it knows of the stream.
+    #[tactic(auto, using(crate::proofs::GoesLemmas::goes_tells))]
     pub(super) fn tell<'a>(&self, id: u64, kind: EventKind<'a>) -> Step<'a>
         ensures told { result ≡ told_on (stream_at self.now id) id kind.entry }
         ensures is { IsOf id (piece_of kind.entry) result }
+        ensures goes { ends (word_of kind.entry) ≡ false → GoesOn (said_in result) self.now self.now }
     {
         let Some(entry) = self.streams.get(&id) else {
             return Step::More;
@@ -117,6 +122,7 @@ impl Connection {
         ensures hands { IfOk result (λ s. Hands id (content_of (told_of event.entry)) (told_in s)
             self.old.streams.entries self.new.streams.entries) }
         ensures config { self.new.config ≡ self.old.config }
+        ensures goes { GoesOn (said_by result) self.old self.new }
     {
         if says_content(&event) {
             return Err(internal());
@@ -131,6 +137,7 @@ impl Connection {
         ensures left { Left self.old.streams.entries self.new.streams.entries }
         ensures silent { IfOk result IsSilent }
         ensures config { self.new.config ≡ self.old.config }
+        ensures goes { GoesOn (said_by result) self.old self.new }
     {
         match event {
             Said::Settings(settings, _) => self.settings_came(settings),
@@ -163,24 +170,21 @@ impl Connection {
     }
 
     // A stream names its session.
-    #[tactic(auto, using(crate::proofs::OwnLemmas::untouched_set, crate::proofs::TheirsLemmas::left_set))]
+    #[tactic(auto, using(crate::proofs::OwnLemmas::untouched_set, crate::proofs::TheirsLemmas::left_set, crate::proofs::GoesLemmas::goes_set))]
     fn session_named(&mut self, id: u64, session: u64) -> Result<Step<'static>, Stop>
         ensures own { Untouched self.old.streams.entries self.new.streams.entries }
         ensures left { Left self.old.streams.entries self.new.streams.entries }
         ensures silent { IfOk result IsSilent }
         ensures config { self.new.config ≡ self.old.config }
+        ensures goes { GoesOn (said_by result) self.old self.new }
     {
         if let Some(entry) = self.streams.get_mut(&id) {
             entry.since = self.ticks;
         }
-        match self.join(id, session) {
-            Ok(event) => self.join_came(id, joining_of(&event)),
-            Err(stop) => {
-                // (without memory it joins later)
-                self.wake();
-                Err(stop)
-            }
-        }
+        // (without memory it joins when it is read again)
+        self.pending.named = Some(Member { session, id });
+        let event = self.join(id, session)?;
+        self.join_came(id, joining_of(&event))
     }
 
     // Handles what became of a stream that is to join its session.
@@ -189,6 +193,7 @@ impl Connection {
         ensures left { Left self.old.streams.entries self.new.streams.entries }
         ensures silent { IfOk result IsSilent }
         ensures config { self.new.config ≡ self.old.config }
+        ensures goes { GoesOn (said_by result) self.old self.new }
     {
         match joining {
             Joining::Joined(session) => {
@@ -207,24 +212,28 @@ impl Connection {
 
     // A datagram of a session came in a capsule.
     fn capsule_came(&self, id: u64, payload: Vec<u8>) -> Step<'static>
-        ensures { IsSilent result }
+        ensures silent { IsSilent result }
+        ensures goes { GoesOn (said_in result) self.now self.now }
     {
         self.tell(id, EventKind::Datagram(Bytes::Kept(payload)))
     }
 
     // The peer asks to end a session soon.
     fn draining_came(&self, id: u64) -> Step<'static>
-        ensures { IsSilent result }
+        ensures silent { IsSilent result }
+        ensures goes { GoesOn (said_in result) self.now self.now }
     {
         self.tell(id, EventKind::Draining)
     }
 
     // SETTINGS of the peer came.
+    #[tactic(auto, using(crate::proofs::GoesLemmas::goes_aside))]
     fn settings_came(&mut self, settings: PeerSettings) -> Result<Step<'static>, Stop>
         ensures own { Untouched self.old.streams.entries self.new.streams.entries }
         ensures left { Left self.old.streams.entries self.new.streams.entries }
         ensures silent { IfOk result IsSilent }
         ensures config { self.new.config ≡ self.old.config }
+        ensures goes { GoesOn (said_by result) self.old self.new }
     {
         if settings.h3_datagram && self.datagrams.limit == 0 {
             return Err(Stop::from(NO_DATAGRAMS));
@@ -236,11 +245,13 @@ impl Connection {
     }
 
     // GOAWAY of the peer came.
+    #[tactic(auto, using(crate::proofs::GoesLemmas::goes_aside))]
     fn goaway_came(&mut self, first: u64) -> Step<'static>
         ensures own { Untouched self.old.streams.entries self.new.streams.entries }
         ensures left { Left self.old.streams.entries self.new.streams.entries }
         ensures silent { IsSilent result }
         ensures config { self.new.config ≡ self.old.config }
+        ensures goes { GoesOn (said_in result) self.old self.new }
     {
         if !self.is_server() {
             self.pending.unprocessed = Some(first);
@@ -254,6 +265,7 @@ impl Connection {
         ensures left { Left self.old.streams.entries self.new.streams.entries }
         ensures silent { IfOk result IsSilent }
         ensures config { self.new.config ≡ self.old.config }
+        ensures goes { GoesOn (said_by result) self.old self.new }
     {
         match purpose {
             Purpose::Message => {
@@ -270,11 +282,12 @@ impl Connection {
     }
 
     // The bytes of the stream are instructions for the own encoder.
-    #[tactic(auto, using(crate::proofs::OwnLemmas::untouched_set, crate::proofs::TheirsLemmas::left_set))]
+    #[tactic(auto, using(crate::proofs::OwnLemmas::untouched_set, crate::proofs::TheirsLemmas::left_set, crate::proofs::GoesLemmas::goes_set))]
     fn note_decoder(&mut self, id: u64)
         ensures own { Untouched self.old.streams.entries self.new.streams.entries }
         ensures left { Left self.old.streams.entries self.new.streams.entries }
         ensures config { self.new.config ≡ self.old.config }
+        ensures goes { GoesOn [] self.old self.new }
     {
         if let Some(entry) = self.streams.get_mut(&id) {
             entry.is_decoder = true;
@@ -282,11 +295,12 @@ impl Connection {
     }
 
     // The stream is one that is open as long as the connection, or ignored.
-    #[tactic(auto, using(crate::proofs::OwnLemmas::untouched_set, crate::proofs::TheirsLemmas::left_set))]
+    #[tactic(auto, using(crate::proofs::OwnLemmas::untouched_set, crate::proofs::TheirsLemmas::left_set, crate::proofs::GoesLemmas::goes_set))]
     fn note_quiet(&mut self, id: u64)
         ensures own { Untouched self.old.streams.entries self.new.streams.entries }
         ensures left { Left self.old.streams.entries self.new.streams.entries }
         ensures config { self.new.config ≡ self.old.config }
+        ensures goes { GoesOn [] self.old self.new }
     {
         if let Some(entry) = self.streams.get_mut(&id) {
             if !entry.is_quiet {
@@ -306,12 +320,13 @@ impl Connection {
 
     // Rejects the request on a stream if its ID is this one or above it: that of the own GOAWAY, or its own where there are
     // too many sessions.
-    #[tactic(auto, using(crate::proofs::OwnLemmas::untouched_set, crate::proofs::TheirsLemmas::left_set))]
+    #[tactic(auto, using(crate::proofs::OwnLemmas::untouched_set, crate::proofs::TheirsLemmas::left_set, crate::proofs::GoesLemmas::goes_set))]
     pub(super) fn reject(&mut self, id: u64, first: Option<u64>) -> Result<Step<'static>, Stop>
         ensures own { Untouched self.old.streams.entries self.new.streams.entries }
         ensures left { Left self.old.streams.entries self.new.streams.entries }
         ensures silent { IfOk result IsSilent }
         ensures config { self.new.config ≡ self.old.config }
+        ensures goes { GoesOn (said_by result) self.old self.new }
     {
         let Some(entry) = self.streams.get_mut(&id) else {
             return Ok(Step::More);
@@ -326,6 +341,7 @@ impl Connection {
     }
 
     // A field section of a message came.
+    #[tactic(auto, using(crate::proofs::GoesLemmas::goes_after))]
     fn headers_came(
         &mut self,
         id: u64,
@@ -336,6 +352,7 @@ impl Connection {
         ensures left { Left self.old.streams.entries self.new.streams.entries }
         ensures silent { IfOk result IsSilent }
         ensures config { self.new.config ≡ self.old.config }
+        ensures goes { GoesOn (said_by result) self.old self.new }
     {
         match kind {
             HeadersKind::Request => {
@@ -345,7 +362,7 @@ impl Connection {
             }
             HeadersKind::Interim(status) => Ok(self.tell(id, EventKind::Interim(status, list))),
             HeadersKind::Response(status) => {
-                self.response_came(id, status)?;
+                self.response_came(id, status);
                 Ok(self.tell(id, EventKind::Response(status, list)))
             }
             HeadersKind::Trailers => Ok(self.tell(id, EventKind::Trailers(list))),
@@ -358,6 +375,8 @@ impl Connection {
         ensures left { Left self.old.streams.entries self.new.streams.entries }
         ensures silent { IsSilent result }
         ensures config { self.new.config ≡ self.old.config }
+        ensures goes { GoesOn (said_in result) self.old self.new }
+        ensures quiet { GoesOn [] self.old self.new }
     {
         let connects = list.first(b":method") == Some(b"CONNECT");
         let asked = if connects {
@@ -368,6 +387,8 @@ impl Connection {
             Asked::Other
         };
         self.note_request(id, asked);
+        // (a stream may have waited for the session with this ID, which there is not)
+        self.wake_waiting();
         if connects {
             self.tell(id, EventKind::Connect(Tunnel::Other, list))
         } else {
@@ -376,11 +397,12 @@ impl Connection {
     }
 
     // A request came that asks for this.
-    #[tactic(auto, using(crate::proofs::OwnLemmas::untouched_set, crate::proofs::TheirsLemmas::left_set))]
+    #[tactic(auto, using(crate::proofs::OwnLemmas::untouched_set, crate::proofs::TheirsLemmas::left_set, crate::proofs::GoesLemmas::goes_known))]
     pub(super) fn note_request(&mut self, id: u64, asked: Asked)
         ensures own { Untouched self.old.streams.entries self.new.streams.entries }
         ensures left { Left self.old.streams.entries self.new.streams.entries }
         ensures config { self.new.config ≡ self.old.config }
+        ensures goes { GoesOn [] self.old self.new }
     {
         if let Some(entry) = self.streams.get_mut(&id) {
             entry.writing.ask(asked);
@@ -391,32 +413,49 @@ impl Connection {
     }
 
     // The final response to a request that asked for no session came.
-    #[tactic(auto, using(crate::proofs::OwnLemmas::untouched_set, crate::proofs::TheirsLemmas::left_set))]
-    fn response_came(&mut self, id: u64, status: u32) -> Result<(), AllocError>
+    fn response_came(&mut self, id: u64, status: u32)
         ensures own { Untouched self.old.streams.entries self.new.streams.entries }
         ensures left { Left self.old.streams.entries self.new.streams.entries }
         ensures config { self.new.config ≡ self.old.config }
+        ensures goes { GoesOn [] self.old self.new }
     {
-        let Some(entry) = self.streams.get_mut(&id) else {
-            return Ok(());
-        };
         if status > 199 && status < 300 {
+            self.connect(id);
+            return;
+        }
+        if self.has_tunnel(id) {
+            self.end_own(id);
+        }
+    }
+
+    // A request to a tunnel was granted.
+    #[tactic(auto, using(crate::proofs::OwnLemmas::untouched_set, crate::proofs::TheirsLemmas::left_set, crate::proofs::GoesLemmas::goes_set))]
+    fn connect(&mut self, id: u64)
+        ensures own { Untouched self.old.streams.entries self.new.streams.entries }
+        ensures left { Left self.old.streams.entries self.new.streams.entries }
+        ensures config { self.new.config ≡ self.old.config }
+        ensures goes { GoesOn [] self.old self.new }
+    {
+        if let Some(entry) = self.streams.get_mut(&id) {
             entry.writing.connect();
-            return Ok(());
         }
-        if entry.has_tunnel {
-            return self.end_own(id);
+    }
+
+    fn has_tunnel(&self, id: u64) -> bool {
+        match self.streams.get(&id) {
+            Some(entry) => entry.has_tunnel,
+            None => false,
         }
-        Ok(())
     }
 
     // The peer's half ended.
-    #[tactic(auto, using(crate::proofs::OwnLemmas::untouched_set, crate::proofs::TheirsLemmas::left_set))]
+    #[tactic(auto, using(crate::proofs::OwnLemmas::untouched_set, crate::proofs::TheirsLemmas::left_set, crate::proofs::GoesLemmas::goes_after))]
     fn end_came(&mut self, id: u64) -> Result<Step<'static>, Stop>
         ensures own { Untouched self.old.streams.entries self.new.streams.entries }
         ensures left { Left self.old.streams.entries self.new.streams.entries }
         ensures silent { IfOk result IsSilent }
         ensures config { self.new.config ≡ self.old.config }
+        ensures goes { GoesOn (said_by result) self.old self.new }
     {
         let step = self.tell(id, EventKind::End);
         self.forget_cancel(id);
@@ -425,11 +464,12 @@ impl Connection {
     }
 
     // All sections of a stream were read.
-    #[tactic(auto, using(crate::proofs::TheirsLemmas::left_set, crate::proofs::OwnLemmas::untouched_set))]
+    #[tactic(auto, using(crate::proofs::TheirsLemmas::left_set, crate::proofs::OwnLemmas::untouched_set, crate::proofs::GoesLemmas::goes_set))]
     fn forget_cancel(&mut self, id: u64)
         ensures own { Untouched self.old.streams.entries self.new.streams.entries }
         ensures left { Left self.old.streams.entries self.new.streams.entries }
         ensures config { self.new.config ≡ self.old.config }
+        ensures goes { GoesOn [] self.old self.new }
     {
         if let Some(entry) = self.streams.get_mut(&id) {
             entry.may_cancel = false;
@@ -443,8 +483,9 @@ impl Connection {
         ensures left { Left self.old.streams.entries self.new.streams.entries }
         ensures silent { IfOk result IsSilent }
         ensures config { self.new.config ≡ self.old.config }
+        ensures goes { GoesOn (said_by result) self.old self.new }
     {
-        self.end_own(id)?;
+        self.end_own(id);
         self.end_session(id)?;
         self.closed(id, Why::Session(close))?;
         self.cancel_left(id);
@@ -457,6 +498,7 @@ impl Connection {
         ensures left { Left self.old.streams.entries self.new.streams.entries }
         ensures silent { IfOk result IsSilent }
         ensures config { self.new.config ≡ self.old.config }
+        ensures goes { GoesOn (said_by result) self.old self.new }
     {
         self.shut(id, Code::H3_REQUEST_CANCELLED, Why::SessionGone)?;
         Ok(Step::More)

@@ -1,6 +1,7 @@
 //! The end of a connection in steps.
-ghost use Rattle.std.specs.Prelude.{◌≡◌, ◌<◌, Ok, IfSome, OnOk, true};
+ghost use Rattle.std.specs.Prelude.{◌≡◌, ◌<◌, [], Ok, IfSome, OnOk, true};
 ghost use Rattle.vesgrauf.specs.State.{is_over, open_session};
+ghost use Rattle.vesgrauf.specs.Told.{GoesOn};
 
 use crate::connection::Connection;
 use crate::output::Shutdown;
@@ -38,6 +39,7 @@ impl Connection {
     pub fn wind_down(&mut self, tick: u32, last: u32) -> Result<(), Refused>
         ensures over { is_over self.old ≡ true → self.new ≡ self.old }
         ensures closed { last < tick → is_over self.new ≡ true }
+        ensures goes { GoesOn [] self.old self.new }
     {
         if self.ended.is_some() {
             return Ok(());
@@ -59,7 +61,9 @@ impl Connection {
     }
 
     // Asks the peer to end each session that is open, or closes it.
-    fn end_sessions(&mut self, at_once: bool) -> Result<(), Refused> {
+    fn end_sessions(&mut self, at_once: bool) -> Result<(), Refused>
+        ensures goes { GoesOn [] self.old self.new }
+    {
         let mut from = 0;
         for _session in 0..self.streams.len() {
             let Some(id) = self.next_session(from) else {

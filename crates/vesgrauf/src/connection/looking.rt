@@ -1,5 +1,6 @@
 //! What is found next in the bytes of a stream.
-ghost use Rattle.std.specs.Prelude.{◌≡◌, false, true, [], Ok, None, IfOk};
+ghost use Rattle.std.specs.Prelude.{◌≡◌, ℕ, false, true, [], Ok, None, IfOk};
+ghost use Rattle.vesgrauf.specs.Bounds.{Fits};
 ghost use Rattle.vesgrauf.specs.Theirs.{IsRead, with_chunk, theirs_of, content_found, content_if};
 ghost use Rattle.vesgrauf.specs.declared.entry.Peer.TheVariants as peer;
 
@@ -16,7 +17,7 @@ use wtp_webtransport::fields::Fields;
 impl Entry {
     // Returns what is found next in the bytes that are kept and those of the input. Of a stream that is not read nothing
     // is.
-    #[tactic(auto, using(crate::proofs::ReadsLemmas::looked, crate::proofs::ReadsLemmas::not_looked))]
+    #[tactic(auto, using(crate::proofs::ReadsLemmas::looked, crate::proofs::ReadsLemmas::not_looked, crate::proofs::BoundLemmas::shrunk_fits))]
     pub(super) fn look<'a>(
         &mut self,
         alloc: Global,
@@ -27,6 +28,8 @@ impl Entry {
         ensures own { self.new.writing ≡ self.old.writing }
         ensures reads { IfOk result (λ found. IsRead (with_chunk (theirs_of self.old) chunk.old) (content_found found)
             (with_chunk (theirs_of self.new) chunk.new)) }
+        ensures told { self.new.told ≡ self.old.told }
+        ensures fits { (most : ℕ) → Fits most (theirs_of self.old) → Fits most (theirs_of self.new) }
     {
         if !self.is_read() {
             return Ok(Found::Again);
@@ -37,7 +40,7 @@ impl Entry {
 
     // Returns what is found in the bytes of the input, if the stream is read, nothing of it is kept, its end did not come,
     // and it waits for nothing.
-    #[tactic(auto, using(crate::proofs::ReadsLemmas::looked_plain, crate::proofs::ReadsLemmas::not_looked))]
+    #[tactic(auto, using(crate::proofs::ReadsLemmas::looked_plain, crate::proofs::ReadsLemmas::not_looked, crate::proofs::BoundLemmas::shrunk_fits))]
     pub(super) fn look_plain<'a>(
         &mut self,
         alloc: Global,
@@ -52,6 +55,8 @@ impl Entry {
         ensures shared { result ≡ Ok None → shared.new ≡ shared.old }
         ensures fields { result ≡ Ok None → fields.new ≡ fields.old }
         ensures none { result ≡ Ok None → chunk.new ≡ chunk.old }
+        ensures told { self.new.told ≡ self.old.told }
+        ensures fits { (most : ℕ) → Fits most (theirs_of self.old) → Fits most (theirs_of self.new) }
     {
         if !self.is_plain() {
             return Ok(None);
@@ -86,6 +91,7 @@ impl Entry {
     ) -> usize
         ensures own { self.new.writing ≡ self.old.writing }
         ensures theirs { theirs_of self.new ≡ theirs_of self.old }
+        ensures told { self.new.told ≡ self.old.told }
     {
         let left = self.reading.len();
         let read = kept
@@ -103,6 +109,7 @@ impl Entry {
         ensures peer { self.new.peer ≡ self.old.peer }
         ensures content { self.new.is_decoder ≡ self.old.is_decoder }
         ensures own { self.new.writing ≡ self.old.writing }
+        ensures told { self.new.told ≡ self.old.told }
     {
         if !is_failure(found) {
             self.offset = self.offset.saturating_add(len as u64);

@@ -1,10 +1,12 @@
 //! Messages that are sent.
-ghost use Rattle.std.specs.Prelude.{◌≡◌, ◌⊎◌, false, true, is_some, is_ok, None, Some, OnOk, OnErr, IfOk, IfErr, length};
+ghost use Rattle.std.specs.Prelude.{◌≡◌, ◌⊎◌, false, true, is_some, is_ok, None, Some, OnOk, OnErr, IfOk, IfErr, length, []};
 ghost use Rattle.vesgrauf_stream.specs.Writing.{Sends};
 ghost use Rattle.vesgrauf_stream.specs.Headers.{SendsTrailers, RefusesTrailers};
-ghost use Rattle.vesgrauf.specs.Own.{Untouched, UntouchedBut};
+ghost use Rattle.vesgrauf.specs.Own.{entry_at, Untouched, UntouchedBut};
 ghost use Rattle.vesgrauf.specs.Theirs.{Left};
-ghost use Rattle.vesgrauf.specs.State.{stream_at, Changes, IsFor, IsStill, IsStillBut, IsRefused, SaysOrWaits, StaysFor, IsWhy, IsWhyOf, RefusesBytes, RefusesEnd, FinishesUnless, was_finished, was_told_full, is_over, open_session};
+ghost use Rattle.vesgrauf.specs.Told.{GoesOn, AreOthers, knows};
+ghost use Rattle.vesgrauf.specs.State.{stream_at, Changes, IsFor, IsStill, IsStillBut, IsRefused, SaysOrWaits, StaysFor, IsWhy, IsWhyOf, RefusesBytes, RefusesEnd, FinishesUnless, was_finished, was_told_full, is_over, open_session, knows_of, may_wait};
+ghost use Rattle.vesgrauf.specs.declared.output.StreamKind.TheVariants as kinds;
 ghost use Rattle.vesgrauf.specs.declared.refused.Refused.TheVariants as refused;
 
 use crate::connection::{Connection, Stop};
@@ -12,7 +14,6 @@ use crate::entry::{Entry, Peer, SHARED, Told};
 use crate::output::StreamKind;
 use crate::refused::{NotSent, Refused};
 use std::alloc::AllocError;
-use vesgrauf_stream::error::NotSent as Kept;
 use vesgrauf_stream::reading::Reading;
 use vesgrauf_stream::writing::Writing;
 use wtp_connection::connection::Known;
@@ -35,9 +36,12 @@ impl Connection {
     /// allows; `Full` if as many requests wait for QUIC as [`max_unopened`](crate::config::Config) says: an event
     /// [`Openable`](crate::event::EventKind) follows; `NoMoreIds`; `Send` if it would be malformed or the peer does not
     /// support it; and `Memory`.
+    #[tactic(auto, using(crate::proofs::IdLemmas::goes_opens, crate::proofs::GoesLemmas::goes_still))]
     pub fn request(&mut self, list: &FieldList, fin: bool) -> Result<u64, Refused>
         ensures id { IfOk result (λ id. id ≡ self.old.ids.bidirectional) }
+        ensures room { IfOk result (λ id. may_wait self.old kinds.Bidirectional ≡ true) }
         ensures own { IfOk result (λ id. UntouchedBut id self.old.streams.entries self.new.streams.entries) }
+        ensures goes { IfOk result (λ id. GoesOn [] self.old self.new × (knows self.new id ≡ true)) }
     {
         if self.ended.is_some() {
             return Err(Refused::Closed);
@@ -57,12 +61,21 @@ impl Connection {
         self.reserve()?;
         self.choose_policy();
         self.open_request(id, asked, list, fin)?;
-        self.queue_due();
         self.ids.take(StreamKind::Bidirectional);
+        self.queue_due();
+        self.count_session(asked);
+        Ok(id)
+    }
+
+    // Counts a session, if it is one that is asked for.
+    fn count_session(&mut self, asked: Asked)
+        ensures streams { self.new.streams ≡ self.old.streams }
+        ensures ids { self.new.ids ≡ self.old.ids }
+        ensures events { self.new.events ≡ self.old.events }
+    {
         if asked == Asked::Session {
             self.sessions = self.sessions.saturating_add(1);
         }
-        Ok(id)
     }
 
     // Checks that what a request asks for is supported.
@@ -99,6 +112,9 @@ impl Connection {
         fin: bool,
     ) -> Result<(), Refused>
         ensures own { OnOk result (UntouchedBut id self.old.streams.entries self.new.streams.entries) }
+        ensures known { OnOk result (knows_of (entry_at self.new.streams.entries id) ≡ true) }
+        ensures others { OnOk result (AreOthers id self.old.streams.entries self.new.streams.entries) }
+        ensures events { self.new.events ≡ self.old.events }
         ensures ids { self.new.ids ≡ self.old.ids }
     {
         let session = session_id(id)?;
@@ -120,7 +136,7 @@ impl Connection {
         if asked == Asked::Session || asked == Asked::Connect {
             entry.priority = SHARED;
         }
-        place.or_insert(entry);
+        place.insert_entry(entry);
         Ok(())
     }
 
@@ -146,6 +162,7 @@ impl Connection {
         ensures own { UntouchedBut id self.old.streams.entries self.new.streams.entries }
         ensures left { Left self.old.streams.entries self.new.streams.entries }
         ensures config { self.new.config ≡ self.old.config }
+        ensures goes { GoesOn [] self.old self.new }
     {
         self.begin_send(id)?;
         self.choose_policy();
@@ -156,26 +173,45 @@ impl Connection {
     }
 
     // Queues the HEADERS of a response, and maybe the end.
-    #[tactic(auto, using(crate::proofs::TheirsLemmas::left_set, std::proofs::lemmas::Map::Steps::set_value_same))]
+    #[tactic(auto, using(crate::proofs::TheirsLemmas::left_set, std::proofs::lemmas::Map::Steps::set_value_same, crate::proofs::GoesLemmas::goes_set))]
     fn put_response(&mut self, id: u64, list: &FieldList, fin: bool) -> Result<(), Refused>
         ensures kept { OnErr result (IsStill self.old self.new) }
         ensures own { UntouchedBut id self.old.streams.entries self.new.streams.entries }
         ensures left { Left self.old.streams.entries self.new.streams.entries }
         ensures config { self.new.config ≡ self.old.config }
+        ensures goes { GoesOn [] self.old self.new }
     {
-        let session = session_id(id);
+        let result = match session_id(id) {
+            Ok(session) => self.respond_half(id, session, list, fin),
+            Err(_) => Err(Refused::NoStream),
+        };
+        self.end_send(id);
+        result
+    }
+
+    // Queues the HEADERS of a response, and maybe the end, on the own half of a stream.
+    #[tactic(auto, using(crate::proofs::TheirsLemmas::left_set, std::proofs::lemmas::Map::Steps::set_value_same, crate::proofs::GoesLemmas::goes_set))]
+    fn respond_half(
+        &mut self,
+        id: u64,
+        session: SessionId,
+        list: &FieldList,
+        fin: bool,
+    ) -> Result<(), Refused>
+        ensures kept { OnErr result (IsStill self.old self.new) }
+        ensures own { UntouchedBut id self.old.streams.entries self.new.streams.entries }
+        ensures left { Left self.old.streams.entries self.new.streams.entries }
+        ensures config { self.new.config ≡ self.old.config }
+        ensures goes { GoesOn [] self.old self.new }
+    {
         let allows = self.allows();
         let Some(entry) = self.streams.get_mut(&id) else {
             return Err(Refused::NoStream);
         };
-        let result = match session {
-            Ok(session) => entry
-                .writing
-                .respond(&mut self.tools, session, allows, list, fin),
-            Err(_) => Err(Kept::None),
-        };
-        self.end_send(id);
-        Ok(result?)
+        let sent = entry
+            .writing
+            .respond(&mut self.tools, session, allows, list, fin);
+        Ok(sent?)
     }
 
     // A response was sent: what follows for its stream, and for a session.
@@ -183,6 +219,7 @@ impl Connection {
         ensures own { Untouched self.old.streams.entries self.new.streams.entries }
         ensures left { Left self.old.streams.entries self.new.streams.entries }
         ensures config { self.new.config ≡ self.old.config }
+        ensures goes { GoesOn [] self.old self.new }
     {
         if let Some(status) = status_of(list) {
             self.answered(id, status);
@@ -212,6 +249,7 @@ impl Connection {
         ensures own { Untouched self.old.streams.entries self.new.streams.entries }
         ensures left { Left self.old.streams.entries self.new.streams.entries }
         ensures config { self.new.config ≡ self.old.config }
+        ensures goes { GoesOn [] self.old self.new }
     {
         let code = Code::H3_NO_ERROR.number().into_inner();
         self.stop_peer(id, code)?;
@@ -224,6 +262,7 @@ impl Connection {
         ensures own { Untouched self.old.streams.entries self.new.streams.entries }
         ensures left { Left self.old.streams.entries self.new.streams.entries }
         ensures config { self.new.config ≡ self.old.config }
+        ensures goes { GoesOn [] self.old self.new }
     {
         if status < 200 {
             return;
@@ -255,12 +294,13 @@ impl Connection {
     ///
     /// Nothing is queued. `Full` if a call returned false, and as many bytes are queued still: the `Writable` is to come.
     /// `Closed`; `NoStream`; `Over`; `Send`; and `Memory`.
-    #[tactic(auto, using(std::proofs::lemmas::Map::Steps::set_value_same))]
+    #[tactic(auto, using(std::proofs::lemmas::Map::Steps::set_value_same, crate::proofs::GoesLemmas::goes_set))]
     pub fn send(&mut self, id: u64, bytes: &[u8], fin: bool) -> Result<bool, Refused>
         ensures ok { IfOk result (λ room. Changes id (Sends bytes.now fin room) self.old self.new) }
         ensures why { IfErr result (λ e. IsWhy (RefusesBytes (length bytes.now) fin) self.old id e) }
         ensures told { IfErr result (λ e. e ≡ refused.Full → was_told_full self.old id ≡ true) }
         ensures kept { IfErr result (λ e. StaysFor e id self.old self.new) }
+        ensures goes { GoesOn [] self.old self.new }
     {
         let was_full = self.full.contains(&id);
         self.begin_send(id)?;
@@ -282,13 +322,14 @@ impl Connection {
     /// # Errors
     ///
     /// Those of [`send`](Self::send), with the bytes.
-    #[tactic(auto, using(std::proofs::lemmas::Map::Steps::set_value_same))]
+    #[tactic(auto, using(std::proofs::lemmas::Map::Steps::set_value_same, crate::proofs::GoesLemmas::goes_set))]
     pub fn send_owned(&mut self, id: u64, bytes: Vec<u8>, fin: bool) -> Result<bool, NotSent>
         ensures ok { IfOk result (λ room. Changes id (Sends bytes.items fin room) self.old self.new) }
         ensures why { IfErr result (λ e. IsWhy (RefusesBytes (length bytes.items) fin) self.old id e.why) }
         ensures told { IfErr result (λ e. e.why ≡ refused.Full → was_told_full self.old id ≡ true) }
         ensures kept { IfErr result (λ e. StaysFor e.why id self.old self.new) }
         ensures bytes { IfErr result (λ e. e.bytes ≡ bytes) }
+        ensures goes { GoesOn [] self.old self.new }
     {
         let was_full = self.full.contains(&id);
         if let Err(why) = self.begin_send(id) {
@@ -335,6 +376,7 @@ impl Connection {
     pub fn send_trailers(&mut self, id: u64, list: &FieldList) -> Result<(), Refused>
         ensures kept { OnErr result (IsStillBut self.old self.new) }
         ensures decoder { SaysOrWaits self.old.told.items self.new.told.items self.old.decoder self.new.decoder }
+        ensures goes { GoesOn [] self.old self.new }
     {
         self.begin_send(id)?;
         self.choose_policy();
@@ -344,13 +386,14 @@ impl Connection {
     }
 
     // Queues trailers and the end on a stream.
-    #[tactic(auto, using(std::proofs::lemmas::Map::Steps::set_value_same))]
+    #[tactic(auto, using(std::proofs::lemmas::Map::Steps::set_value_same, crate::proofs::GoesLemmas::goes_set))]
     fn put_trailers(&mut self, id: u64, list: &FieldList) -> Result<(), Refused>
         ensures ok { OnOk result (Changes id (SendsTrailers list.now self.old.tools self.new.tools)
             self.old self.new) }
         ensures kept { OnErr result (IsStill self.old self.new) }
         ensures why { IfErr result (λ e. IsWhyOf (stream_at self.old id)
             (IsFor (RefusesTrailers list.now self.old.tools self.new.tools)) e) }
+        ensures goes { GoesOn [] self.old self.new }
     {
         let Some(entry) = self.streams.get_mut(&id) else {
             return Err(Refused::NoStream);
@@ -372,6 +415,7 @@ impl Connection {
         ensures refused { IfErr result (λ e. IsRefused e self.old self.new) }
         ensures half { is_ok (open_session self.old id) ≡ false
             → OnOk result (FinishesUnless (was_finished self.old id) id self.old self.new) }
+        ensures goes { GoesOn [] self.old self.new }
     {
         if self.check_session(id).is_ok() {
             return self.close_session(id, 0, "");
@@ -380,11 +424,12 @@ impl Connection {
     }
 
     // Ends the own half of a stream that is not that of a session.
-    #[tactic(auto, using(std::proofs::lemmas::Map::Steps::set_value_same))]
+    #[tactic(auto, using(std::proofs::lemmas::Map::Steps::set_value_same, crate::proofs::GoesLemmas::goes_set))]
     fn finish_half(&mut self, id: u64) -> Result<(), Refused>
         ensures ok { OnOk result (FinishesUnless (was_finished self.old id) id self.old self.new) }
         ensures why { IfErr result (λ e. IsWhy RefusesEnd self.old id e) }
         ensures kept { OnErr result (IsStill self.old self.new) }
+        ensures goes { GoesOn [] self.old self.new }
     {
         if self.ended.is_some() {
             return Err(Refused::Closed);

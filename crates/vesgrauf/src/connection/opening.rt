@@ -1,10 +1,11 @@
 //! Streams that are opened.
-ghost use Rattle.std.specs.Prelude.{◌≡◌, ◌⊎◌, [], true, false, MatchBool, OnOk, OnErr, IfOk, IfErr};
+ghost use Rattle.std.specs.Prelude.{◌≡◌, ◌⊎◌, [], true, false, Some, MatchBool, OnOk, OnErr, IfOk, IfErr};
 ghost use Rattle.wtp_frames.specs.declared.endpoint.Side.TheVariants as side;
 ghost use Rattle.vesgrauf.specs.declared.refused.Refused.TheVariants as refused;
 ghost use Rattle.vesgrauf.specs.State.{open_session, room_for, may_wait, IsStill, IsRefused};
-ghost use Rattle.vesgrauf.specs.Own.{Sends, own_of, Untouched, UntouchedBut};
+ghost use Rattle.vesgrauf.specs.Own.{Sends, own_of, entry_at, Untouched, UntouchedBut};
 ghost use Rattle.vesgrauf.specs.Theirs.{Left, Accepts, Unread, content_of, theirs_of};
+ghost use Rattle.vesgrauf.specs.Told.{GoesOn, AreOthers, knows};
 ghost use Rattle.wtp_webtransport.specs.Events.{told_of};
 ghost use Rattle.vesgrauf.specs.Ids.{next_own, opens};
 
@@ -29,6 +30,7 @@ impl Connection {
         ensures own { Untouched self.old.streams.entries self.new.streams.entries }
         ensures accepts { Accepts self.old.ids self.old.streams.entries self.new.ids self.new.streams.entries }
         ensures config { self.new.config ≡ self.old.config }
+        ensures goes { GoesOn [] self.old self.new }
     {
         match report {
             Report::Stream(id) | Report::Reset(id, _) | Report::Stopped(id, _) => self.accept(id),
@@ -41,6 +43,7 @@ impl Connection {
         ensures own { Untouched self.old.streams.entries self.new.streams.entries }
         ensures accepts { Accepts self.old.ids self.old.streams.entries self.new.ids self.new.streams.entries }
         ensures config { self.new.config ≡ self.old.config }
+        ensures goes { GoesOn [] self.old self.new }
     {
         if self.ids.is_own(id) {
             return if self.ids.was_taken(id) {
@@ -64,13 +67,17 @@ impl Connection {
     }
 
     // Registers the next stream of the peer, of the kind of this one.
-    #[tactic(auto, using(crate::proofs::ReadsLemmas::accepts_insert))]
+    #[tactic(auto, using(crate::proofs::ReadsLemmas::accepts_insert, crate::proofs::IdLemmas::goes_accepts))]
     fn accept_next(&mut self, id: u64) -> Result<(), Stop>
         ensures own { Untouched self.old.streams.entries self.new.streams.entries }
         ensures accepts { Accepts self.old.ids self.old.streams.entries self.new.ids self.new.streams.entries }
         ensures config { self.new.config ≡ self.old.config }
+        ensures goes { GoesOn [] self.old self.new }
     {
         let next = self.ids.next_of_peer(id);
+        if next >= 1 << 62 {
+            return Err(internal());
+        }
         if self.ids.was(next) {
             return Err(internal());
         }
@@ -87,6 +94,7 @@ impl Connection {
         ensures config { self.new.config ≡ self.old.config }
         ensures ids { self.new.ids ≡ self.old.ids }
         ensures streams { self.new.streams ≡ self.old.streams }
+        ensures events { self.new.events ≡ self.old.events }
     {
         let stream = self.shared.accept(id);
         let writing = half_beside_peer(self.alloc, self.config.queue(), id);
@@ -96,29 +104,43 @@ impl Connection {
     }
 
     // Joins a stream with its session, by what is known of that.
-    #[tactic(auto, using(crate::proofs::OwnLemmas::untouched_set, crate::proofs::TheirsLemmas::left_set, crate::proofs::ReadsLemmas::joins_silent))]
+    #[tactic(auto, using(crate::proofs::OwnLemmas::untouched_set, crate::proofs::TheirsLemmas::left_set, crate::proofs::ReadsLemmas::joins_silent, crate::proofs::GoesLemmas::goes_set))]
     pub(super) fn join(&mut self, id: u64, session: u64) -> Result<Said<'static>, Stop>
         ensures own { Untouched self.old.streams.entries self.new.streams.entries }
         ensures left { Left self.old.streams.entries self.new.streams.entries }
         ensures config { self.new.config ≡ self.old.config }
         ensures silent { IfOk result (λ e. content_of (told_of e) ≡ []) }
+        ensures goes { GoesOn [] self.old self.new }
     {
         let known = self.known_to(id, session);
         if matches!(known, Known::Open) {
             self.members.insert(Member { session, id })?;
         }
+        self.forget_named(id);
         let Some(entry) = self.streams.get_mut(&id) else {
             return Ok(Said::More);
         };
         Ok(entry.reading.join_session(&mut self.shared, known))
     }
 
+    // A stream that named its session is not to join it any more.
+    fn forget_named(&mut self, id: u64)
+        ensures still { IsStill self.old self.new }
+    {
+        if let Some(named) = self.pending.named {
+            if named.id == id {
+                self.pending.named = None;
+            }
+        }
+    }
+
     // A stream of the peer joined its session.
-    #[tactic(auto, using(crate::proofs::OwnLemmas::untouched_set, crate::proofs::TheirsLemmas::left_set))]
+    #[tactic(auto, using(crate::proofs::OwnLemmas::untouched_set, crate::proofs::TheirsLemmas::left_set, crate::proofs::GoesLemmas::goes_known))]
     pub(super) fn joined(&mut self, id: u64, session: u64)
         ensures own { Untouched self.old.streams.entries self.new.streams.entries }
         ensures left { Left self.old.streams.entries self.new.streams.entries }
         ensures config { self.new.config ≡ self.old.config }
+        ensures goes { GoesOn [] self.old self.new }
     {
         if let Some(entry) = self.streams.get_mut(&id) {
             entry.session = Some(session);
@@ -137,10 +159,14 @@ impl Connection {
     /// Nothing changes. `Closed`; `SessionGone`; `NotOpen`; `Full` if as many own streams of this
     /// kind wait for QUIC as [`max_unopened`](crate::config::Config) says: an event
     /// [`Openable`](crate::event::EventKind) follows; `NoMoreIds`; and `Memory`.
+    #[tactic(auto, using(crate::proofs::IdLemmas::goes_opens, crate::proofs::IdLemmas::knows_here, crate::proofs::GoesLemmas::goes_still))]
     pub fn open_stream(&mut self, session: u64, kind: StreamKind) -> Result<u64, Refused>
         ensures refused { IfErr result (λ e. IsRefused e self.old self.new) }
         ensures id { IfOk result (λ id. id ≡ next_own self.old.ids kind) }
+        ensures room { IfOk result (λ id. may_wait self.old kind ≡ true) }
         ensures own { IfOk result (λ id. UntouchedBut id self.old.streams.entries self.new.streams.entries) }
+        ensures goes { IfOk result (λ id. GoesOn [] self.old self.new × (knows self.new id ≡ true)) }
+        ensures kept { OnErr result (GoesOn [] self.old self.new) }
     {
         self.check_session(session)?;
         self.check_room(kind)?;
@@ -190,10 +216,12 @@ impl Connection {
     }
 
     // Tells that there is room again for own streams of a kind, if that is owed.
+    #[tactic(auto, using(crate::proofs::GoesLemmas::goes_general))]
     fn tell_openable(&mut self, kind: StreamKind) -> Result<(), AllocError>
         ensures own { Untouched self.old.streams.entries self.new.streams.entries }
         ensures left { Left self.old.streams.entries self.new.streams.entries }
         ensures config { self.new.config ≡ self.old.config }
+        ensures goes { GoesOn [] self.old self.new }
     {
         let is_owed = match kind {
             StreamKind::Bidirectional => self.pending.owes_bidirectional,
@@ -220,12 +248,20 @@ impl Connection {
     // Adds an own stream of a session.
     fn add_member(&mut self, session: u64, id: u64, entry: Entry) -> Result<(), AllocError>
         ensures own { OnOk result (UntouchedBut id self.old.streams.entries self.new.streams.entries) }
+        ensures here { OnOk result (entry_at self.new.streams.entries id ≡ Some entry) }
+        ensures others { OnOk result (AreOthers id self.old.streams.entries self.new.streams.entries) }
+        ensures same { OnErr result (self.new.streams.entries ≡ self.old.streams.entries) }
+        ensures events { self.new.events ≡ self.old.events }
         ensures ids { self.new.ids ≡ self.old.ids }
     {
-        let place = self.streams.entry(id)?;
         self.members.insert(Member { session, id })?;
-        place.or_insert(entry);
-        Ok(())
+        match self.streams.insert(id, entry) {
+            Ok(_) => Ok(()),
+            Err(_) => {
+                self.members.remove(&Member { session, id });
+                Err(AllocError)
+            }
+        }
     }
 
     // Checks that a session is open.
@@ -262,31 +298,58 @@ impl Connection {
         ensures own { Untouched self.old.streams.entries self.new.streams.entries }
         ensures left { Left self.old.streams.entries self.new.streams.entries }
         ensures config { self.new.config ≡ self.old.config }
+        ensures goes { GoesOn [] self.old self.new }
     {
         if !self.ids.opens(id) {
             return Err(Refused::NotAsked);
         }
         self.reserve()?;
-        if self.control.is(id) {
-            self.control.is_opened = true;
-        } else if self.decoder.is(id) {
-            self.decoder.is_opened = true;
-        } else if self.encoder.is(id) {
-            self.encoder.is_opened = true;
-        } else {
-            self.opened_message(id)?;
-        }
+        self.note_opened(id)?;
         let kind = StreamKind::of(id);
-        self.ids.was_opened(kind);
+        self.count_opened(kind);
         Ok(self.tell_openable(kind)?)
     }
 
+    // QUIC has opened the next stream of a kind.
+    #[tactic(auto, using(crate::proofs::IdLemmas::goes_unopened))]
+    fn count_opened(&mut self, kind: StreamKind)
+        ensures own { Untouched self.old.streams.entries self.new.streams.entries }
+        ensures left { Left self.old.streams.entries self.new.streams.entries }
+        ensures config { self.new.config ≡ self.old.config }
+        ensures goes { GoesOn [] self.old self.new }
+    {
+        self.ids.was_opened(kind);
+    }
+
+    // QUIC has opened an own stream.
+    fn note_opened(&mut self, id: u64) -> Result<(), AllocError>
+        ensures own { Untouched self.old.streams.entries self.new.streams.entries }
+        ensures left { Left self.old.streams.entries self.new.streams.entries }
+        ensures config { self.new.config ≡ self.old.config }
+        ensures goes { GoesOn [] self.old self.new }
+    {
+        if self.control.is(id) {
+            self.control.is_opened = true;
+            return Ok(());
+        }
+        if self.decoder.is(id) {
+            self.decoder.is_opened = true;
+            return Ok(());
+        }
+        if self.encoder.is(id) {
+            self.encoder.is_opened = true;
+            return Ok(());
+        }
+        self.opened_message(id)
+    }
+
     // QUIC has opened an own stream that is not critical.
-    #[tactic(auto, using(crate::proofs::OwnLemmas::untouched_set, crate::proofs::TheirsLemmas::left_set))]
+    #[tactic(auto, using(crate::proofs::OwnLemmas::untouched_set, crate::proofs::TheirsLemmas::left_set, crate::proofs::GoesLemmas::goes_set))]
     fn opened_message(&mut self, id: u64) -> Result<(), AllocError>
         ensures own { Untouched self.old.streams.entries self.new.streams.entries }
         ensures left { Left self.old.streams.entries self.new.streams.entries }
         ensures config { self.new.config ≡ self.old.config }
+        ensures goes { GoesOn [] self.old self.new }
     {
         let Some(entry) = self.streams.get_mut(&id) else {
             return Ok(());

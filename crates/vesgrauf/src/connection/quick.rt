@@ -1,44 +1,64 @@
-//! What is read at once: a piece of content, where nothing else is due.
-ghost use Rattle.std.specs.Prelude.{◌≡◌, true, false, Ok, None, IfOk};
+//! What is read at once, where nothing else is due.
+ghost use Rattle.std.specs.Prelude.{◌≡◌, true, false, [], Ok, None, IfOk, OnOk};
+ghost use Rattle.vesgrauf.specs.Bounds.{IsBounded};
+ghost use Rattle.vesgrauf.specs.Progress.{IsSettled, IsQuiet, IsStill};
 ghost use Rattle.vesgrauf.specs.State.{is_over};
 ghost use Rattle.vesgrauf.specs.Own.{Untouched};
 ghost use Rattle.vesgrauf.specs.Theirs.{ReadsOn, Passes, Tells, TellsAll, told_in, told_if, told_by, content_if, content_in, content_found};
+ghost use Rattle.vesgrauf.specs.Told.{GoesOn, said_by, said_if_ok, told_by_call};
 ghost use Rattle.vesgrauf.specs.declared.input.Report.TheVariants as report;
 ghost use Rattle.vesgrauf_stream.specs.Reading.{bytes_of};
 ghost use Rattle.vesgrauf.specs.declared.config.OnMalformed.TheVariants as chosen;
 
 use crate::connection::{Connection, Step, Stop, internal};
 use crate::event::Event;
-use crate::input::Input;
+use crate::input::{Input, Report};
 use std::alloc::AllocError;
 use vesgrauf_stream::bytes::{Bytes, Chunk};
 use vesgrauf_stream::heard::Heard;
 use vesgrauf_stream::reading::Found;
 
 impl Connection {
-    // Returns whether nothing is due before an input.
+    // Returns whether nothing is due before an input. (Few branches: it is asked at each call.)
+    #[inline(always)]
     pub(super) fn is_quiet(&self) -> bool
-        ensures { result ≡ true → is_over self.now ≡ false }
+        ensures lasts { result ≡ true → is_over self.now ≡ false }
+        ensures quiet { result ≡ true → IsQuiet self.now }
     {
         self.events.is_empty()
             && self.ended.is_none()
             && self.pending.resumed.is_none()
             && !self.pending.begins_table
+            && self.pending.named.is_none()
+            && self.pending.unplaced.is_none()
             && self.datagrams.opened.is_empty()
             && self.told.is_empty()
             && self.tools.instructions.is_empty()
     }
 
+    // Returns whether nothing is due, and nothing came.
+    #[inline(always)]
+    #[tactic(auto, using(crate::proofs::ProgressLemmas::quiet_settled))]
+    pub(super) fn has_nothing_due(&self, input: &Input<'_>) -> bool
+        ensures lasts { result ≡ true → is_over self.now ≡ false }
+        ensures settled { result ≡ true → IsSettled self.now input.now }
+    {
+        matches!(input.report, Report::Nothing) && self.is_quiet() && self.is_still()
+    }
+
     // Returns whether nothing is due where there is no input.
-    pub(super) fn is_still(&self) -> bool {
+    #[inline(always)]
+    fn is_still(&self) -> bool
+        ensures { result ≡ true → IsStill self.now }
+    {
         !self.pending.is_woken
             && !self.pending.has_room
             && self.pending.unprocessed.is_none()
             && !self.is_leaving
     }
 
-    // Returns the next event of bytes of a stream, as `next_by_steps` does, where nothing is due before them. A piece of
-    // content is read at once, with one look-up.
+    // Returns the next event of bytes of a stream, as `next_by_steps` does, where nothing is due before them.
+    #[tactic(auto, using(crate::proofs::BoundLemmas::same_bounds))]
     pub(super) fn read_at_once<'a>(
         &mut self,
         id: u64,
@@ -50,6 +70,9 @@ impl Connection {
             → IfOk result (λ e. TellsAll self.old.ids (told_by e)
             self.old.streams.entries input.old self.new.streams.entries input.new) }
         ensures config { self.new.config ≡ self.old.config }
+        ensures goes { GoesOn (told_by_call result) self.old self.new }
+        ensures settled { result ≡ Ok None → IsSettled self.new input.new }
+        ensures bounded { IsBounded self.old → is_over self.new ≡ false → OnOk result (IsBounded self.new) }
     {
         if input.chunk.is_last() {
             return self.next_by_steps(input);
@@ -72,6 +95,9 @@ impl Connection {
             → IfOk result (λ e. TellsAll self.old.ids (told_by e)
             self.old.streams.entries input.old self.new.streams.entries input.new) }
         ensures config { self.new.config ≡ self.old.config }
+        ensures goes { GoesOn (told_by_call result) self.old self.new }
+        ensures settled { result ≡ Ok None → IsSettled self.new input.new }
+        ensures bounded { IsBounded self.old → is_over self.new ≡ false → OnOk result (IsBounded self.new) }
     {
         match self.step_at_once(id, input) {
             Ok(None) => self.next_by_steps(input),
@@ -94,6 +120,8 @@ impl Connection {
             self.old.streams.entries input.old self.new.streams.entries input.new) }
         ensures none { result ≡ Ok None → (input.new ≡ input.old) × (self.new.ids ≡ self.old.ids) }
         ensures config { self.new.config ≡ self.old.config }
+        ensures goes { GoesOn (said_if_ok result) self.old self.new }
+        ensures bounded { IsBounded self.old → OnOk result (IsBounded self.new) }
     {
         let len = input.chunk.len();
         match self.read_plain(id, &mut input.chunk)? {
@@ -106,7 +134,7 @@ impl Connection {
     }
 
     // Returns what is found in bytes of a stream that is read, of which nothing is kept and that waits for nothing.
-    #[tactic(auto, using(crate::proofs::OwnLemmas::untouched_set, crate::proofs::ReadsLemmas::reads_set, crate::proofs::ReadsLemmas::left_reads, crate::proofs::StepLemmas::left_itself))]
+    #[tactic(auto, using(crate::proofs::OwnLemmas::untouched_set, crate::proofs::ReadsLemmas::reads_set, crate::proofs::ReadsLemmas::left_reads, crate::proofs::StepLemmas::left_itself, crate::proofs::GoesLemmas::goes_set, crate::proofs::BoundLemmas::plain_all))]
     fn read_plain<'a>(&mut self, id: u64, chunk: &mut Chunk<'a>) -> Result<Option<Found<'a>>, Stop>
         ensures own { Untouched self.old.streams.entries self.new.streams.entries }
         ensures reads { IfOk result (λ found. ReadsOn id (content_if found) self.old.streams.entries chunk.old
@@ -114,6 +142,8 @@ impl Connection {
         ensures none { result ≡ Ok None → chunk.new ≡ chunk.old }
         ensures ids { self.new.ids ≡ self.old.ids }
         ensures config { self.new.config ≡ self.old.config }
+        ensures goes { GoesOn [] self.old self.new }
+        ensures bounded { IsBounded self.old → OnOk result (IsBounded self.new) }
     {
         let Some(entry) = self.streams.get_mut(&id) else {
             return Ok(None);
@@ -135,6 +165,8 @@ impl Connection {
             → IfOk result (λ s. Passes id (content_found found.entry) (told_in s)
             self.old.streams.entries input.old self.new.streams.entries input.new) }
         ensures config { self.new.config ≡ self.old.config }
+        ensures goes { GoesOn (said_by result) self.old self.new }
+        ensures bounded { IsBounded self.old → OnOk result (IsBounded self.new) }
     {
         match found {
             Found::Heard(heard) => self.heard_at_once(id, heard, input),
@@ -155,6 +187,8 @@ impl Connection {
             → IfOk result (λ s. Passes id (content_in heard.entry) (told_in s)
             self.old.streams.entries input.old self.new.streams.entries input.new) }
         ensures config { self.new.config ≡ self.old.config }
+        ensures goes { GoesOn (said_by result) self.old self.new }
+        ensures bounded { IsBounded self.old → OnOk result (IsBounded self.new) }
     {
         match heard {
             Heard::Data(bytes) => self.piece_came(id, bytes, input),
@@ -164,7 +198,7 @@ impl Connection {
     }
 
     // Tells a piece of content. Nothing follows it but more bytes, or the end.
-    #[tactic(auto, using(crate::proofs::ReadsLemmas::taken_passes))]
+    #[tactic(auto, using(crate::proofs::ReadsLemmas::taken_passes, crate::proofs::BoundLemmas::left_bounds))]
     fn piece_came<'a>(
         &mut self,
         id: u64,
@@ -175,12 +209,15 @@ impl Connection {
         ensures passes { IfOk result (λ s. Passes id (bytes_of bytes.entry) (told_in s)
             self.old.streams.entries input.old self.new.streams.entries input.new) }
         ensures config { self.new.config ≡ self.old.config }
+        ensures goes { GoesOn (said_by result) self.old self.new }
+        ensures bounded { IsBounded self.old → OnOk result (IsBounded self.new) }
     {
         input.end_if_read(self.held <= self.config.receive_buffer_all);
         self.content_came(id, bytes)
     }
 
     // Handles what was heard in bytes of a stream: anything but a piece of content.
+    #[tactic(auto, using(crate::proofs::BoundLemmas::left_bounds))]
     fn heard_else<'a>(
         &mut self,
         id: u64,
@@ -193,6 +230,8 @@ impl Connection {
             → IfOk result (λ s. Passes id (content_in heard.entry) (told_in s)
             self.old.streams.entries input.old self.new.streams.entries input.new) }
         ensures config { self.new.config ≡ self.old.config }
+        ensures goes { GoesOn (said_by result) self.old self.new }
+        ensures bounded { IsBounded self.old → OnOk result (IsBounded self.new) }
     {
         // (without memory for it, what the section says would be lost)
         if self.shared.acknowledge(id, &mut self.told).is_err() {

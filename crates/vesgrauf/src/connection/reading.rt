@@ -1,14 +1,17 @@
 //! Bytes of streams that came, and those that wait.
 ghost use Rattle.std.specs.Prelude.{◌≡◌, ◌≤◌, false, true, [], length, IfOk, OnOk};
+ghost use Rattle.vesgrauf.specs.Bounds.{Fits, IsBounded, most_kept};
 ghost use Rattle.vesgrauf.specs.State.{IsStill};
 ghost use Rattle.vesgrauf.specs.Own.{Untouched};
 ghost use Rattle.vesgrauf.specs.Theirs.{Left, Same, ReadsOn, ReadsKept, Hands, Passes, TellsKept, Tells, Gone, theirs_at, told_in, content_in, content_by, content_found};
+ghost use Rattle.vesgrauf.specs.Told.{GoesOn, said_by};
 ghost use Rattle.vesgrauf.specs.declared.input.Report.TheVariants as report;
 ghost use Rattle.vesgrauf.specs.declared.config.OnMalformed.TheVariants as chosen;
 
 use crate::connection::failing::EXCESSIVE_LOAD;
 use crate::connection::{Connection, Step, Stop, internal};
 use crate::entry::Peer;
+use crate::event::Why;
 use crate::input::{Input, Report};
 use crate::output::Output;
 use std::alloc::AllocError;
@@ -21,6 +24,7 @@ use wtp_webtransport::fault::Fault;
 
 impl Connection {
     // Takes in bytes of a stream.
+    #[tactic(auto, using(crate::proofs::BoundLemmas::left_bounds))]
     pub(super) fn stream_came<'a>(
         &mut self,
         id: u64,
@@ -31,6 +35,8 @@ impl Connection {
         ensures tells { input.old.report ≡ report.Stream id → IfOk result (λ s. Tells (told_in s)
             self.old.streams.entries input.old self.new.streams.entries input.new) }
         ensures config { self.new.config ≡ self.old.config }
+        ensures goes { GoesOn (said_by result) self.old self.new }
+        ensures bounded { IsBounded self.old → OnOk result (IsBounded self.new) }
     {
         self.instruct(id, input)?;
         self.note_end(id, input.chunk.is_last());
@@ -46,6 +52,7 @@ impl Connection {
             → OnOk result (Same self.old.streams.entries input.old self.new.streams.entries input.new) }
         ensures report { input.new.report ≡ input.old.report }
         ensures config { self.new.config ≡ self.old.config }
+        ensures goes { GoesOn [] self.old self.new }
     {
         if self.is_decoder(id) {
             self.read_decoder_stream(id, input)?;
@@ -54,13 +61,15 @@ impl Connection {
     }
 
     // Takes in bytes of a stream that are not for the own encoder.
-    #[tactic(auto, using(crate::proofs::ReadsLemmas::more_tells, crate::proofs::ReadsLemmas::left_more_tells))]
+    #[tactic(auto, using(crate::proofs::ReadsLemmas::more_tells, crate::proofs::ReadsLemmas::left_more_tells, crate::proofs::BoundLemmas::left_bounds))]
     fn bytes_came<'a>(&mut self, id: u64, input: &mut Input<'a>) -> Result<Step<'a>, Stop>
         ensures own { self.old.config.on_malformed ≡ chosen.Reset
             → Untouched self.old.streams.entries self.new.streams.entries }
         ensures tells { input.old.report ≡ report.Stream id → IfOk result (λ s. Tells (told_in s)
             self.old.streams.entries input.old self.new.streams.entries input.new) }
         ensures config { self.new.config ≡ self.old.config }
+        ensures goes { GoesOn (said_by result) self.old self.new }
+        ensures bounded { IsBounded self.old → OnOk result (IsBounded self.new) }
     {
         if !self.is_read(id) {
             self.drop_input(id, input)?;
@@ -75,11 +84,12 @@ impl Connection {
     }
 
     // Notes whether the end of the peer's half of a stream came.
-    #[tactic(auto, using(crate::proofs::OwnLemmas::untouched_set, crate::proofs::TheirsLemmas::left_set))]
+    #[tactic(auto, using(crate::proofs::OwnLemmas::untouched_set, crate::proofs::TheirsLemmas::left_set, crate::proofs::GoesLemmas::goes_set))]
     fn note_end(&mut self, id: u64, is_last: bool)
         ensures own { Untouched self.old.streams.entries self.new.streams.entries }
         ensures left { Left self.old.streams.entries self.new.streams.entries }
         ensures config { self.new.config ≡ self.old.config }
+        ensures goes { GoesOn [] self.old self.new }
     {
         if !is_last {
             return;
@@ -97,6 +107,7 @@ impl Connection {
         ensures same { input.old.report ≡ report.Stream id → theirs_at self.old.streams.entries id ≡ Gone
             → OnOk result (Same self.old.streams.entries input.old self.new.streams.entries input.new) }
         ensures config { self.new.config ≡ self.old.config }
+        ensures goes { GoesOn [] self.old self.new }
     {
         if input.chunk.is_last() {
             self.forget_stop(id);
@@ -110,12 +121,15 @@ impl Connection {
     }
 
     // Reads what is next in bytes of a stream.
+    #[tactic(auto, using(crate::proofs::BoundLemmas::left_bounds))]
     fn read_input<'a>(&mut self, id: u64, input: &mut Input<'a>) -> Result<Step<'a>, Stop>
         ensures own { self.old.config.on_malformed ≡ chosen.Reset
             → Untouched self.old.streams.entries self.new.streams.entries }
         ensures tells { input.old.report ≡ report.Stream id → IfOk result (λ s. Tells (told_in s)
             self.old.streams.entries input.old self.new.streams.entries input.new) }
         ensures config { self.new.config ≡ self.old.config }
+        ensures goes { GoesOn (said_by result) self.old self.new }
+        ensures bounded { IsBounded self.old → OnOk result (IsBounded self.new) }
     {
         let len = input.chunk.len();
         let heard = self.read(id, &mut input.chunk)?;
@@ -127,7 +141,7 @@ impl Connection {
     }
 
     // Handles what was heard in bytes of a stream.
-    #[tactic(auto, using(crate::proofs::ReadsLemmas::same_more_passes, crate::proofs::ReadsLemmas::left_more_passes, crate::proofs::ReadsLemmas::hands_passes))]
+    #[tactic(auto, using(crate::proofs::ReadsLemmas::same_more_passes, crate::proofs::ReadsLemmas::left_more_passes, crate::proofs::ReadsLemmas::hands_passes, crate::proofs::BoundLemmas::left_bounds))]
     pub(super) fn heard_in_input<'a>(
         &mut self,
         id: u64,
@@ -140,6 +154,8 @@ impl Connection {
             → IfOk result (λ s. Passes id (content_in heard.entry) (told_in s)
             self.old.streams.entries input.old self.new.streams.entries input.new) }
         ensures config { self.new.config ≡ self.old.config }
+        ensures goes { GoesOn (said_by result) self.old self.new }
+        ensures bounded { IsBounded self.old → OnOk result (IsBounded self.new) }
     {
         match heard {
             Heard::Event(Said::More) => {
@@ -163,6 +179,7 @@ impl Connection {
             → Untouched self.old.streams.entries self.new.streams.entries }
         ensures tells { IfOk result (λ s. TellsKept (told_in s) self.old.streams.entries self.new.streams.entries) }
         ensures config { self.new.config ≡ self.old.config }
+        ensures goes { GoesOn (said_by result) self.old self.new }
     {
         if !self.is_read(id) || self.is_paused(id) {
             self.pending.resumed = None;
@@ -182,6 +199,7 @@ impl Connection {
         ensures hands { IfOk result (λ s. Hands id (content_in heard.entry) (told_in s)
             self.old.streams.entries self.new.streams.entries) }
         ensures config { self.new.config ≡ self.old.config }
+        ensures goes { GoesOn (said_by result) self.old self.new }
     {
         match heard {
             Heard::Event(Said::More) => {
@@ -205,6 +223,7 @@ impl Connection {
         ensures reads { IfOk result (λ heard. ReadsKept id (content_by heard)
             self.old.streams.entries self.new.streams.entries) }
         ensures config { self.new.config ≡ self.old.config }
+        ensures goes { GoesOn [] self.old self.new }
     {
         let mut nothing = Chunk::new(&[], false);
         let heard = self.read(id, &mut nothing)?;
@@ -216,12 +235,14 @@ impl Connection {
     }
 
     // Returns what is heard next on a stream: nothing yet, if more of its bytes are to be looked at.
-    #[tactic(auto, using(crate::proofs::ReadsLemmas::reads_left, crate::proofs::ReadsLemmas::left_reads))]
+    #[tactic(auto, using(crate::proofs::ReadsLemmas::reads_left, crate::proofs::ReadsLemmas::left_reads, crate::proofs::OwnLemmas::untouched_set, crate::proofs::GoesLemmas::goes_set, crate::proofs::BoundLemmas::left_bounds))]
     fn read<'a>(&mut self, id: u64, chunk: &mut Chunk<'a>) -> Result<Option<Heard<'a>>, Stop>
         ensures own { Untouched self.old.streams.entries self.new.streams.entries }
         ensures reads { IfOk result (λ heard. ReadsOn id (content_by heard) self.old.streams.entries chunk.old
             self.new.streams.entries chunk.new) }
         ensures config { self.new.config ≡ self.old.config }
+        ensures goes { GoesOn [] self.old self.new }
+        ensures bounded { IsBounded self.old → OnOk result (IsBounded self.new) }
     {
         if let Some(session) = self.session_awaited(id) {
             let event = self.join(id, session)?;
@@ -240,12 +261,14 @@ impl Connection {
     }
 
     // Returns what is found next on a stream, and by how many bytes QUIC's windows are then to be extended.
-    #[tactic(auto, using(crate::proofs::OwnLemmas::untouched_set, crate::proofs::ReadsLemmas::reads_set, crate::proofs::ReadsLemmas::left_reads, crate::proofs::StepLemmas::left_itself))]
+    #[tactic(auto, using(crate::proofs::OwnLemmas::untouched_set, crate::proofs::ReadsLemmas::reads_set, crate::proofs::ReadsLemmas::left_reads, crate::proofs::StepLemmas::left_itself, crate::proofs::GoesLemmas::goes_set, crate::proofs::BoundLemmas::looked_all))]
     fn look<'a>(&mut self, id: u64, chunk: &mut Chunk<'a>) -> Result<(Found<'a>, usize), Stop>
         ensures own { Untouched self.old.streams.entries self.new.streams.entries }
         ensures reads { IfOk result (λ r. ReadsOn id (content_found r.0) self.old.streams.entries chunk.old
             self.new.streams.entries chunk.new) }
         ensures config { self.new.config ≡ self.old.config }
+        ensures goes { GoesOn [] self.old self.new }
+        ensures bounded { IsBounded self.old → OnOk result (IsBounded self.new) }
     {
         let Some(entry) = self.streams.get_mut(&id) else {
             return Ok((Found::Again, 0));
@@ -265,6 +288,7 @@ impl Connection {
         ensures own { Untouched self.old.streams.entries self.new.streams.entries }
         ensures left { Left self.old.streams.entries self.new.streams.entries }
         ensures config { self.new.config ≡ self.old.config }
+        ensures goes { GoesOn [] self.old self.new }
     {
         if len > 0 {
             self.outputs.push_back(Output::Credit(id, len))?;
@@ -288,13 +312,15 @@ impl Connection {
 
     // Keeps the bytes of the input, whose stream needs more, waits or is paused. QUIC's windows are extended by at most
     // `most` of them.
-    #[tactic(auto, using(crate::proofs::OwnLemmas::untouched_set, crate::proofs::TheirsLemmas::left_set, crate::proofs::ReadsLemmas::keep_set, crate::proofs::ReadsLemmas::same_left))]
+    #[tactic(auto, using(crate::proofs::OwnLemmas::untouched_set, crate::proofs::TheirsLemmas::left_set, crate::proofs::ReadsLemmas::keep_set, crate::proofs::ReadsLemmas::same_left, crate::proofs::GoesLemmas::goes_set, crate::proofs::BoundLemmas::checked_all))]
     fn keep<'a>(&mut self, id: u64, input: &mut Input<'a>, most: usize) -> Result<(), Stop>
         ensures own { self.old.config.on_malformed ≡ chosen.Reset
             → Untouched self.old.streams.entries self.new.streams.entries }
         ensures same { input.old.report ≡ report.Stream id
             → OnOk result (Same self.old.streams.entries input.old self.new.streams.entries input.new) }
         ensures config { self.new.config ≡ self.old.config }
+        ensures goes { GoesOn [] self.old self.new }
+        ensures bounded { IsBounded self.old → OnOk result (IsBounded self.new) }
     {
         let Some(entry) = self.streams.get_mut(&id) else {
             input.report = Report::Nothing;
@@ -313,12 +339,13 @@ impl Connection {
     }
 
     // Extends QUIC's windows by all that is kept of a stream: it is a frame that is cut, and the rest is to come.
-    #[tactic(auto, using(crate::proofs::OwnLemmas::untouched_set, crate::proofs::TheirsLemmas::left_set))]
+    #[tactic(auto, using(crate::proofs::OwnLemmas::untouched_set, crate::proofs::TheirsLemmas::left_set, crate::proofs::GoesLemmas::goes_set))]
     fn credit_kept(&mut self, id: u64) -> Result<(), Stop>
         ensures own { self.old.config.on_malformed ≡ chosen.Reset
             → Untouched self.old.streams.entries self.new.streams.entries }
         ensures left { Left self.old.streams.entries self.new.streams.entries }
         ensures config { self.new.config ≡ self.old.config }
+        ensures goes { GoesOn [] self.old self.new }
     {
         let Some(entry) = self.streams.get_mut(&id) else {
             return Ok(());
@@ -334,12 +361,14 @@ impl Connection {
     }
 
     // Checks the bounds of what is kept of a stream, and of all.
-    #[tactic(auto, using(crate::proofs::OwnLemmas::untouched_set, crate::proofs::TheirsLemmas::left_set))]
+    #[tactic(auto, using(crate::proofs::OwnLemmas::untouched_set, crate::proofs::TheirsLemmas::left_set, crate::proofs::GoesLemmas::goes_set, crate::proofs::BoundLemmas::kept_fits, crate::proofs::BoundLemmas::gone_fits))]
     fn check_kept(&mut self, id: u64) -> Result<(), Stop>
         ensures own { self.old.config.on_malformed ≡ chosen.Reset
             → Untouched self.old.streams.entries self.new.streams.entries }
         ensures left { Left self.old.streams.entries self.new.streams.entries }
         ensures config { self.new.config ≡ self.old.config }
+        ensures goes { GoesOn [] self.old self.new }
+        ensures fits { OnOk result (Fits (most_kept self.old.config) (theirs_at self.new.streams.entries id)) }
     {
         if self.held > self.config.receive_buffer_all {
             return Err(Stop::from(EXCESSIVE_LOAD));
@@ -352,13 +381,23 @@ impl Connection {
             return Ok(());
         }
         let event = entry.reading.overflow(&mut self.shared);
-        match self.said(id, event)? {
-            Step::Told(event) => {
-                self.events.push_back(event)?;
-                Ok(())
-            }
-            _ => Ok(()),
+        self.overflowed(id, event)
+    }
+
+    // Handles what is said of a stream of which more is kept than may. It is read no further.
+    fn overflowed(&mut self, id: u64, event: Said<'static>) -> Result<(), Stop>
+        ensures own { Untouched self.old.streams.entries self.new.streams.entries }
+        ensures left { Left self.old.streams.entries self.new.streams.entries }
+        ensures gone { OnOk result (theirs_at self.new.streams.entries id ≡ Gone) }
+        ensures config { self.new.config ≡ self.old.config }
+        ensures goes { GoesOn [] self.old self.new }
+    {
+        match event {
+            Said::StreamError(fault) => self.shut(id, fault.code(), Why::Fault(fault))?,
+            Said::ConnectionError(fault) => return Err(Stop::from(fault)),
+            _ => {}
         }
+        Ok(self.drop_peer(id)?)
     }
 
     // Counts the bytes that are kept of a stream and that QUIC's windows were extended by, which were so many before.
@@ -377,6 +416,7 @@ impl Connection {
             → OnOk result (Same self.old.streams.entries input.old self.new.streams.entries input.new) }
         ensures report { input.new.report ≡ input.old.report }
         ensures config { self.new.config ≡ self.old.config }
+        ensures goes { GoesOn [] self.old self.new }
     {
         match self
             .tools
@@ -432,7 +472,7 @@ impl Connection {
 }
 
 // Returns how many bytes are kept of all streams, where those of one were so many before.
-fn counted(held: usize, before: usize, after: usize) -> usize {
+pub(super) fn counted(held: usize, before: usize, after: usize) -> usize {
     held.saturating_sub(before).saturating_add(after)
 }
 

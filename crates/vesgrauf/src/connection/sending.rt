@@ -1,9 +1,13 @@
 //! What QUIC is to send and to do.
-ghost use Rattle.std.specs.Prelude.{◌≡◌, false, true, None, IfErr, IfSome, OnOk, OnErr};
-ghost use Rattle.vesgrauf.specs.State.{next_output, IsStill, IsRefused, ShowsNext, view_of, blocked_at, blocked_in, is_over, is_own};
+ghost use Rattle.std.specs.Prelude.{◌≡◌, ◌⊎◌, false, true, None, IfErr, IfSome, OnOk, OnErr, []};
+ghost use Rattle.vesgrauf.specs.State.{next_output, IsStill, IsRefused, ShowsNext, view_of, blocked_at, blocked_in, is_over, is_own, Of, stream_at};
+ghost use Rattle.vesgrauf.specs.Progress.{IsSent, NoneIsReady};
+ghost use Rattle.vesgrauf.specs.Streams.{IsNotDue, ShowsOwn};
+ghost use Rattle.vesgrauf_queue.specs.State.{Shows};
 ghost use Rattle.vesgrauf.specs.declared.refused.Refused.TheVariants as refused;
 ghost use Rattle.vesgrauf.specs.Own.{own_at, Took, TookAlone, Untouched, UntouchedBut};
 ghost use Rattle.vesgrauf.specs.Theirs.{Left, IsSilent};
+ghost use Rattle.vesgrauf.specs.Told.{GoesOn, said_in};
 
 use crate::connection::{Connection, Step};
 use crate::event::EventKind;
@@ -37,12 +41,13 @@ impl Connection {
     /// # Errors
     ///
     /// `NotAsked` if there is none. `Memory`: nothing changes, and the call is to be made again.
-    #[tactic(auto, using(crate::proofs::OwnLemmas::untouched_set, crate::proofs::TheirsLemmas::left_set))]
+    #[tactic(auto, using(crate::proofs::OwnLemmas::untouched_set, crate::proofs::TheirsLemmas::left_set, crate::proofs::GoesLemmas::goes_set))]
     pub fn output_taken(&mut self) -> Result<(), Refused>
         ensures refused { IfErr result (λ e. IsRefused e self.old self.new) }
         ensures own { Untouched self.old.streams.entries self.new.streams.entries }
         ensures left { Left self.old.streams.entries self.new.streams.entries }
         ensures config { self.new.config ≡ self.old.config }
+        ensures goes { GoesOn [] self.old self.new }
     {
         if self.closes.is_some() {
             self.closes = None;
@@ -66,36 +71,70 @@ impl Connection {
 
     /// Returns the bytes that QUIC is to send next, or `None` if no stream may be sent from, or all are blocked. They are
     /// the same until they are sent or the stream is blocked, and no call is made that sends or receives.
+    #[tactic(auto, using(crate::proofs::ProgressLemmas::all_sent))]
     pub fn next_send(&self) -> Option<Next<'_>>
         ensures next { IfSome result (λ n. ShowsNext self.now n.id n.bytes.now n.more.now n.fin) }
         ensures over { is_over self.now ≡ true → result ≡ None }
         ensures blocked { self.now.is_blocked ≡ true → result ≡ None }
+        ensures none { result ≡ None → is_over self.now ≡ false → self.now.is_blocked ≡ false → IsSent self.now }
     {
         if self.ended.is_some() || self.is_blocked {
             return None;
         }
-        if self.control.is_due() {
-            return self.control.next();
+        match self.control.next_due() {
+            Some(next) => Some(next),
+            None => self.next_of_qpack(),
         }
-        if self.decoder.is_due() {
-            return self.decoder.next();
+    }
+
+    // Returns the bytes that QUIC is to send next of a stream that is not the control stream.
+    fn next_of_qpack(&self) -> Option<Next<'_>>
+        ensures next { IfSome result (λ n. ShowsOwn self.now.decoder n.id n.bytes.now n.more.now n.fin
+            ⊎ (ShowsOwn self.now.encoder n.id n.bytes.now n.more.now n.fin
+            ⊎ Of (stream_at self.now n.id) (λ e. Shows e.writing.queue n.bytes.now n.more.now n.fin))) }
+        ensures decoder { result ≡ None → IsNotDue self.now.decoder }
+        ensures encoder { result ≡ None → IsNotDue self.now.encoder }
+        ensures none { result ≡ None → NoneIsReady self.now }
+    {
+        match self.decoder.next_due() {
+            Some(next) => Some(next),
+            None => self.next_of_encoder(),
         }
-        if self.encoder.is_due() {
-            return self.encoder.next();
+    }
+
+    // Returns the bytes that QUIC is to send next of the own encoder stream, or of a stream that is not critical.
+    fn next_of_encoder(&self) -> Option<Next<'_>>
+        ensures next { IfSome result (λ n. ShowsOwn self.now.encoder n.id n.bytes.now n.more.now n.fin
+            ⊎ Of (stream_at self.now n.id) (λ e. Shows e.writing.queue n.bytes.now n.more.now n.fin)) }
+        ensures encoder { result ≡ None → IsNotDue self.now.encoder }
+        ensures none { result ≡ None → NoneIsReady self.now }
+    {
+        match self.encoder.next_due() {
+            Some(next) => Some(next),
+            None => self.next_of_streams(),
         }
-        let Some(id) = self.ready.next() else {
-            return None;
-        };
-        let Some(entry) = self.streams.get(&id) else {
-            return None;
-        };
-        match entry.writing.next() {
-            Some(next) => Some(Next {
-                id,
-                bytes: next.bytes,
-                more: next.more,
-                fin: next.fin,
-            }),
+    }
+
+    // Returns the bytes that QUIC is to send next of a stream that is not critical.
+    #[tactic(auto, using(crate::proofs::ProgressLemmas::turn_gone, crate::proofs::ProgressLemmas::turn_idle))]
+    fn next_of_streams(&self) -> Option<Next<'_>>
+        ensures next { IfSome result (λ n. Of (stream_at self.now n.id)
+            (λ e. Shows e.writing.queue n.bytes.now n.more.now n.fin)) }
+        ensures none { result ≡ None → NoneIsReady self.now }
+    {
+        match self.ready.next() {
+            Some(id) => match self.streams.get(&id) {
+                Some(entry) => match entry.writing.next() {
+                    Some(next) => Some(Next {
+                        id,
+                        bytes: next.bytes,
+                        more: next.more,
+                        fin: next.fin,
+                    }),
+                    None => None,
+                },
+                None => None,
+            },
             None => None,
         }
     }
@@ -112,6 +151,7 @@ impl Connection {
         ensures own { UntouchedBut id self.old.streams.entries self.new.streams.entries }
         ensures took { OnOk result (is_own self.old id ≡ false
             → TookAlone len (own_at self.old.streams.entries id) (own_at self.new.streams.entries id)) }
+        ensures goes { GoesOn [] self.old self.new }
     {
         self.reserve()?;
         let spares = &mut self.tools.spares;
@@ -134,6 +174,7 @@ impl Connection {
         ensures own { UntouchedBut id self.old.streams.entries self.new.streams.entries }
         ensures took { OnOk result (TookAlone len (own_at self.old.streams.entries id)
             (own_at self.new.streams.entries id)) }
+        ensures goes { GoesOn [] self.old self.new }
     {
         let is_done = self.message_sent(id, len)?;
         Ok(self.after_sent(id, is_done)?)
@@ -142,6 +183,9 @@ impl Connection {
     // QUIC took bytes of a stream: there may be room again, or nothing is to be done for its own half any more.
     fn after_sent(&mut self, id: u64, is_done: bool) -> Result<(), AllocError>
         ensures own { Untouched self.old.streams.entries self.new.streams.entries }
+        ensures goes { GoesOn [] self.old self.new }
+        ensures left { Left self.old.streams.entries self.new.streams.entries }
+        ensures config { self.new.config ≡ self.old.config }
     {
         self.note_room(id);
         if is_done {
@@ -151,12 +195,13 @@ impl Connection {
     }
 
     // QUIC took bytes of a stream that is not critical. Returns whether nothing is to be done for its own half any more.
-    #[tactic(auto, using(crate::proofs::OwnLemmas::took_set, std::proofs::lemmas::Map::Steps::set_value_same))]
+    #[tactic(auto, using(crate::proofs::OwnLemmas::took_set, crate::proofs::GoesLemmas::goes_set, std::proofs::lemmas::Map::Steps::set_value_same))]
     fn message_sent(&mut self, id: u64, len: usize) -> Result<bool, Refused>
         ensures refused { OnErr result (IsStill self.old self.new) }
         ensures own { UntouchedBut id self.old.streams.entries self.new.streams.entries }
         ensures took { OnOk result (Took len (own_at self.old.streams.entries id)
             (own_at self.new.streams.entries id)) }
+        ensures goes { GoesOn [] self.old self.new }
     {
         let Some(entry) = self.streams.get_mut(&id) else {
             return Err(Refused::NoStream);
@@ -176,6 +221,7 @@ impl Connection {
         ensures own { Untouched self.old.streams.entries self.new.streams.entries }
         ensures left { Left self.old.streams.entries self.new.streams.entries }
         ensures config { self.new.config ≡ self.old.config }
+        ensures goes { GoesOn [] self.old self.new }
     {
         // (one that is passed over is looked at once more)
         let is_passed = id < self.pending.cursor;
@@ -188,22 +234,20 @@ impl Connection {
     }
 
     // Tells of the next stream that has room again.
-    #[tactic(auto, using(crate::proofs::OwnLemmas::untouched_set, crate::proofs::TheirsLemmas::left_set))]
+    #[tactic(auto, using(crate::proofs::OwnLemmas::untouched_set, crate::proofs::TheirsLemmas::left_set, crate::proofs::GoesLemmas::goes_set))]
     pub(super) fn next_writable<'a>(&mut self) -> Step<'a>
         ensures own { Untouched self.old.streams.entries self.new.streams.entries }
         ensures left { Left self.old.streams.entries self.new.streams.entries }
         ensures silent { IsSilent result }
         ensures config { self.new.config ≡ self.old.config }
+        ensures goes { GoesOn (said_in result) self.old self.new }
     {
         for _stream in 0..self.full.len() {
             let Some(id) = self.next_full() else {
                 break;
             };
             self.pending.cursor = id.saturating_add(1);
-            let Some(entry) = self.streams.get_mut(&id) else {
-                continue;
-            };
-            if entry.writing.take_writable() {
+            if self.take_writable(id) {
                 self.full.remove(&id);
                 return self.tell(id, EventKind::Writable);
             }
@@ -211,6 +255,20 @@ impl Connection {
         self.pending.has_room = false;
         self.pending.cursor = 0;
         Step::More
+    }
+
+    // Returns whether a `Writable` is owed on a stream, which is then told.
+    #[tactic(auto, using(crate::proofs::OwnLemmas::untouched_set, crate::proofs::TheirsLemmas::left_set, crate::proofs::GoesLemmas::goes_set))]
+    fn take_writable(&mut self, id: u64) -> bool
+        ensures own { Untouched self.old.streams.entries self.new.streams.entries }
+        ensures left { Left self.old.streams.entries self.new.streams.entries }
+        ensures config { self.new.config ≡ self.old.config }
+        ensures goes { GoesOn [] self.old self.new }
+    {
+        match self.streams.get_mut(&id) {
+            Some(entry) => entry.writing.take_writable(),
+            None => false,
+        }
     }
 
     fn next_full(&self) -> Option<u64> {
@@ -225,12 +283,13 @@ impl Connection {
     ///
     /// `NotAsked` if QUIC did not take so many. `Memory`: nothing changes, and the call is to be made again. There is
     /// none if the stream is forgotten.
-    #[tactic(auto, using(crate::proofs::OwnLemmas::untouched_set, crate::proofs::TheirsLemmas::left_set, std::proofs::lemmas::Map::Steps::set_value_same))]
+    #[tactic(auto, using(crate::proofs::OwnLemmas::untouched_set, crate::proofs::TheirsLemmas::left_set, crate::proofs::GoesLemmas::goes_set, std::proofs::lemmas::Map::Steps::set_value_same))]
     pub fn acked(&mut self, id: u64, len: u64) -> Result<(), Refused>
         ensures refused { IfErr result (λ e. IsRefused e self.old self.new) }
         ensures own { Untouched self.old.streams.entries self.new.streams.entries }
         ensures left { Left self.old.streams.entries self.new.streams.entries }
         ensures config { self.new.config ≡ self.old.config }
+        ensures goes { GoesOn [] self.old self.new }
     {
         self.reserve()?;
         let spares = &mut self.tools.spares;
@@ -247,8 +306,8 @@ impl Connection {
             return Ok(());
         };
         entry.writing.acked(spares, len)?;
-        self.note_room(id);
-        Ok(self.after_end(id)?)
+        let is_done = entry.writing.is_done();
+        Ok(self.after_sent(id, is_done)?)
     }
 
     /// QUIC takes nothing of this for now, or does again. What is said of one scope does not change another: a stream
@@ -257,10 +316,12 @@ impl Connection {
     /// # Errors
     ///
     /// `Memory`: nothing changes, and the call is to be made again.
+    #[tactic(auto, using(crate::proofs::IdLemmas::goes_blocked))]
     pub fn set_blocked(&mut self, scope: Scope, blocked: bool) -> Result<(), Refused>
         ensures ok { OnOk result (view_of self.new ≡ blocked_at scope self.old blocked) }
         ensures err { IfErr result (λ e. e ≡ refused.Memory) }
         ensures kept { OnErr result (IsStill self.old self.new) }
+        ensures goes { GoesOn [] self.old self.new }
     {
         match scope {
             Scope::Kind(kind) => {
@@ -276,11 +337,12 @@ impl Connection {
     }
 
     // QUIC takes nothing of a stream for now, or does again.
-    #[tactic(auto, using(std::proofs::lemmas::Map::Steps::set_value_same))]
+    #[tactic(auto, using(std::proofs::lemmas::Map::Steps::set_value_same, crate::proofs::GoesLemmas::goes_set))]
     fn block_stream(&mut self, id: u64, blocked: bool) -> Result<(), Refused>
         ensures ok { OnOk result (view_of self.new ≡ blocked_in self.old id blocked) }
         ensures err { IfErr result (λ e. e ≡ refused.Memory) }
         ensures kept { OnErr result (IsStill self.old self.new) }
+        ensures goes { GoesOn [] self.old self.new }
     {
         if self.control.is(id) {
             self.control.is_blocked = blocked;

@@ -1,9 +1,10 @@
 //! Sessions.
-ghost use Rattle.std.specs.Prelude.{◌≡◌, ◌⊎◌, true, Ok, Err, OnOk, OnErr, IfErr, IfOk};
+ghost use Rattle.std.specs.Prelude.{◌≡◌, ◌⊎◌, true, Ok, Err, OnOk, OnErr, IfErr, IfOk, []};
 ghost use Rattle.vesgrauf_stream.specs.Writing.{Drains};
 ghost use Rattle.vesgrauf.specs.State.{IsStill, IsRefused, Changes, IsWhy, RefusesDrain, is_over, open_session};
 ghost use Rattle.vesgrauf.specs.Own.{Untouched, UntouchedBut};
 ghost use Rattle.vesgrauf.specs.Theirs.{Left, IsSilent};
+ghost use Rattle.vesgrauf.specs.Told.{GoesOn, said_by, said_in};
 
 use crate::connection::{Connection, Step, Stop};
 use crate::entry::SHARED;
@@ -17,12 +18,13 @@ use wtp_messages::response::Asked;
 
 impl Connection {
     // A request for a session came. One above the limit is rejected.
-    #[tactic(auto, using(crate::proofs::OwnLemmas::untouched_set, crate::proofs::TheirsLemmas::left_set))]
+    #[tactic(auto, using(crate::proofs::OwnLemmas::untouched_set, crate::proofs::TheirsLemmas::left_set, crate::proofs::GoesLemmas::goes_after))]
     pub(super) fn session_came(&mut self, id: u64, list: FieldList) -> Result<Step<'static>, Stop>
         ensures own { Untouched self.old.streams.entries self.new.streams.entries }
         ensures left { Left self.old.streams.entries self.new.streams.entries }
         ensures silent { IfOk result IsSilent }
         ensures config { self.new.config ≡ self.old.config }
+        ensures goes { GoesOn (said_by result) self.old self.new }
     {
         if self.sessions >= self.config.max_sessions {
             return self.reject(id, Some(id));
@@ -34,11 +36,12 @@ impl Connection {
     }
 
     // The request on a stream asks for a session.
-    #[tactic(auto, using(crate::proofs::TheirsLemmas::left_set, crate::proofs::OwnLemmas::untouched_set))]
+    #[tactic(auto, using(crate::proofs::TheirsLemmas::left_set, crate::proofs::OwnLemmas::untouched_set, crate::proofs::GoesLemmas::goes_set, crate::proofs::GoesSteps::goes_then_set,))]
     fn begin_session(&mut self, id: u64)
         ensures own { Untouched self.old.streams.entries self.new.streams.entries }
         ensures left { Left self.old.streams.entries self.new.streams.entries }
         ensures config { self.new.config ≡ self.old.config }
+        ensures goes { GoesOn [] self.old self.new }
     {
         self.note_request(id, Asked::Session);
         self.sessions = self.sessions.saturating_add(1);
@@ -50,7 +53,7 @@ impl Connection {
     }
 
     // The server accepted a session. It is lost if the server stopped the own half before.
-    #[tactic(auto, using(crate::proofs::OwnLemmas::untouched_set, crate::proofs::TheirsLemmas::left_set))]
+    #[tactic(auto, using(crate::proofs::OwnLemmas::untouched_set, crate::proofs::TheirsLemmas::left_set, crate::proofs::GoesLemmas::goes_after))]
     pub(super) fn session_ready(
         &mut self,
         id: u64,
@@ -61,6 +64,7 @@ impl Connection {
         ensures left { Left self.old.streams.entries self.new.streams.entries }
         ensures silent { IfOk result IsSilent }
         ensures config { self.new.config ≡ self.old.config }
+        ensures goes { GoesOn (said_by result) self.old self.new }
     {
         let Some(entry) = self.streams.get_mut(&id) else {
             return Ok(Step::More);
@@ -87,8 +91,9 @@ impl Connection {
         ensures left { Left self.old.streams.entries self.new.streams.entries }
         ensures silent { IfOk result IsSilent }
         ensures config { self.new.config ≡ self.old.config }
+        ensures goes { GoesOn (said_by result) self.old self.new }
     {
-        self.end_own(id)?;
+        self.end_own(id);
         self.end_session(id)?;
         Ok(self.tell(id, EventKind::Response(status, list)))
     }
@@ -119,6 +124,7 @@ impl Connection {
         ensures own { Untouched self.old.streams.entries self.new.streams.entries }
         ensures left { Left self.old.streams.entries self.new.streams.entries }
         ensures config { self.new.config ≡ self.old.config }
+        ensures goes { GoesOn [] self.old self.new }
     {
         let session = self.datagrams.opened.front().copied()?;
         if let Some(id) = self.pending.resumed {
@@ -147,6 +153,7 @@ impl Connection {
     pub fn tick(&mut self)
         ensures over { is_over self.old ≡ true → self.new ≡ self.old }
         ensures still { IsStill self.old self.new }
+        ensures goes { GoesOn [] self.old self.new }
     {
         if self.ended.is_some() {
             return;
@@ -162,6 +169,7 @@ impl Connection {
         ensures left { Left self.old.streams.entries self.new.streams.entries }
         ensures silent { IsSilent result }
         ensures config { self.new.config ≡ self.old.config }
+        ensures goes { GoesOn (said_in result) self.old self.new }
     {
         if let Some(step) = self.early_of(session) {
             return step;
@@ -183,13 +191,14 @@ impl Connection {
     /// # Errors
     ///
     /// Nothing changes. `Closed`; `SessionGone`; `NotOpen`; and `Memory`.
-    #[tactic(auto, using(std::proofs::lemmas::Map::Steps::set_value_same))]
+    #[tactic(auto, using(std::proofs::lemmas::Map::Steps::set_value_same, crate::proofs::GoesLemmas::goes_set))]
     pub fn drain_session(&mut self, session: u64) -> Result<(), Refused>
         ensures open { OnOk result (open_session self.old session ≡ Ok tt) }
         ensures ok { OnOk result (Changes session Drains self.old self.new) }
         ensures why { IfErr result (λ e. (open_session self.old session ≡ Err e)
             ⊎ IsWhy RefusesDrain self.old session e) }
         ensures kept { OnErr result (IsStill self.old self.new) }
+        ensures goes { GoesOn [] self.old self.new }
     {
         self.check_session(session)?;
         self.begin_send(session)?;
@@ -202,8 +211,9 @@ impl Connection {
     }
 
     /// Closes a session, with a code and a reason of the application. Its streams are reset and stopped
-    /// (draft-ietf-webtrans-http3-02, section 5). The code and the reason are sent on the session's own stream, so they need
-    /// the peer's windows: [`abort`](Self::abort) of that stream ends the session without them.
+    /// (draft-ietf-webtrans-http3-02, section 5), and its datagrams that wait are dropped (RFC 9297, section 2.1). The code
+    /// and the reason are sent on the session's own stream, so they need the peer's windows: [`abort`](Self::abort) of that
+    /// stream ends the session without them.
     ///
     /// # Errors
     ///
@@ -213,6 +223,7 @@ impl Connection {
         ensures refused { IfErr result (λ e. IsRefused e self.old self.new) }
         ensures own { UntouchedBut session self.old.streams.entries self.new.streams.entries }
         ensures left { Left self.old.streams.entries self.new.streams.entries }
+        ensures goes { GoesOn [] self.old self.new }
     {
         self.check_session(session)?;
         self.put_close(session, code, reason)?;
@@ -220,26 +231,40 @@ impl Connection {
     }
 
     // Queues the end of a session.
-    #[tactic(auto, using(crate::proofs::TheirsLemmas::left_set, std::proofs::lemmas::Map::Steps::set_value_same))]
+    #[tactic(auto, using(crate::proofs::TheirsLemmas::left_set, std::proofs::lemmas::Map::Steps::set_value_same, crate::proofs::GoesLemmas::goes_set))]
     fn put_close(&mut self, session: u64, code: u32, reason: &str) -> Result<(), Refused>
         ensures kept { OnErr result (IsStill self.old self.new) }
         ensures own { UntouchedBut session self.old.streams.entries self.new.streams.entries }
         ensures left { Left self.old.streams.entries self.new.streams.entries }
         ensures config { self.new.config ≡ self.old.config }
+        ensures goes { GoesOn [] self.old self.new }
     {
         self.begin_send(session)?;
+        let result = self.close_half(session, code, reason);
+        self.end_send(session);
+        result
+    }
+
+    // Ends the own half of a session, by its end or by a code and a reason.
+    #[tactic(auto, using(crate::proofs::TheirsLemmas::left_set, std::proofs::lemmas::Map::Steps::set_value_same, crate::proofs::GoesLemmas::goes_set))]
+    fn close_half(&mut self, session: u64, code: u32, reason: &str) -> Result<(), Refused>
+        ensures kept { OnErr result (IsStill self.old self.new) }
+        ensures own { UntouchedBut session self.old.streams.entries self.new.streams.entries }
+        ensures left { Left self.old.streams.entries self.new.streams.entries }
+        ensures config { self.new.config ≡ self.old.config }
+        ensures goes { GoesOn [] self.old self.new }
+    {
         let Some(entry) = self.streams.get_mut(&session) else {
             return Err(Refused::NotOpen);
         };
-        let result = if code == 0 && reason.is_empty() {
-            entry.writing.finish()
-        } else {
+        if code == 0 && reason.is_empty() {
+            return Ok(entry.writing.finish()?);
+        }
+        Ok(
             entry
                 .writing
-                .close(self.alloc, &mut self.tools.spares, code, reason)
-        };
-        self.end_send(session);
-        Ok(result?)
+                .close(self.alloc, &mut self.tools.spares, code, reason)?,
+        )
     }
 
     // The end of a session is queued: what follows for its streams.
@@ -247,6 +272,7 @@ impl Connection {
         ensures own { Untouched self.old.streams.entries self.new.streams.entries }
         ensures left { Left self.old.streams.entries self.new.streams.entries }
         ensures config { self.new.config ≡ self.old.config }
+        ensures goes { GoesOn [] self.old self.new }
     {
         self.end_session(session)?;
         self.drop_peer(session)?;

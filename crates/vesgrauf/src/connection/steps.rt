@@ -1,7 +1,10 @@
 //! Steps, until one of them tells an event.
-ghost use Rattle.std.specs.Prelude.{◌≡◌, [], Ok, true, false, IfOk, IfSome};
+ghost use Rattle.std.specs.Prelude.{◌≡◌, [], Ok, None, true, false, IfOk, IfSome, OnOk};
 ghost use Rattle.vesgrauf.specs.Own.{Untouched};
+ghost use Rattle.vesgrauf.specs.Bounds.{IsBounded};
+ghost use Rattle.vesgrauf.specs.Progress.{IsSettled};
 ghost use Rattle.vesgrauf.specs.State.{is_over, is_last, go_on, IsAfterEnd, IsSomeOk, IsTold};
+ghost use Rattle.vesgrauf.specs.Told.{GoesOn, ends, word_of, said_by, told_now, told_by_call};
 ghost use Rattle.vesgrauf.specs.Theirs.{Accepts, Tells, TellsAll, told_by, told_in, piece_of};
 ghost use Rattle.vesgrauf.specs.declared.config.OnMalformed.TheVariants as chosen;
 
@@ -12,7 +15,7 @@ use std::alloc::AllocError;
 
 impl Connection {
     // Returns the next event, as `next_event` does: the first that is queued, or that of as many steps as it takes.
-    #[tactic(auto, using(crate::proofs::StepLemmas::queued_all))]
+    #[tactic(auto, using(crate::proofs::StepLemmas::queued_all, crate::proofs::BoundLemmas::same_bounds))]
     pub(super) fn next_by_steps<'a>(
         &mut self,
         input: &mut Input<'a>,
@@ -24,6 +27,9 @@ impl Connection {
         ensures told { is_over self.new ≡ false → IfOk result (λ e. TellsAll self.old.ids (told_by e)
             self.old.streams.entries input.old self.new.streams.entries input.new) }
         ensures config { self.new.config ≡ self.old.config }
+        ensures goes { GoesOn (told_by_call result) self.old self.new }
+        ensures settled { result ≡ Ok None → IsSettled self.new input.new }
+        ensures bounded { IsBounded self.old → is_over self.new ≡ false → OnOk result (IsBounded self.new) }
     {
         if let Some(event) = self.first_queued() {
             return Ok(Some(event));
@@ -32,6 +38,7 @@ impl Connection {
     }
 
     // Returns the next event, after the streams up to that of the input are registered.
+    #[tactic(auto, using(crate::proofs::BoundLemmas::start_bounds))]
     fn accept_and_step<'a>(
         &mut self,
         input: &mut Input<'a>,
@@ -43,6 +50,9 @@ impl Connection {
         ensures told { is_over self.new ≡ false → IfOk result (λ e. TellsAll self.old.ids (told_by e)
             self.old.streams.entries input.old self.new.streams.entries input.new) }
         ensures config { self.new.config ≡ self.old.config }
+        ensures goes { GoesOn (told_by_call result) self.old self.new }
+        ensures settled { result ≡ Ok None → IsSettled self.new input.new }
+        ensures bounded { IsBounded self.old → is_over self.new ≡ false → OnOk result (IsBounded self.new) }
     {
         self.accept_or_fail(input.report)?;
         self.take_steps(input)
@@ -55,6 +65,7 @@ impl Connection {
         ensures accepts { is_over self.new ≡ false
             → Accepts self.old.ids self.old.streams.entries self.new.ids self.new.streams.entries }
         ensures config { self.new.config ≡ self.old.config }
+        ensures goes { GoesOn [] self.old self.new }
     {
         if self.ended.is_some() {
             return Ok(());
@@ -70,7 +81,7 @@ impl Connection {
     }
 
     // Returns the next event, by as many steps as it takes.
-    #[tactic(auto, using(crate::proofs::StepLemmas::quiet_then, crate::proofs::StepLemmas::queued_tells, crate::proofs::StepLemmas::nothing_tells))]
+    #[tactic(auto, using(crate::proofs::StepLemmas::quiet_then, crate::proofs::StepLemmas::queued_tells, crate::proofs::StepLemmas::nothing_tells, crate::proofs::BoundLemmas::same_bounds))]
     pub(super) fn take_steps<'a>(
         &mut self,
         input: &mut Input<'a>,
@@ -83,6 +94,9 @@ impl Connection {
         ensures told { is_over self.new ≡ false → IfOk result (λ e. Tells (told_by e)
             self.old.streams.entries input.old self.new.streams.entries input.new) }
         ensures config { self.new.config ≡ self.old.config }
+        ensures goes { GoesOn (told_by_call result) self.old self.new }
+        ensures settled { result ≡ Ok None → IsSettled self.new input.new }
+        ensures bounded { IsBounded self.old → is_over self.new ≡ false → OnOk result (IsBounded self.new) }
     {
         for _step in 0..u64::MAX {
             if let Some(event) = self.first_queued() {
@@ -90,14 +104,19 @@ impl Connection {
             }
             match self.try_step(input)? {
                 Step::Told(event) => return Ok(Some(event)),
-                Step::Nothing => return Ok(None),
+                Step::Nothing => {
+                    self.check_settled(input)?;
+                    return Ok(None);
+                }
                 Step::More => {}
             }
         }
-        Ok(None)
+        // (after so many steps the call is to be made again)
+        Err(AllocError)
     }
 
     // Takes a step, before the end of the connection or after it.
+    #[tactic(auto, using(crate::proofs::BoundLemmas::left_bounds))]
     fn try_step<'a>(&mut self, input: &mut Input<'a>) -> Result<Step<'a>, AllocError>
         ensures last { IsAfterEnd self.old → IfOk result (λ s. IsTold s (λ e. is_last e.kind ≡ true)) }
         ensures over { IsAfterEnd self.old → IsAfterEnd self.new }
@@ -107,6 +126,8 @@ impl Connection {
         ensures told { is_over self.new ≡ false → IfOk result (λ s. Tells (told_in s)
             self.old.streams.entries input.old self.new.streams.entries input.new) }
         ensures config { self.new.config ≡ self.old.config }
+        ensures goes { GoesOn (said_by result) self.old self.new }
+        ensures bounded { IsBounded self.old → is_over self.new ≡ false → OnOk result (IsBounded self.new) }
     {
         match self.ended {
             Some(ended) => Ok(self.step_after_end(ended, input)),
@@ -121,6 +142,8 @@ impl Connection {
         ensures told { is_over self.new ≡ false → IfOk result (λ s. Tells (told_in s)
             self.old.streams.entries input.old self.new.streams.entries input.new) }
         ensures config { self.new.config ≡ self.old.config }
+        ensures goes { GoesOn (said_by result) self.old self.new }
+        ensures bounded { IsBounded self.old → is_over self.new ≡ false → OnOk result (IsBounded self.new) }
     {
         let stream = self.stream_at_hand(input);
         match self.step(input) {
@@ -134,6 +157,7 @@ impl Connection {
     }
 
     // Takes the first event that is queued. Content never is.
+    #[tactic(auto, using(crate::proofs::GoesLemmas::goes_told_first, crate::proofs::GoesLemmas::goes_dropped))]
     fn first_queued<'a>(&mut self) -> Option<Event<'a>>
         ensures silent { IfSome result (λ e. piece_of e.kind ≡ []) }
         ensures last { go_on self.old.events.items ≡ false → IfSome result (λ e. is_last e.kind ≡ true) }
@@ -142,16 +166,19 @@ impl Connection {
         ensures ended { self.new.ended ≡ self.old.ended }
         ensures ids { self.new.ids ≡ self.old.ids }
         ensures config { self.new.config ≡ self.old.config }
+        ensures goes { GoesOn (told_now result) self.old self.new }
     {
-        match self.events.pop_front() {
-            Some(event) if !is_content(&event) => Some(self.numbered(event)),
-            _ => None,
+        let event = self.events.pop_front()?;
+        if is_content(&event) {
+            return None;
         }
+        Some(self.numbered(event))
     }
 
     // Returns an event that was queued, with the number that the program has given its stream since.
     fn numbered<'a>(&self, event: Event<'a>) -> Event<'a>
-        ensures { result.kind ≡ event.entry.kind }
+        ensures kind { result.kind ≡ event.entry.kind }
+        ensures stream { result.stream ≡ event.entry.stream }
     {
         let mut event = event;
         if let (EventKind::Stopped(_), Some(entry)) = (
@@ -166,7 +193,8 @@ impl Connection {
 
 // Returns whether an event tells content.
 fn is_content(event: &Event<'_>) -> bool
-    ensures { result ≡ false → piece_of event.now.kind ≡ [] }
+    ensures silent { result ≡ false → piece_of event.now.kind ≡ [] }
+    ensures goes_on { result ≡ true → ends (word_of event.now.kind) ≡ false }
 {
     matches!(event.kind, EventKind::Data(_))
 }

@@ -1,9 +1,11 @@
 //! The own streams of QPACK (RFC 9204, sections 4.2 to 4.4).
-ghost use Rattle.std.specs.Prelude.{◌≡◌, OnOk, IfErr};
+ghost use Rattle.std.specs.Prelude.{◌≡◌, OnOk, IfErr, []};
 ghost use Rattle.vesgrauf.specs.State.{IsStill, Instructs, SaysAll, SaysOrWaits, view_of, with_begun};
 ghost use Rattle.vesgrauf.specs.declared.connection.Stop.TheVariants as stop;
+ghost use Rattle.vesgrauf.specs.Bounds.{InstructionsFit};
 ghost use Rattle.vesgrauf.specs.Own.{Untouched};
 ghost use Rattle.vesgrauf.specs.Theirs.{Left};
+ghost use Rattle.vesgrauf.specs.Told.{GoesOn};
 
 use crate::connection::failing::EXCESSIVE_LOAD;
 use crate::connection::{Connection, Stop};
@@ -25,14 +27,24 @@ impl Connection {
     pub(super) fn begin_decoder(&mut self) -> Result<(), AllocError>
         ensures others { view_of self.new ≡ with_begun self.new (view_of self.old) }
         ensures control { self.new.control ≡ self.old.control }
+        ensures goes { GoesOn [] self.old self.new }
     {
         if self.config.qpack_max_table_capacity == 0 {
             return Ok(());
         }
         self.told.push(DECODER_TYPE)?;
-        self.decoder.id = self.ids.next(StreamKind::Unidirectional);
-        self.ids.take(StreamKind::Unidirectional);
+        self.decoder.id = self.take_critical();
         Ok(())
+    }
+
+    // Takes the ID of an own critical stream, if there is one left.
+    pub(super) fn take_critical(&mut self) -> Option<u64>
+        ensures others { self.new ≡ record self.old { ids = self.new.ids } }
+        ensures goes { GoesOn [] self.old self.new }
+    {
+        let id = self.ids.next(StreamKind::Unidirectional);
+        self.ids.take(StreamKind::Unidirectional);
+        id
     }
 
     // Begins the own dynamic table, if the peer's SETTINGS came and allow one.
@@ -40,29 +52,41 @@ impl Connection {
         ensures own { Untouched self.old.streams.entries self.new.streams.entries }
         ensures left { Left self.old.streams.entries self.new.streams.entries }
         ensures config { self.new.config ≡ self.old.config }
+        ensures goes { GoesOn [] self.old self.new }
     {
         if !self.pending.begins_table {
             return Ok(());
         }
+        self.open_encoder()?;
+        self.pending.begins_table = false;
+        Ok(())
+    }
+
+    // Opens the own encoder stream, if the peer allows a table.
+    fn open_encoder(&mut self) -> Result<(), Stop>
+        ensures own { Untouched self.old.streams.entries self.new.streams.entries }
+        ensures left { Left self.old.streams.entries self.new.streams.entries }
+        ensures config { self.new.config ≡ self.old.config }
+        ensures goes { GoesOn [] self.old self.new }
+    {
         let peer = self.shared.peer_settings();
         let capacity = peer
             .qpack_max_table_capacity
             .min(u64::from(self.config.encoder_table_capacity));
         let limit = peer.qpack_max_table_capacity;
         let is_possible = capacity > 0 && limit < LARGEST_TABLE;
-        if is_possible && self.ids.next(StreamKind::Unidirectional).is_some() {
-            self.tools.instructions.reserve(16)?;
-            self.tools
-                .encoder
-                .set_limits(limit, peer.qpack_blocked_streams);
-            self.tools.instructions.push(ENCODER_TYPE)?;
-            self.tools
-                .encoder
-                .set_capacity(capacity, &mut self.tools.instructions)?;
-            self.encoder.id = self.ids.next(StreamKind::Unidirectional);
-            self.ids.take(StreamKind::Unidirectional);
+        if !is_possible || self.ids.next(StreamKind::Unidirectional).is_none() {
+            return Ok(());
         }
-        self.pending.begins_table = false;
+        self.tools.instructions.reserve(16)?;
+        self.tools
+            .encoder
+            .set_limits(limit, peer.qpack_blocked_streams);
+        self.tools.instructions.push(ENCODER_TYPE)?;
+        self.tools
+            .encoder
+            .set_capacity(capacity, &mut self.tools.instructions)?;
+        self.encoder.id = self.take_critical();
         Ok(())
     }
 
@@ -71,6 +95,7 @@ impl Connection {
         ensures ok { OnOk result (Instructs SaysAll self.old self.new) }
         ensures any { Instructs SaysOrWaits self.old self.new }
         ensures err { IfErr result (λ e. e ≡ stop.Memory) }
+        ensures goes { GoesOn [] self.old self.new }
     {
         if self.decoder.id.is_some() {
             if self
@@ -96,7 +121,9 @@ impl Connection {
     }
 
     // Checks the bound of what waits on the own decoder stream.
-    pub(super) fn check_instructions(&self) -> Result<(), Stop> {
+    pub(super) fn check_instructions(&self) -> Result<(), Stop>
+        ensures { OnOk result (InstructionsFit self.now) }
+    {
         if self.decoder.queue.counted() > self.config.max_instructions {
             return Err(Stop::from(EXCESSIVE_LOAD));
         }
@@ -105,7 +132,8 @@ impl Connection {
 
     // Queues the instructions that a section has made due. Without memory they are queued later.
     pub(super) fn queue_due(&mut self)
-        ensures { Instructs SaysOrWaits self.old self.new }
+        ensures due { Instructs SaysOrWaits self.old self.new }
+        ensures goes { GoesOn [] self.old self.new }
     {
         let _later = self.queue_instructions();
     }
@@ -127,11 +155,12 @@ impl Connection {
     }
 
     // Tells the peer's encoder that a stream is left, once (RFC 9204, section 2.2.2.2).
-    #[tactic(auto, using(crate::proofs::OwnLemmas::untouched_set, crate::proofs::TheirsLemmas::left_set))]
+    #[tactic(auto, using(crate::proofs::OwnLemmas::untouched_set, crate::proofs::TheirsLemmas::left_set, crate::proofs::GoesLemmas::goes_set))]
     pub(super) fn cancel(&mut self, id: u64) -> Result<(), AllocError>
         ensures own { Untouched self.old.streams.entries self.new.streams.entries }
         ensures left { Left self.old.streams.entries self.new.streams.entries }
         ensures config { self.new.config ≡ self.old.config }
+        ensures goes { GoesOn [] self.old self.new }
     {
         let Some(entry) = self.streams.get_mut(&id) else {
             return Ok(());
@@ -150,6 +179,7 @@ impl Connection {
         ensures own { Untouched self.old.streams.entries self.new.streams.entries }
         ensures left { Left self.old.streams.entries self.new.streams.entries }
         ensures config { self.new.config ≡ self.old.config }
+        ensures goes { GoesOn [] self.old self.new }
     {
         if self.cancel(id).is_err() {
             self.fail(None, Code::H3_INTERNAL_ERROR.number().into_inner(), None);

@@ -1,8 +1,9 @@
 //! Streams that wait.
-ghost use Rattle.std.specs.Prelude.{◌≡◌};
+ghost use Rattle.std.specs.Prelude.{◌≡◌, []};
 ghost use Rattle.vesgrauf.specs.State.{IsStill, known_in};
 ghost use Rattle.vesgrauf.specs.Own.{Untouched};
 ghost use Rattle.vesgrauf.specs.Theirs.{Left, IsSilent};
+ghost use Rattle.vesgrauf.specs.Told.{GoesOn, said_in};
 
 use crate::connection::{Connection, Step, Stop};
 use std::alloc::AllocError;
@@ -11,8 +12,13 @@ use wtp_frames::endpoint::Side;
 use wtp_webtransport::event::{Event as Said, Waits};
 
 impl Connection {
-    // Returns the session that a stream waits for.
+    // Returns the session that a stream waits for, or is to join.
     pub(super) fn session_awaited(&self, id: u64) -> Option<u64> {
+        if let Some(named) = self.pending.named {
+            if named.id == id {
+                return Some(named.session);
+            }
+        }
         match self.streams.get(&id) {
             Some(entry) => match entry.reading.waits() {
                 Some(Waits::Session(session)) => Some(session),
@@ -27,6 +33,7 @@ impl Connection {
         ensures own { Untouched self.old.streams.entries self.new.streams.entries }
         ensures left { Left self.old.streams.entries self.new.streams.entries }
         ensures config { self.new.config ≡ self.old.config }
+        ensures goes { GoesOn [] self.old self.new }
     {
         self.waiting.insert(id)?;
         Ok(())
@@ -38,6 +45,7 @@ impl Connection {
         ensures own { Untouched self.old.streams.entries self.new.streams.entries }
         ensures left { Left self.old.streams.entries self.new.streams.entries }
         ensures config { self.new.config ≡ self.old.config }
+        ensures goes { GoesOn [] self.old self.new }
     {
         self.wait(id)?;
         if matches!(wait, Waits::Table(_)) && self.has_too_many_blocked() {
@@ -79,6 +87,7 @@ impl Connection {
         ensures left { Left self.old.streams.entries self.new.streams.entries }
         ensures silent { IsSilent result }
         ensures config { self.new.config ≡ self.old.config }
+        ensures goes { GoesOn (said_in result) self.old self.new }
     {
         let Some(id) = self.next_waiting() else {
             self.pending.is_woken = false;
@@ -120,6 +129,15 @@ impl Connection {
     {
         self.pending.is_woken = true;
         self.pending.cursor = 0;
+    }
+
+    // Looks at them once more, if there are any.
+    pub(super) fn wake_waiting(&mut self)
+        ensures { IsStill self.old self.new }
+    {
+        if !self.waiting.is_empty() {
+            self.wake();
+        }
     }
 
     // Returns what is known of a session. At a client any of its requests is over that has no stream left, and was that of

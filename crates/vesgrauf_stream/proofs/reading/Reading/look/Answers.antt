@@ -1,4 +1,4 @@
-use Rattle.std.proofs.Common.{◌≤◌, length, take, ℕ, List, subst, sym, ◌∙◌, ap, arith}
+use Rattle.std.proofs.Common.{◌≤◌, length, ℕ, List, subst, sym, arith}
 use Rattle.wtp_webtransport.specs.Events.{told_of}
 use Rattle.vesgrauf_stream.proofs.ReadingLemmas.{call_fits, take_short}
 use Rattle.vesgrauf_stream.proofs.reading.Reading.look.Goals as goal

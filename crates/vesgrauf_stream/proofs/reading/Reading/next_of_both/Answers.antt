@@ -1,5 +1,4 @@
-use Rattle.std.proofs.Common.{◌≡◌, ◌+◌, ◌≤◌, ℕ, length, refl, arith}
-use Rattle.std.specs.Prelude.{min}
+use Rattle.std.proofs.Common.{◌≡◌, ◌+◌, ◌≤◌, length, refl, arith}
 use Rattle.vesgrauf_stream.specs.Reading.{kept_of}
 use Rattle.vesgrauf_stream.proofs.ReadingLemmas.{steps_hear, not_both}
 use Rattle.wtp_webtransport.specs.Events.{More}

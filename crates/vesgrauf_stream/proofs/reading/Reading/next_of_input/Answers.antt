@@ -1,8 +1,5 @@
-use Rattle.std.proofs.Common.{◌≡◌, ◌++◌, ◌&&◌, length, take, drop, ℕ, List, Bool, subst, sym, ◌∙◌, ap, refl, le_refl, take_all, true, arith}
-use Rattle.std.specs.Prelude.{◌==◌}
+use Rattle.std.proofs.Common.{refl}
 use Rattle.wtp_webtransport.specs.Events.{told_of}
-use Rattle.wtp_webtransport.specs.Tables.{Call}
-use Rattle.vesgrauf_stream.specs.Reading.{kept_of, unread, is_ended}
 use Rattle.vesgrauf_stream.proofs.ReadingLemmas.{input_hears}
 use Rattle.vesgrauf_stream.proofs.reading.Reading.next_of_input.Goals as goal
 

@@ -1,5 +1,4 @@
-use Rattle.std.proofs.Common.{◌≡◌, ◌+◌, ◌-◌, ◌≤◌, ◌++◌, length, take, drop, ℕ, List, sym, rules, arith, length-drop}
-use Rattle.vesgrauf_stream.specs.Reading.{kept_of}
+use Rattle.std.proofs.Common.{◌≡◌, ◌+◌, ◌≤◌, length, ℕ, List, sym, rules, arith, length-drop}
 use Rattle.vesgrauf_stream.proofs.ReadingLemmas.{read_within, read_beyond}
 use Rattle.vesgrauf_stream.proofs.reading.Reading.unjoin.Goals as goal
 

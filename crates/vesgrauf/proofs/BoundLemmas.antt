@@ -1,0 +1,192 @@
+-- How many bytes of streams are kept.
+use Rattle.std.proofs.Common.{◌≡◌, ◌⊎◌, ◌≤◌, ◌+◌, ◌-◌, ◌++◌, ℕ, List, [], ◌∷◌, length, drop, Option, None, Some, Bool, true, false, cond, refl, sym, ap, subst, arith, inl, inr, length-drop, ◌∙◌}
+use Rattle.std.specs.Ordering.{nat_cmp}
+use Rattle.std.specs.Map.{lookup, set_value}
+use Rattle.std.specs.BTreeMap.{is_at}
+use Rattle.std.specs.Prelude.{IfOk, OnOk, Result, Ok, Err}
+use Rattle.vesgrauf_stream.specs.declared.reading.Reading.{Reading}
+use Rattle.vesgrauf_stream.specs.Reading.{kept_of}
+use Rattle.vesgrauf.specs.declared.config.Config.{Config}
+use Rattle.vesgrauf.specs.declared.connection.Connection.{Connection}
+use Rattle.vesgrauf.specs.declared.connection.ids.Ids.{Ids}
+use Rattle.vesgrauf.specs.declared.entry.Entry.{Entry}
+use Rattle.vesgrauf.specs.declared.entry.Peer.{Peer}
+use Rattle.vesgrauf.specs.declared.entry.Peer.TheVariants as peer
+use Rattle.vesgrauf.specs.Theirs.{Theirs, Gone, Unread, theirs_by, theirs_of, theirs_in, theirs_at, IsLeft, Left, Piece, AreCalls, AreRead, IsReadTo, IsRead, TellsKept, IsStart, Accepts}
+use Rattle.vesgrauf.specs.Bounds.{most_kept, Fits, AllFit, IsBounded}
+use Rattle.vesgrauf.proofs.ReadsLemmas.{same_key, set_there}
+
+-- ---- one stream
+
+pub left_fits : (n : ℕ) (x y : Theirs) → IsLeft x y → Fits n x → Fits n y
+left_fits n x y (inl e) p = subst (λ t. Fits n t) (sym e) p
+left_fits n x y (inr e) p = subst (λ t. Fits n t) (sym e) tt
+
+start_fits : (n : ℕ) (seen : Bool) (x y : Theirs) → IsStart seen x y → Fits n x → Fits n y
+start_fits n seen x y (inl e) p = subst (λ t. Fits n t) (sym e) p
+start_fits n seen x y (inr e) p = subst (λ t. Fits n t) (sym e.1) (omega arith)
+
+-- what is left of bytes that are read
+calls_shrink : (pieces : List Piece) (bytes rest : List ℕ) (ended : Bool) → AreCalls pieces bytes ended rest
+    → length rest ≤ length bytes
+calls_shrink [] bytes rest ended p = grind (arith, p)
+calls_shrink (piece ∷ pieces) bytes rest ended p =
+    let step : length rest ≤ length (drop piece.consumed bytes)
+    = calls_shrink pieces (drop piece.consumed bytes) rest ended p.1 in
+    grind (arith, step, length-drop)
+
+read_fits : (n : ℕ) (x y : Theirs) (content : List ℕ) → AreRead x content y → Fits n x → Fits n y
+read_fits n x y content r p =
+    let before : length r.bytes ≤ n = subst (λ t. Fits n t) r.from p in
+    let after : length r.rest ≤ length r.bytes = calls_shrink r.pieces r.bytes r.rest r.ended r.calls in
+    let fits : length r.rest ≤ n = omega (arith, before, after) in
+    subst (λ t. Fits n t) (sym r.to) fits
+
+read_to_fits : (n : ℕ) (x y : Theirs) (content : List ℕ) → IsReadTo x content y → Fits n x → Fits n y
+read_to_fits n x y content (inl q) p = subst (λ t. Fits n t) (sym q.0) p
+read_to_fits n x y content (inr r) p = read_fits n x y content r p
+
+is_read_fits : (n : ℕ) (x y : Theirs) (content : List ℕ) → IsRead x content y → Fits n x → Fits n y
+is_read_fits n x y content q p = left_fits n q.0 y q.1.1 (read_to_fits n x q.0 content q.1.0 p)
+
+-- fewer bytes are kept of it, or as many
+shrunk_by : (n : ℕ) (p : Peer) (b : Bool) (r s : Reading) → length (kept_of s) ≤ length (kept_of r)
+    → Fits n (theirs_by p b r) → Fits n (theirs_by p b s)
+shrunk_by n peer.Reads true r s h f = tt
+shrunk_by n peer.Reads false r s h f = omega (arith, h, f)
+shrunk_by n peer.Drops b r s h f = tt
+shrunk_by n peer.Over b r s h f = tt
+
+pub shrunk_fits : (n : ℕ) (e f : Entry) → f.peer ≡ e.peer → f.is_decoder ≡ e.is_decoder
+    → length (kept_of f.reading) ≤ length (kept_of e.reading) → Fits n (theirs_of e) → Fits n (theirs_of f)
+shrunk_fits n e f p d h q =
+    subst (λ x. Fits n (theirs_by x f.is_decoder f.reading)) (sym p)
+    (subst (λ x. Fits n (theirs_by e.peer x f.reading)) (sym d)
+    (shrunk_by n e.peer e.is_decoder e.reading f.reading h q))
+
+-- the same bytes are kept of it
+pub same_kept_fits : (n : ℕ) (e f : Entry) → f.peer ≡ e.peer → f.is_decoder ≡ e.is_decoder
+    → kept_of f.reading ≡ kept_of e.reading → Fits n (theirs_of e) → Fits n (theirs_of f)
+same_kept_fits n e f p d h q =
+    let same : length (kept_of f.reading) ≡ length (kept_of e.reading) = ap length h in
+    let fewer : length (kept_of f.reading) ≤ length (kept_of e.reading) = omega (arith, same) in
+    shrunk_fits n e f p d fewer q
+
+kept_by : (n : ℕ) (p : Peer) (b : Bool) (r : Reading) → length (kept_of r) ≤ n → Fits n (theirs_by p b r)
+kept_by n peer.Reads true r h = tt
+kept_by n peer.Reads false r h = h
+kept_by n peer.Drops b r h = tt
+kept_by n peer.Over b r h = tt
+
+-- so many bytes are held back, and QUIC's windows were extended by the others
+pub kept_fits : (e : Entry) (most held : ℕ) → length (kept_of e.reading) - e.withheld ≤ most → e.withheld ≤ held
+    → Fits (most + held) (theirs_of e)
+kept_fits e most held p q =
+    let all : length (kept_of e.reading) ≤ most + held = omega (arith, p, q) in
+    kept_by (most + held) e.peer e.is_decoder e.reading all
+
+pub gone_fits : (n : ℕ) (x : Theirs) → x ≡ Gone → Fits n x
+gone_fits n x e = subst (λ t. Fits n t) (sym e) tt
+
+-- ---- all streams
+
+pub left_all : (n : ℕ) (c d : List (ℕ × Entry)) → Left c d → AllFit n c → AllFit n d
+left_all n c d l p = record { each = λ k. left_fits n (theirs_at c k) (theirs_at d k) (l.each k) (p.each k) }
+
+pub kept_all : (n : ℕ) (said : ℕ → List ℕ) (c d : List (ℕ × Entry)) → TellsKept said c d → AllFit n c → AllFit n d
+kept_all n said c d t p =
+    record { each = λ k. is_read_fits n (theirs_at c k) (theirs_at d k) (said k) (t.each k) (p.each k) }
+
+pub start_all : (n : ℕ) (a b : Ids) (c d : List (ℕ × Entry)) → Accepts a c b d → AllFit n c → AllFit n d
+start_all n a b c d t p = record { each = λ k. start_fits n _ (theirs_at c k) (theirs_at d k) (t.each k) (p.each k) }
+
+set_by : (n : ℕ) (a b : Bool) (e f : Entry) (x y : Option Entry) → Fits n (theirs_in (Some f))
+    → Fits n (theirs_in (cond b (Some e) x)) → (Fits n (theirs_in x) → Fits n (theirs_in y))
+    → Fits n (theirs_in (cond b (cond a (Some f) (Some e)) (cond a x y)))
+set_by n true true e f x y q p h = q
+set_by n true false e f x y q p h = p
+set_by n false true e f x y q p h = p
+set_by n false false e f x y q p h = h p
+
+look_by : (a b : Bool) (key : ℕ) (e f : Entry) (es rest : List (ℕ × Entry)) (k : ℕ) → b ≡ is_at (nat_cmp k) key
+    → lookup (is_at (nat_cmp k)) (cond a ((key, f) ∷ es) ((key, e) ∷ rest))
+    ≡ cond b (cond a (Some f) (Some e)) (cond a (lookup (is_at (nat_cmp k)) es) (lookup (is_at (nat_cmp k)) rest))
+look_by true true key e f es rest k h = grind (arith, h)
+look_by true false key e f es rest k h = grind (arith, h)
+look_by false true key e f es rest k h = grind (arith, h)
+look_by false false key e f es rest k h = grind (arith, h)
+
+set_at : (n : ℕ) (es : List (ℕ × Entry)) (id k : ℕ) (f : Entry) → Fits n (theirs_in (Some f))
+    → Fits n (theirs_at es k) → Fits n (theirs_at (set_value (is_at (nat_cmp id)) es f) k)
+set_at n [] id k f q p = tt
+set_at n ((key, e) ∷ es) id k f q p =
+    let step : Fits n (theirs_in (cond (is_at (nat_cmp k) key) (cond (is_at (nat_cmp id) key) (Some f) (Some e))
+    (cond (is_at (nat_cmp id) key) (lookup (is_at (nat_cmp k)) es)
+    (lookup (is_at (nat_cmp k)) (set_value (is_at (nat_cmp id)) es f)))))
+    = set_by n (is_at (nat_cmp id) key) (is_at (nat_cmp k) key) e f (lookup (is_at (nat_cmp k)) es)
+    (lookup (is_at (nat_cmp k)) (set_value (is_at (nat_cmp id)) es f)) q p (λ h. set_at n es id k f q h)
+    in rw (look_by (is_at (nat_cmp id) key) (is_at (nat_cmp k) key) key e f es
+    (set_value (is_at (nat_cmp id)) es f) k refl) step
+
+-- one stream becomes this
+pub set_all : (n : ℕ) (es : List (ℕ × Entry)) (id : ℕ) (f : Entry) → Fits n (theirs_of f) → AllFit n es
+    → AllFit n (set_value (is_at (nat_cmp id)) es f)
+set_all n es id f q p = record { each = λ k. set_at n es id k f q (p.each k) }
+
+-- of this one no more bytes are kept than were
+pub plain_all : (n : ℕ) (es : List (ℕ × Entry)) (id : ℕ) (e f : Entry) → lookup (is_at (nat_cmp id)) es ≡ Some e
+    → ((most : ℕ) → Fits most (theirs_of e) → Fits most (theirs_of f)) → AllFit n es
+    → AllFit n (set_value (is_at (nat_cmp id)) es f)
+plain_all n es id e f there h p =
+    set_all n es id f (h n (subst (λ o. Fits n (theirs_in o)) there (p.each id))) p
+
+pub looked_all : (n : ℕ) (es : List (ℕ × Entry)) (id : ℕ) (e g f : Entry) → lookup (is_at (nat_cmp id)) es ≡ Some e
+    → ((most : ℕ) → Fits most (theirs_of e) → Fits most (theirs_of g)) → theirs_of f ≡ theirs_of g → AllFit n es
+    → AllFit n (set_value (is_at (nat_cmp id)) es f)
+looked_all n es id e g f there h same p =
+    plain_all n es id e f there (λ m q. subst (λ x. Fits m x) (sym same) (h m q)) p
+
+fits_here : (n : ℕ) (b : Bool) (fs : List (ℕ × Entry)) (id k : ℕ) → is_at (nat_cmp id) k ≡ b → Fits n (theirs_at fs id)
+    → (is_at (nat_cmp id) k ≡ false → Fits n (theirs_at fs k)) → Fits n (theirs_at fs k)
+fits_here n true fs id k t q h = subst (λ m. Fits n (theirs_at fs m)) (same_key id k t) q
+fits_here n false fs id k t q h = h t
+
+-- one stream becomes this, and then no byte of any is kept that was not; of this one no more than may are
+pub checked_all : (n : ℕ) (es fs : List (ℕ × Entry)) (id : ℕ) (e f : Entry) → lookup (is_at (nat_cmp id)) es ≡ Some e
+    → Left (set_value (is_at (nat_cmp id)) es f) fs → Fits n (theirs_at fs id) → AllFit n es → AllFit n fs
+checked_all n es fs id e f h l q p = record {
+  each = λ k. fits_here n (is_at (nat_cmp id) k) fs id k refl q
+      (λ t. left_fits n (theirs_at (set_value (is_at (nat_cmp id)) es f) k) (theirs_at fs k) (l.each k)
+      (subst (λ x. Fits n x) (sym (ap theirs_in (set_there es id k e f h t))) (p.each k)));
+}
+
+-- ---- the connection
+
+pub left_bounds : (c d : Connection) → Left c.streams.entries d.streams.entries → d.config ≡ c.config → IsBounded c
+    → IsBounded d
+left_bounds c d l e p =
+    subst (λ x. AllFit (most_kept x) d.streams.entries) (sym e)
+    (left_all (most_kept c.config) c.streams.entries d.streams.entries l p)
+
+pub kept_bounds : (said : ℕ → List ℕ) (c d : Connection) → TellsKept said c.streams.entries d.streams.entries
+    → d.config ≡ c.config → IsBounded c → IsBounded d
+kept_bounds said c d t e p =
+    subst (λ x. AllFit (most_kept x) d.streams.entries) (sym e)
+    (kept_all (most_kept c.config) said c.streams.entries d.streams.entries t p)
+
+pub start_bounds : (c d : Connection) → Accepts c.ids c.streams.entries d.ids d.streams.entries → d.config ≡ c.config
+    → IsBounded c → IsBounded d
+start_bounds c d t e p =
+    subst (λ x. AllFit (most_kept x) d.streams.entries) (sym e)
+    (start_all (most_kept c.config) c.ids d.ids c.streams.entries d.streams.entries t p)
+
+-- the streams are the same
+pub same_bounds : (c d : Connection) → d.streams.entries ≡ c.streams.entries → d.config ≡ c.config → IsBounded c
+    → IsBounded d
+same_bounds c d s e p =
+    subst (λ x. AllFit (most_kept x) d.streams.entries) (sym e)
+    (subst (λ x. AllFit (most_kept c.config) x) (sym s) p)
+
+pub ok_on : {A E : Type 0} (r : Result A E) (P : A → Type 0) (Q : Type 0) → ((a : A) → P a → Q) → IfOk r P → OnOk r Q
+ok_on (Ok a) P Q f p = f a p
+ok_on (Err e) P Q f p = tt

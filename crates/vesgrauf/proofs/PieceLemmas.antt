@@ -1,0 +1,78 @@
+-- A piece of content that is told at once.
+use Rattle.std.proofs.Common.{◌≡◌, ◌∙◌, ℕ, List, [], ◌∷◌, Some, true, false, refl, sym, ap, inl, subst}
+use Rattle.std.specs.Prelude.{is_some}
+use Rattle.wtp_webtransport.specs.declared.connection.Connection.{Connection as Shared}
+use Rattle.wtp_webtransport.specs.declared.stream.Part.{Part}
+use Rattle.wtp_webtransport.specs.declared.stream.Part.TheVariants as part
+use Rattle.vesgrauf_stream.specs.declared.bytes.Bytes.{Bytes}
+use Rattle.vesgrauf_stream.specs.declared.bytes.Chunk.{Chunk}
+use Rattle.vesgrauf_stream.specs.declared.reading.Found.TheVariants as found
+use Rattle.vesgrauf_stream.specs.Reading.{bytes_of}
+use Rattle.vesgrauf_stream.specs.Pieces.{heard_piece, HearsPiece}
+use Rattle.vesgrauf.specs.declared.connection.Connection.{Connection}
+use Rattle.vesgrauf.specs.declared.entry.Entry.{Entry}
+use Rattle.vesgrauf.specs.declared.entry.Peer.TheVariants as peer
+use Rattle.vesgrauf.specs.declared.input.Input.{Input}
+use Rattle.vesgrauf.specs.declared.input.Report.TheVariants as report
+use Rattle.std.specs.Ordering.{nat_cmp}
+use Rattle.std.specs.Map.{set_value}
+use Rattle.std.specs.BTreeMap.{is_at}
+use Rattle.vesgrauf.specs.declared.connection.ids.Ids.{Ids}
+use Rattle.vesgrauf.specs.declared.event.Event.{Event}
+use Rattle.vesgrauf.specs.Own.{entry_at}
+use Rattle.vesgrauf.specs.Streams.{is_known}
+use Rattle.vesgrauf.specs.Told.{Goes, ends, word_of}
+use Rattle.vesgrauf.specs.Inputs.{IsSameOrRead}
+use Rattle.vesgrauf.specs.State.{go_on, IsAfterEnd, IsStill}
+use Rattle.vesgrauf.specs.Theirs.{theirs_of, IsRead, ReadsOn, Hands, Tells, TellsAll, with_chunk, content_on, content_found}
+use Rattle.vesgrauf.proofs.ReadsLemmas.{looked_plain, reads_pass, taken_passes}
+use Rattle.vesgrauf.proofs.StepLemmas.{all_same}
+use Rattle.vesgrauf.proofs.GoesLemmas.{goes_after, goes_set, goes_tells}
+
+-- what is heard of a piece is its bytes
+piece_content : (p : Part) (b : Bytes) → content_found (found.Heard (heard_piece p b)) ≡ bytes_of b
+piece_content part.OfSession b = refl
+piece_content other b = refl
+
+-- what an entry finds
+pub looked_piece : (e f : Entry) (c d : Shared) (i j : Chunk) (b : Bytes)
+    → e.peer ≡ peer.Reads → e.is_decoder ≡ false
+    → f.peer ≡ e.peer → f.is_decoder ≡ e.is_decoder → HearsPiece b c e.reading i d f.reading j
+    → IsRead (with_chunk (theirs_of e) i) (bytes_of b) (with_chunk (theirs_of f) j)
+looked_piece e f c d i j b g n p q h =
+    subst (λ l. IsRead (with_chunk (theirs_of e) i) l (with_chunk (theirs_of f) j))
+    (piece_content e.reading.stream.part b)
+    (looked_plain e f 0 c d i j (found.Heard (heard_piece e.reading.stream.part b)) g n p q (h 0))
+
+-- it is told, and nothing else is left of the input if all of its bytes were read
+told_itself : (id : ℕ) (content : List ℕ) (c : List (ℕ × Entry)) → Hands id content (content_on id content) c c
+told_itself id content c = record { each = λ k. inl (inl refl, refl) }
+
+pub piece_tells : (id stream : ℕ) (content : List ℕ) (c d : List (ℕ × Entry)) (i j l : Input) → stream ≡ id
+    → i.report ≡ report.Stream id → j.report ≡ report.Stream id → ReadsOn id content c i.chunk d j.chunk
+    → IsSameOrRead j l → Tells (content_on stream content) c i d l
+piece_tells id stream content c d i j l same h g p t =
+    subst (λ n. Tells (content_on n content) c i d l) (sym same)
+    (reads_pass id content (content_on id content) c d d i j l h g p
+    (taken_passes id content (content_on id content) d d j l t (told_itself id content d)))
+
+-- an event of its stream is told with it
+pub piece_goes : (es : List (ℕ × Entry)) (ids : Ids) (q : List Event) (id : ℕ) (e f : Entry) (ev : Event)
+    → entry_at es id ≡ Some e → is_known e.told ≡ true → f.told ≡ e.told → ev.stream ≡ id
+    → ends (word_of ev.kind) ≡ false → Goes (ev ∷ []) es ids q (set_value (is_at (nat_cmp id)) es f) ids q
+piece_goes es ids q id e f ev there known same at n =
+    goes_after (ev ∷ []) es es (set_value (is_at (nat_cmp id)) es f) ids ids ids q q q
+    (goes_tells es ids q ev (rw (at, there) known) n)
+    (goes_set es ids q id f (rw (there, same) refl))
+
+-- there is no piece, and then this is told
+pub no_piece_all : (said : ℕ → List ℕ) (c d : Connection) {e : List (ℕ × Entry)} {i j l : Input} → IsStill c d → j ≡ i
+    → TellsAll d.ids said d.streams.entries j e l → TellsAll c.ids said c.streams.entries i e l
+no_piece_all said c d {e} {i} {j} {l} p q t =
+    all_same said (ap (λ v. v.ids) p) (ap (λ v. v.streams) p) q t
+
+pub no_piece_after : {c d : Connection} → IsStill c d → IsAfterEnd c → IsAfterEnd d
+no_piece_after {c} {d} p a = record {
+  over = ap (λ v. is_some v.ended) p ∙ a.over;
+  events = ap (λ v. go_on v.events) p ∙ a.events;
+}

@@ -1,0 +1,223 @@
+//! What is told at once: a piece of content, by one look-up and without memory.
+ghost use Rattle.std.specs.Prelude.{◌≡◌, ℕ, true, false, [], Ok, ◌∷◌, None, IfOk, IfSome, OnOk, MatchOption};
+ghost use Rattle.vesgrauf.specs.Bounds.{Fits, IsBounded};
+ghost use Rattle.vesgrauf.specs.Progress.{IsSettled};
+ghost use Rattle.vesgrauf.specs.Told.{GoesOn, told_by_call, word_of, ends};
+ghost use Rattle.vesgrauf.specs.Streams.{is_known};
+ghost use Rattle.vesgrauf.specs.declared.event.Event.{Event as EventOf};
+ghost use Rattle.vesgrauf.specs.Own.{Untouched};
+ghost use Rattle.vesgrauf.specs.State.{is_over, is_last, IsAfterEnd, IsSomeOk, IsStill};
+ghost use Rattle.vesgrauf.specs.Theirs.{IsRead, ReadsOn, Tells, TellsAll, content_on, told_by, with_chunk, theirs_of};
+ghost use Rattle.vesgrauf.specs.declared.config.OnMalformed.TheVariants as chosen;
+ghost use Rattle.vesgrauf.specs.declared.entry.Peer.TheVariants as peer;
+ghost use Rattle.vesgrauf.specs.declared.input.Report.TheVariants as report;
+
+use crate::connection::Connection;
+use crate::entry::Entry;
+use crate::event::{Event, EventKind};
+use crate::input::{Input, Report};
+use std::alloc::AllocError;
+use vesgrauf_stream::bytes::{Bytes, Chunk};
+use wtp_webtransport::connection::Connection as Shared;
+
+/// A piece of content, and what is told with it.
+#[derive(Clone, Copy)]
+struct Piece<'a> {
+    bytes: &'a [u8],
+    /// How many bytes of the stream were read: with it, the head of its frame.
+    read: usize,
+    stream: u64,
+    session: Option<u64>,
+    user: Option<u64>,
+}
+
+impl Connection {
+    // Returns the next event, as `next_event` does: a piece of content at once.
+    #[inline(never)]
+    pub(super) fn next_due<'a>(
+        &mut self,
+        input: &mut Input<'a>,
+    ) -> Result<Option<Event<'a>>, AllocError>
+        ensures last { IsAfterEnd self.old → IsSomeOk result (λ e. is_last e.kind ≡ true) }
+        ensures over { IsAfterEnd self.old → IsAfterEnd self.new }
+        ensures own { self.old.config.on_malformed ≡ chosen.Reset
+            → Untouched self.old.streams.entries self.new.streams.entries }
+        ensures told { is_over self.new ≡ false → IfOk result (λ e. TellsAll self.old.ids (told_by e)
+            self.old.streams.entries input.old self.new.streams.entries input.new) }
+        ensures config { self.new.config ≡ self.old.config }
+        ensures goes { GoesOn (told_by_call result) self.old self.new }
+        ensures settled { result ≡ Ok None → IsSettled self.new input.new }
+        ensures bounded { IsBounded self.old → is_over self.new ≡ false → OnOk result (IsBounded self.new) }
+    {
+        match self.piece_due(input) {
+            Some(piece) => return Ok(Some(Event {
+                stream: piece.stream,
+                session: piece.session,
+                user: piece.user,
+                kind: EventKind::Data(Bytes::Input(piece.bytes)),
+            })),
+            None => self.next_else(input),
+        }
+    }
+
+    // Returns the next event, where it is no piece of content that is told at once. (In place, so that the event of a piece
+    // is written where it is returned.)
+    #[inline(always)]
+    fn next_else<'a>(&mut self, input: &mut Input<'a>) -> Result<Option<Event<'a>>, AllocError>
+        ensures last { IsAfterEnd self.old → IsSomeOk result (λ e. is_last e.kind ≡ true) }
+        ensures over { IsAfterEnd self.old → IsAfterEnd self.new }
+        ensures own { self.old.config.on_malformed ≡ chosen.Reset
+            → Untouched self.old.streams.entries self.new.streams.entries }
+        ensures told { is_over self.new ≡ false → IfOk result (λ e. TellsAll self.old.ids (told_by e)
+            self.old.streams.entries input.old self.new.streams.entries input.new) }
+        ensures config { self.new.config ≡ self.old.config }
+        ensures goes { GoesOn (told_by_call result) self.old self.new }
+        ensures settled { result ≡ Ok None → IsSettled self.new input.new }
+        ensures bounded { IsBounded self.old → is_over self.new ≡ false → OnOk result (IsBounded self.new) }
+    {
+        self.next_no_piece(input)
+    }
+
+    // Returns the next event: that of bytes of a stream at once, where nothing is due before them.
+    #[inline(never)]
+    fn next_no_piece<'a>(&mut self, input: &mut Input<'a>) -> Result<Option<Event<'a>>, AllocError>
+        ensures last { IsAfterEnd self.old → IsSomeOk result (λ e. is_last e.kind ≡ true) }
+        ensures over { IsAfterEnd self.old → IsAfterEnd self.new }
+        ensures own { self.old.config.on_malformed ≡ chosen.Reset
+            → Untouched self.old.streams.entries self.new.streams.entries }
+        ensures told { is_over self.new ≡ false → IfOk result (λ e. TellsAll self.old.ids (told_by e)
+            self.old.streams.entries input.old self.new.streams.entries input.new) }
+        ensures config { self.new.config ≡ self.old.config }
+        ensures goes { GoesOn (told_by_call result) self.old self.new }
+        ensures settled { result ≡ Ok None → IsSettled self.new input.new }
+        ensures bounded { IsBounded self.old → is_over self.new ≡ false → OnOk result (IsBounded self.new) }
+    {
+        if self.is_quiet() {
+            match input.report {
+                Report::Stream(id) => return self.read_at_once(id, input),
+                _ => {}
+            }
+        }
+        self.next_by_steps(input)
+    }
+
+    // Returns the piece of content that is next in bytes of a stream, where nothing is due before them.
+    #[inline(always)]
+    fn piece_due<'a>(&mut self, input: &mut Input<'a>) -> Option<Piece<'a>>
+        ensures own { Untouched self.old.streams.entries self.new.streams.entries }
+        ensures tells { IfSome result (λ p. Tells (content_on p.stream p.bytes.now)
+            self.old.streams.entries input.old self.new.streams.entries input.new) }
+        ensures before { IfSome result (λ p. is_over self.old ≡ false) }
+        ensures still { result ≡ None → IsStill self.old self.new }
+        ensures none { result ≡ None → input.new ≡ input.old }
+        ensures config { self.new.config ≡ self.old.config }
+        ensures goes { IfSome result (λ p. (e : EventOf) → e.stream ≡ p.stream → ends (word_of e.kind) ≡ false
+            → GoesOn (e ∷ []) self.old self.new) }
+        ensures bounded { IsBounded self.old → IsBounded self.new }
+    {
+        if !self.is_quiet() {
+            return None;
+        }
+        match input.report {
+            Report::Stream(id) => self.piece_at_once(id, input),
+            _ => None,
+        }
+    }
+
+    // Returns the piece of content that is next in bytes of a stream, if the stream does not end after them. Nothing
+    // follows it but more bytes, or the end.
+    #[inline(always)]
+    #[tactic(auto, using(crate::proofs::OwnLemmas::untouched_refl, crate::proofs::PieceLemmas::piece_tells))]
+    fn piece_at_once<'a>(&mut self, id: u64, input: &mut Input<'a>) -> Option<Piece<'a>>
+        ensures own { Untouched self.old.streams.entries self.new.streams.entries }
+        ensures tells { input.old.report ≡ report.Stream id → IfSome result (λ p. Tells (content_on p.stream p.bytes.now)
+            self.old.streams.entries input.old self.new.streams.entries input.new) }
+        ensures still { result ≡ None → IsStill self.old self.new }
+        ensures none { result ≡ None → input.new ≡ input.old }
+        ensures config { self.new.config ≡ self.old.config }
+        ensures goes { IfSome result (λ p. (e : EventOf) → e.stream ≡ p.stream → ends (word_of e.kind) ≡ false
+            → GoesOn (e ∷ []) self.old self.new) }
+        ensures bounded { IsBounded self.old → IsBounded self.new }
+    {
+        if input.chunk.is_last() {
+            return None;
+        }
+        let piece = self.piece_in(id, &mut input.chunk)?;
+        input.count_read(piece.read);
+        input.end_if_read(self.held <= self.config.receive_buffer_all);
+        Some(piece)
+    }
+
+    // Returns the piece of content that is next in bytes of a stream.
+    #[inline(always)]
+    #[tactic(auto, using(crate::proofs::OwnLemmas::untouched_set, crate::proofs::ReadsLemmas::reads_set, crate::proofs::BoundLemmas::plain_all, crate::proofs::PieceLemmas::piece_goes, std::proofs::lemmas::Map::Steps::set_value_same))]
+    fn piece_in<'a>(&mut self, id: u64, chunk: &mut Chunk<'a>) -> Option<Piece<'a>>
+        ensures own { Untouched self.old.streams.entries self.new.streams.entries }
+        ensures stream { IfSome result (λ p. p.stream ≡ id) }
+        ensures reads { IfSome result (λ p. ReadsOn id p.bytes.now self.old.streams.entries chunk.old
+            self.new.streams.entries chunk.new) }
+        ensures still { result ≡ None → IsStill self.old self.new }
+        ensures none { result ≡ None → chunk.new ≡ chunk.old }
+        ensures config { self.new.config ≡ self.old.config }
+        ensures goes { IfSome result (λ p. (e : EventOf) → e.stream ≡ p.stream → ends (word_of e.kind) ≡ false
+            → GoesOn (e ∷ []) self.old self.new) }
+        ensures bounded { IsBounded self.old → IsBounded self.new }
+    {
+        let Some(entry) = self.streams.get_mut(&id) else {
+            return None;
+        };
+        let (bytes, read) = entry.next_piece(&mut self.shared, chunk)?;
+        Some(Piece {
+            bytes,
+            read,
+            stream: id,
+            session: entry.session_shown(id),
+            user: entry.user,
+        })
+    }
+}
+
+impl Entry {
+    // Returns the piece of content that is next in the input, if pieces of the stream are told as they come, and how many
+    // bytes are read.
+    #[inline(always)]
+    #[tactic(auto, using(crate::proofs::PieceLemmas::looked_piece, crate::proofs::BoundLemmas::same_kept_fits))]
+    fn next_piece<'a>(
+        &mut self,
+        shared: &mut Shared,
+        chunk: &mut Chunk<'a>,
+    ) -> Option<(&'a [u8], usize)>
+        ensures own { self.new.writing ≡ self.old.writing }
+        ensures reads { MatchOption result
+            ((self.new ≡ self.old) × (shared.new ≡ shared.old) × (chunk.new ≡ chunk.old))
+            (λ p. IsRead (with_chunk (theirs_of self.old) chunk.old) p.0.now
+            (with_chunk (theirs_of self.new) chunk.new)) }
+        ensures known { IfSome result (λ p. is_known self.old.told ≡ true) }
+        ensures told { self.new.told ≡ self.old.told }
+        ensures fits { (most : ℕ) → Fits most (theirs_of self.old) → Fits most (theirs_of self.new) }
+    {
+        if !self.gives_pieces() {
+            return None;
+        }
+        let len = chunk.len();
+        let bytes = self.reading.next_piece(shared, chunk)?;
+        let read = len.saturating_sub(chunk.len());
+        self.offset = self.offset.saturating_add(read as u64);
+        Some((bytes, read))
+    }
+
+    // Returns whether pieces of the stream are told as they come: it is read, its end did not come, the program knows of it,
+    // and did not pause it.
+    #[inline(always)]
+    fn gives_pieces(&self) -> bool
+        ensures reads { result ≡ true → self.now.peer ≡ peer.Reads }
+        ensures content { result ≡ true → self.now.is_decoder ≡ false }
+        ensures known { result ≡ true → is_known self.now.told ≡ true }
+    {
+        self.is_read()
+            && self.is_known()
+            && !self.is_decoder
+            && !self.is_paused
+            && !self.reading.has_end()
+    }
+}
