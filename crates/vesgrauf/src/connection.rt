@@ -115,6 +115,10 @@ struct Pending {
     owes_unidirectional: bool,
     /// Whether the own encoder is to begin.
     begins_table: bool,
+    /// A stream that named its session, and is to join it: it did not yet if memory was refused.
+    named: Option<Member>,
+    /// A stream that is to have its place in the order of sending, for which memory was refused.
+    unplaced: Option<u64>,
     /// The first request that a server does not process, if streams are to be told so.
     unprocessed: Option<u64>,
 }
@@ -130,6 +134,8 @@ impl Pending {
             owes_bidirectional: false,
             owes_unidirectional: false,
             begins_table: false,
+            named: None,
+            unplaced: None,
             unprocessed: None,
         }
     }
@@ -413,6 +419,7 @@ impl Connection {
         ensures config { self.new.config ≡ self.old.config }
     {
         self.reserve_all()?;
+        self.place_due()?;
         self.shared.increment(&mut self.told)?;
         self.begin_table()?;
         self.queue_instructions()?;

@@ -95,7 +95,7 @@ impl Connection {
         if entry.peer == Peer::Over {
             return Ok(());
         }
-        if entry.peer == Peer::Reads && !entry.is_ended {
+        if !entry.is_ended {
             if entry.is_opened {
                 self.outputs.push_back(Output::StopSending(id, code))?;
             } else {
@@ -167,22 +167,42 @@ impl Connection {
         self.remove_if_done(id)
     }
 
-    // Ends the own half after what is queued, if a message may end there.
+    // Ends the own half after what is queued, if a message may end there. Without memory it has its place in the order of
+    // sending from the next step on.
     #[tactic(auto, using(crate::proofs::OwnLemmas::untouched_set, crate::proofs::TheirsLemmas::left_set))]
-    pub(super) fn end_own(&mut self, id: u64) -> Result<(), AllocError>
+    pub(super) fn end_own(&mut self, id: u64)
         ensures own { Untouched self.old.streams.entries self.new.streams.entries }
         ensures left { Left self.old.streams.entries self.new.streams.entries }
         ensures config { self.new.config ≡ self.old.config }
     {
         let Some(entry) = self.streams.get_mut(&id) else {
-            return Ok(());
+            return;
         };
         if entry.may_send() && !entry.writing.is_ended() {
-            self.ready.insert(id, entry.kind())?;
+            if self.ready.insert(id, entry.kind()).is_err() {
+                self.pending.unplaced = Some(id);
+            }
         }
         if entry.writing.finish().is_err() && !entry.has_more() {
             self.ready.remove(id, entry.kind());
         }
+    }
+
+    // Gives a stream its place in the order of sending for which memory was refused.
+    pub(super) fn place_due(&mut self) -> Result<(), AllocError>
+        ensures own { Untouched self.old.streams.entries self.new.streams.entries }
+        ensures left { Left self.old.streams.entries self.new.streams.entries }
+        ensures config { self.new.config ≡ self.old.config }
+    {
+        let Some(id) = self.pending.unplaced else {
+            return Ok(());
+        };
+        if let Some(entry) = self.streams.get(&id) {
+            if entry.may_send() && entry.has_more() {
+                self.ready.insert(id, entry.kind())?;
+            }
+        }
+        self.pending.unplaced = None;
         Ok(())
     }
 
@@ -201,6 +221,7 @@ impl Connection {
             entry.has_session = false;
             self.sessions = self.sessions.saturating_sub(1);
             self.datagrams.opened.push_back(session)?;
+            self.drop_datagrams(session)?;
         }
         for _stream in 0..self.members.len() {
             let Some(member) = self.first_member(session) else {

@@ -16,6 +16,7 @@ use wtp_connection::connection::Known;
 use wtp_connection::connection::datagrams::DatagramFor;
 use wtp_connection::fault::Fault as StreamsFault;
 use wtp_core::error::Code;
+use wtp_core::varint::first_varint;
 use wtp_webtransport::fault::Fault;
 
 /// How many datagrams are kept whose sessions are to come.
@@ -189,18 +190,49 @@ impl Connection {
         ensures config { self.new.config ≡ self.old.config }
     {
         self.reserve()?;
+        let left = self.datagrams.queue.len().saturating_sub(1);
+        self.tell_room(left)?;
         self.datagrams.queue.pop_front();
-        if self.ended.is_some() {
+        Ok(())
+    }
+
+    // Drops the queued datagrams of a session that is over: none is sent after the end of the own half of its stream (RFC
+    // 9297, section 2.1).
+    pub(super) fn drop_datagrams(&mut self, session: u64) -> Result<(), AllocError>
+        ensures own { Untouched self.old.streams.entries self.new.streams.entries }
+        ensures left { Left self.old.streams.entries self.new.streams.entries }
+        ensures config { self.new.config ≡ self.old.config }
+    {
+        self.datagrams
+            .queue
+            .retain(|datagram| !is_of(datagram.as_slice(), session));
+        let left = self.datagrams.queue.len();
+        self.tell_room(left)
+    }
+
+    // Tells that there is room for datagrams again, of which so many are left, if that is owed.
+    fn tell_room(&mut self, left: usize) -> Result<(), AllocError>
+        ensures own { Untouched self.old.streams.entries self.new.streams.entries }
+        ensures left { Left self.old.streams.entries self.new.streams.entries }
+        ensures config { self.new.config ≡ self.old.config }
+    {
+        if self.ended.is_some() || !self.datagrams.is_owed {
             return Ok(());
         }
-        if self.datagrams.is_owed && self.datagrams.queue.len() <= self.config.datagram_queue / 2 {
+        if left <= self.config.datagram_queue / 2 {
+            self.events
+                .push_back(Event::of_connection(EventKind::DatagramsWritable))?;
             self.datagrams.is_owed = false;
-            let event = Event::of_connection(EventKind::DatagramsWritable);
-            if self.events.push_back(event).is_err() {
-                return Err(Refused::Memory);
-            }
         }
         Ok(())
+    }
+}
+
+// Returns whether a datagram is of this session.
+fn is_of(datagram: &[u8], session: u64) -> bool {
+    match first_varint(datagram) {
+        Some((quarter, _)) => quarter.into_inner() == session / 4,
+        None => false,
     }
 }
 

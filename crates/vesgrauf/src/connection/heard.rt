@@ -9,9 +9,9 @@ ghost use Rattle.vesgrauf.specs.declared.config.OnMalformed.TheVariants as chose
 
 use crate::connection::failing::NO_DATAGRAMS;
 use crate::connection::{Connection, Step, Stop, internal};
+use crate::entry::Member;
 use crate::event::{Event, EventKind, Tunnel, Why};
 use crate::output::StreamKind;
-use std::alloc::AllocError;
 use vesgrauf_stream::bytes::Bytes;
 use vesgrauf_stream::heard::Heard;
 use wtp_connection::settings::PeerSettings;
@@ -173,14 +173,10 @@ impl Connection {
         if let Some(entry) = self.streams.get_mut(&id) {
             entry.since = self.ticks;
         }
-        match self.join(id, session) {
-            Ok(event) => self.join_came(id, joining_of(&event)),
-            Err(stop) => {
-                // (without memory it joins later)
-                self.wake();
-                Err(stop)
-            }
-        }
+        // (without memory it joins when it is read again)
+        self.pending.named = Some(Member { session, id });
+        let event = self.join(id, session)?;
+        self.join_came(id, joining_of(&event))
     }
 
     // Handles what became of a stream that is to join its session.
@@ -345,7 +341,7 @@ impl Connection {
             }
             HeadersKind::Interim(status) => Ok(self.tell(id, EventKind::Interim(status, list))),
             HeadersKind::Response(status) => {
-                self.response_came(id, status)?;
+                self.response_came(id, status);
                 Ok(self.tell(id, EventKind::Response(status, list)))
             }
             HeadersKind::Trailers => Ok(self.tell(id, EventKind::Trailers(list))),
@@ -392,22 +388,19 @@ impl Connection {
 
     // The final response to a request that asked for no session came.
     #[tactic(auto, using(crate::proofs::OwnLemmas::untouched_set, crate::proofs::TheirsLemmas::left_set))]
-    fn response_came(&mut self, id: u64, status: u32) -> Result<(), AllocError>
+    fn response_came(&mut self, id: u64, status: u32)
         ensures own { Untouched self.old.streams.entries self.new.streams.entries }
         ensures left { Left self.old.streams.entries self.new.streams.entries }
         ensures config { self.new.config ≡ self.old.config }
     {
         let Some(entry) = self.streams.get_mut(&id) else {
-            return Ok(());
+            return;
         };
         if status > 199 && status < 300 {
             entry.writing.connect();
-            return Ok(());
+        } else if entry.has_tunnel {
+            self.end_own(id);
         }
-        if entry.has_tunnel {
-            return self.end_own(id);
-        }
-        Ok(())
     }
 
     // The peer's half ended.
@@ -444,7 +437,7 @@ impl Connection {
         ensures silent { IfOk result IsSilent }
         ensures config { self.new.config ≡ self.old.config }
     {
-        self.end_own(id)?;
+        self.end_own(id);
         self.end_session(id)?;
         self.closed(id, Why::Session(close))?;
         self.cancel_left(id);

@@ -107,6 +107,7 @@ impl Connection {
         if matches!(known, Known::Open) {
             self.members.insert(Member { session, id })?;
         }
+        self.pending.named = None;
         let Some(entry) = self.streams.get_mut(&id) else {
             return Ok(Said::More);
         };

@@ -24,6 +24,8 @@ impl Connection {
             && self.ended.is_none()
             && self.pending.resumed.is_none()
             && !self.pending.begins_table
+            && self.pending.named.is_none()
+            && self.pending.unplaced.is_none()
             && self.datagrams.opened.is_empty()
             && self.told.is_empty()
             && self.tools.instructions.is_empty()

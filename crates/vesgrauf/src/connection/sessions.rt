@@ -88,7 +88,7 @@ impl Connection {
         ensures silent { IfOk result IsSilent }
         ensures config { self.new.config ≡ self.old.config }
     {
-        self.end_own(id)?;
+        self.end_own(id);
         self.end_session(id)?;
         Ok(self.tell(id, EventKind::Response(status, list)))
     }
@@ -202,8 +202,9 @@ impl Connection {
     }
 
     /// Closes a session, with a code and a reason of the application. Its streams are reset and stopped
-    /// (draft-ietf-webtrans-http3-02, section 5). The code and the reason are sent on the session's own stream, so they need
-    /// the peer's windows: [`abort`](Self::abort) of that stream ends the session without them.
+    /// (draft-ietf-webtrans-http3-02, section 5), and its datagrams that wait are dropped (RFC 9297, section 2.1). The code
+    /// and the reason are sent on the session's own stream, so they need the peer's windows: [`abort`](Self::abort) of that
+    /// stream ends the session without them.
     ///
     /// # Errors
     ///

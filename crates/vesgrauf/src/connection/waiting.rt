@@ -11,8 +11,13 @@ use wtp_frames::endpoint::Side;
 use wtp_webtransport::event::{Event as Said, Waits};
 
 impl Connection {
-    // Returns the session that a stream waits for.
+    // Returns the session that a stream waits for, or is to join.
     pub(super) fn session_awaited(&self, id: u64) -> Option<u64> {
+        if let Some(named) = self.pending.named {
+            if named.id == id {
+                return Some(named.session);
+            }
+        }
         match self.streams.get(&id) {
             Some(entry) => match entry.reading.waits() {
                 Some(Waits::Session(session)) => Some(session),
