@@ -34,6 +34,8 @@ use Rattle.wtp_connection.specs.declared.connection.Known.{Known}
 use Rattle.wtp_connection.specs.declared.connection.Known.TheVariants as known
 use Rattle.wtp_connection.specs.Streams.{known_alone}
 use Rattle.wtp_webtransport.specs.Sessions.{known_of}
+use Rattle.wtp_webtransport.specs.Streams.{waits_for}
+use Rattle.wtp_webtransport.specs.declared.event.Waits.{Waits}
 use Rattle.vesgrauf_queue.specs.State.{is_full, Shows}
 use Rattle.vesgrauf.specs.Streams.{IsDue, is_known, is_it, Says, shown_session}
 use Rattle.vesgrauf.specs.Codes.{number_of}
@@ -103,6 +105,11 @@ view_of c = record {
 -- the stream with this ID
 abbrev pub stream_at : Connection → ℕ → Option Entry
 stream_at c id = lookup (is_at (nat_cmp id)) c.streams.entries
+
+-- what it waits for whose bytes came and cannot be read yet
+abbrev pub waits_on : Option Entry → Option Waits
+waits_on None = None
+waits_on (Some e) = waits_for e.reading.stream
 
 -- one that a program may name: none that the peer keeps for the connection
 abbrev pub named : Option Entry → Option Entry
@@ -530,6 +537,11 @@ KeepsOthers c d = view_of d ≡ record (view_of c) { datagrams = d.datagrams.que
 abbrev pub KeepsDatagrams : Connection → Connection → Type 0
 KeepsDatagrams c d =
     (d.datagrams.queue.items ≡ c.datagrams.queue.items) × (d.datagrams.is_owed ≡ c.datagrams.is_owed)
+
+-- the first of what waits is taken out, if there is one
+abbrev pub TakesFirst : {A : Type 0} → List A → List A → Type 0
+TakesFirst [] ys = ys ≡ []
+TakesFirst (x ∷ xs) ys = ys ≡ xs
 
 -- a datagram of these bytes is queued after those that wait
 abbrev pub Adds : List ℕ → DatagramQueue → DatagramQueue → Type 0

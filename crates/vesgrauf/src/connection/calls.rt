@@ -3,7 +3,7 @@ ghost use Rattle.std.specs.Prelude.{◌≡◌, is_some, is_ok, true, Some, None,
 ghost use Rattle.vesgrauf.specs.State.{code_on, named_at, Becomes, Pauses, Prioritizes, IsStill, IsRefusedBy, IsWhyNamed};
 ghost use Rattle.vesgrauf.specs.declared.refused.Refused.TheVariants as refused;
 ghost use Rattle.vesgrauf.specs.Own.{Untouched};
-ghost use Rattle.vesgrauf.specs.Theirs.{Left};
+ghost use Rattle.vesgrauf.specs.Theirs.{Left, Gone, theirs_at};
 
 use crate::code::StreamCode;
 use crate::connection::Connection;
@@ -41,8 +41,10 @@ impl Connection {
     /// # Errors
     ///
     /// As of [`reset`](Self::reset).
+    #[tactic(auto, using(crate::proofs::ReadsLemmas::gone_left))]
     pub fn stop_sending(&mut self, id: u64, code: StreamCode) -> Result<(), Refused>
         ensures fits { OnOk result (is_ok (code_on self.old id code) ≡ true) }
+        ensures gone { OnOk result (theirs_at self.new.streams.entries id ≡ Gone) }
         ensures refused { IfErr result (λ e. IsRefusedBy (code_on self.old id code) e self.old self.new) }
         ensures own { Untouched self.old.streams.entries self.new.streams.entries }
         ensures left { Left self.old.streams.entries self.new.streams.entries }
@@ -62,8 +64,10 @@ impl Connection {
     /// # Errors
     ///
     /// As of [`reset`](Self::reset).
+    #[tactic(auto, using(crate::proofs::ReadsLemmas::gone_left))]
     pub fn abort(&mut self, id: u64, code: StreamCode) -> Result<(), Refused>
         ensures fits { OnOk result (is_ok (code_on self.old id code) ≡ true) }
+        ensures gone { OnOk result (theirs_at self.new.streams.entries id ≡ Gone) }
         ensures refused { IfErr result (λ e. IsRefusedBy (code_on self.old id code) e self.old self.new) }
         ensures own { Untouched self.old.streams.entries self.new.streams.entries }
         ensures left { Left self.old.streams.entries self.new.streams.entries }

@@ -87,6 +87,7 @@ impl Connection {
     pub(super) fn stop_peer(&mut self, id: u64, code: u64) -> Result<(), AllocError>
         ensures own { Untouched self.old.streams.entries self.new.streams.entries }
         ensures left { Left self.old.streams.entries self.new.streams.entries }
+        ensures gone { OnOk result (theirs_at self.new.streams.entries id ≡ Gone) }
         ensures config { self.new.config ≡ self.old.config }
     {
         let Some(entry) = self.streams.get_mut(&id) else {
@@ -292,6 +293,8 @@ impl Connection {
         ensures left { Left self.old.streams.entries self.new.streams.entries }
         ensures config { self.new.config ≡ self.old.config }
         ensures done { OnOk result (knows_of (stream_at self.new id) ≡ false) }
+        ensures outputs { self.new.outputs ≡ self.old.outputs }
+        ensures closes { self.new.closes ≡ self.old.closes }
     {
         if let Step::Told(event) = self.tell(id, EventKind::Closed(why)) {
             self.events.push_back(event)?;
@@ -331,6 +334,8 @@ impl Connection {
         ensures own { Untouched self.old.streams.entries self.new.streams.entries }
         ensures left { Left self.old.streams.entries self.new.streams.entries }
         ensures config { self.new.config ≡ self.old.config }
+        ensures outputs { self.new.outputs ≡ self.old.outputs }
+        ensures closes { self.new.closes ≡ self.old.closes }
     {
         let Some(entry) = self.streams.get(&id) else {
             return Ok(());
@@ -355,6 +360,8 @@ impl Connection {
         ensures own { Untouched self.old.streams.entries self.new.streams.entries }
         ensures left { Left self.old.streams.entries self.new.streams.entries }
         ensures config { self.new.config ≡ self.old.config }
+        ensures outputs { self.new.outputs ≡ self.old.outputs }
+        ensures closes { self.new.closes ≡ self.old.closes }
     {
         let Some(entry) = self.streams.remove(&id) else {
             return;

@@ -1,6 +1,6 @@
 //! Datagrams (RFC 9297).
 ghost use Rattle.std.specs.Prelude.{◌≡◌, ◌-◌, ◌++◌, [], Ok, Some, MatchOption, OnOk, IfOk, IfSome, OnErr, IfErr, List, ℕ, length, option_map};
-ghost use Rattle.vesgrauf.specs.State.{Adds, head, open_session, HeadOf, KeepsDatagrams, KeepsOthers, SendsDatagram};
+ghost use Rattle.vesgrauf.specs.State.{Adds, TakesFirst, head, open_session, HeadOf, KeepsDatagrams, KeepsOthers, SendsDatagram};
 ghost use Rattle.vesgrauf.specs.Own.{Untouched};
 ghost use Rattle.vesgrauf.specs.declared.refused.Refused.TheVariants as refused;
 ghost use Rattle.vesgrauf.specs.Theirs.{Left, IsSilent, IsSilentIf};
@@ -184,6 +184,8 @@ impl Connection {
     ///
     /// `Memory`: nothing changes, and the call is to be made again.
     pub fn datagram_sent(&mut self) -> Result<(), Refused>
+        ensures ok { OnOk result (TakesFirst self.old.datagrams.queue.items self.new.datagrams.queue.items) }
+        ensures kept { OnErr result (self.new.datagrams.queue.items ≡ self.old.datagrams.queue.items) }
         ensures refused { IfErr result (λ e. e ≡ refused.Memory) }
         ensures own { Untouched self.old.streams.entries self.new.streams.entries }
         ensures left { Left self.old.streams.entries self.new.streams.entries }
@@ -215,6 +217,7 @@ impl Connection {
         ensures own { Untouched self.old.streams.entries self.new.streams.entries }
         ensures left { Left self.old.streams.entries self.new.streams.entries }
         ensures config { self.new.config ≡ self.old.config }
+        ensures queue { self.new.datagrams.queue ≡ self.old.datagrams.queue }
     {
         if self.ended.is_some() || !self.datagrams.is_owed {
             return Ok(());

@@ -1,6 +1,6 @@
 //! Rules that the peer violates, and where.
 ghost use Rattle.std.specs.Prelude.{◌≡◌, true};
-ghost use Rattle.vesgrauf.specs.State.{is_over};
+ghost use Rattle.vesgrauf.specs.State.{is_over, stream_at, waits_on};
 ghost use Rattle.vesgrauf.specs.Own.{Untouched};
 ghost use Rattle.vesgrauf.specs.Theirs.{Left};
 
@@ -33,7 +33,9 @@ impl Connection {
     }
 
     /// Returns what a stream waits for whose bytes came and cannot be read yet, or `None` if it waits for nothing.
-    pub fn waits(&self, id: u64) -> Option<Waits> {
+    pub fn waits(&self, id: u64) -> Option<Waits>
+        ensures { result ≡ waits_on (stream_at self.now id) }
+    {
         match self.streams.get(&id) {
             Some(entry) => entry.reading.waits(),
             None => None,

@@ -1,6 +1,7 @@
 //! The end of a connection in steps.
-ghost use Rattle.std.specs.Prelude.{◌≡◌, ◌<◌, Ok, IfSome, OnOk, true};
-ghost use Rattle.vesgrauf.specs.State.{is_over, open_session};
+ghost use Rattle.std.specs.Prelude.{◌≡◌, ◌<◌, Ok, IfSome, OnOk, true, false};
+ghost use Rattle.vesgrauf.specs.State.{is_over, open_session, ShutsDown};
+ghost use Rattle.vesgrauf.specs.declared.output.Shutdown.TheVariants as shutdown;
 
 use crate::connection::Connection;
 use crate::output::Shutdown;
@@ -38,6 +39,9 @@ impl Connection {
     pub fn wind_down(&mut self, tick: u32, last: u32) -> Result<(), Refused>
         ensures over { is_over self.old ≡ true → self.new ≡ self.old }
         ensures closed { last < tick → is_over self.new ≡ true }
+        ensures leaves { is_over self.old ≡ false → tick ≡ 1 → 1 < last
+            → OnOk result (ShutsDown shutdown.Final self.old self.new) }
+        ensures rests { is_over self.old ≡ false → 1 < tick → tick < last → (result ≡ Ok tt) × (self.new ≡ self.old) }
     {
         if self.ended.is_some() {
             return Ok(());

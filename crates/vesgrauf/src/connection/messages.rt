@@ -2,9 +2,11 @@
 ghost use Rattle.std.specs.Prelude.{◌≡◌, ◌⊎◌, false, true, is_some, is_ok, None, Some, OnOk, OnErr, IfOk, IfErr, length};
 ghost use Rattle.vesgrauf_stream.specs.Writing.{Sends};
 ghost use Rattle.vesgrauf_stream.specs.Headers.{SendsTrailers, RefusesTrailers};
+ghost use Rattle.vesgrauf_stream.specs.declared.tools.Tools.{Tools as ToolsOf};
+ghost use Rattle.vesgrauf_stream.specs.declared.writing.Writing.{Writing as WritingOf};
 ghost use Rattle.vesgrauf.specs.Own.{Untouched, UntouchedBut};
 ghost use Rattle.vesgrauf.specs.Theirs.{Left};
-ghost use Rattle.vesgrauf.specs.State.{stream_at, Changes, IsFor, IsStill, IsStillBut, IsRefused, SaysOrWaits, StaysFor, IsWhy, IsWhyOf, RefusesBytes, RefusesEnd, FinishesUnless, was_finished, was_told_full, is_over, open_session};
+ghost use Rattle.vesgrauf.specs.State.{stream_at, view_of, with_own, with_stream, Of, Changes, IsFor, IsStill, IsStillBut, IsRefused, SaysOrWaits, StaysFor, IsWhy, IsWhyOf, RefusesBytes, RefusesEnd, FinishesUnless, was_finished, was_told_full, is_over, open_session};
 ghost use Rattle.vesgrauf.specs.declared.refused.Refused.TheVariants as refused;
 
 use crate::connection::{Connection, Stop};
@@ -35,6 +37,7 @@ impl Connection {
     /// [`Openable`](crate::event::EventKind) follows; `NoMoreIds`; `Send` if it would be malformed or the peer does not
     /// support it; and `Memory`.
     pub fn request(&mut self, list: &FieldList, fin: bool) -> Result<u64, Refused>
+        ensures refused { IfErr result (λ e. (e ≡ refused.Memory) ⊎ IsStillBut self.old self.new) }
         ensures id { IfOk result (λ id. id ≡ self.old.ids.bidirectional) }
         ensures own { IfOk result (λ id. UntouchedBut id self.old.streams.entries self.new.streams.entries) }
     {
@@ -97,6 +100,7 @@ impl Connection {
         list: &FieldList,
         fin: bool,
     ) -> Result<(), Refused>
+        ensures kept { OnErr result (IsStill self.old self.new) }
         ensures own { OnOk result (UntouchedBut id self.old.streams.entries self.new.streams.entries) }
         ensures ids { self.new.ids ≡ self.old.ids }
     {
@@ -332,6 +336,10 @@ impl Connection {
     ///
     /// Nothing changes. `Closed`; `NoStream`; `Over`; `Send` if they would be malformed; and `Memory`.
     pub fn send_trailers(&mut self, id: u64, list: &FieldList) -> Result<(), Refused>
+        ensures ok { OnOk result (Of (stream_at self.old id) (λ e. (s : ToolsOf) × (t : ToolsOf) × (w : WritingOf)
+            × (s.encoder ≡ record self.old.tools.encoder { policy = s.encoder.policy })
+            × SendsTrailers list.now s t e.writing w
+            × (view_of self.new ≡ with_own self.new (with_stream (view_of self.old) id (record e { writing = w }))))) }
         ensures kept { OnErr result (IsStillBut self.old self.new) }
         ensures decoder { SaysOrWaits self.old.told.items self.new.told.items self.old.decoder self.new.decoder }
     {

@@ -6,7 +6,7 @@ ghost use Rattle.vesgrauf.specs.State.{open_session, room_for, may_wait, IsStill
 ghost use Rattle.vesgrauf.specs.Own.{Sends, own_of, Untouched, UntouchedBut};
 ghost use Rattle.vesgrauf.specs.Theirs.{Left, Accepts, Unread, content_of, theirs_of};
 ghost use Rattle.wtp_webtransport.specs.Events.{told_of};
-ghost use Rattle.vesgrauf.specs.Ids.{next_own, opens};
+ghost use Rattle.vesgrauf.specs.Ids.{next_own, opens, kind_of, opened as opened_ids};
 
 use crate::connection::{Connection, Stop, internal};
 use crate::entry::{Entry, Member, Peer, SHARED, Told};
@@ -192,6 +192,7 @@ impl Connection {
 
     // Tells that there is room again for own streams of a kind, if that is owed.
     fn tell_openable(&mut self, kind: StreamKind) -> Result<(), AllocError>
+        ensures ids { self.new.ids ≡ self.old.ids }
         ensures own { Untouched self.old.streams.entries self.new.streams.entries }
         ensures left { Left self.old.streams.entries self.new.streams.entries }
         ensures config { self.new.config ≡ self.old.config }
@@ -258,6 +259,7 @@ impl Connection {
     /// this one. `Memory`: nothing changes, and the call is to be made again.
     pub fn opened(&mut self, id: u64) -> Result<(), Refused>
         ensures asked { OnOk result (opens self.old.ids id ≡ true) }
+        ensures ids { OnOk result (self.new.ids ≡ opened_ids self.old.ids (kind_of id)) }
         ensures refused { IfErr result (λ e. (e ≡ refused.Memory)
             ⊎ ((opens self.old.ids id ≡ false) × (e ≡ refused.NotAsked) × (self.new ≡ self.old))) }
         ensures own { Untouched self.old.streams.entries self.new.streams.entries }
@@ -285,6 +287,7 @@ impl Connection {
     // QUIC has opened an own stream that is not critical.
     #[tactic(auto, using(crate::proofs::OwnLemmas::untouched_set, crate::proofs::TheirsLemmas::left_set))]
     fn opened_message(&mut self, id: u64) -> Result<(), AllocError>
+        ensures ids { self.new.ids ≡ self.old.ids }
         ensures own { Untouched self.old.streams.entries self.new.streams.entries }
         ensures left { Left self.old.streams.entries self.new.streams.entries }
         ensures config { self.new.config ≡ self.old.config }

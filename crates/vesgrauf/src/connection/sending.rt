@@ -1,7 +1,10 @@
 //! What QUIC is to send and to do.
-ghost use Rattle.std.specs.Prelude.{◌≡◌, false, true, None, IfErr, IfSome, OnOk, OnErr};
-ghost use Rattle.vesgrauf.specs.State.{next_output, IsStill, IsRefused, ShowsNext, view_of, blocked_at, blocked_in, is_over, is_own};
+ghost use Rattle.std.specs.Prelude.{◌≡◌, is_some, take, drop, false, true, None, IfErr, IfSome, OnOk, OnErr};
+ghost use Rattle.vesgrauf.specs.State.{next_output, TakesFirst, IsStill, IsRefused, ShowsNext, view_of, blocked_at, blocked_in, is_over, is_own};
 ghost use Rattle.vesgrauf.specs.declared.refused.Refused.TheVariants as refused;
+ghost use Rattle.vesgrauf.specs.Streams.{IsDue, is_it};
+ghost use Rattle.vesgrauf_queue.specs.State.{waiting};
+ghost use Rattle.vesgrauf_queue.specs.Steps.{Does, Puts, ends_with};
 ghost use Rattle.vesgrauf.specs.Own.{own_at, Took, TookAlone, Untouched, UntouchedBut};
 ghost use Rattle.vesgrauf.specs.Theirs.{Left, IsSilent};
 
@@ -39,6 +42,9 @@ impl Connection {
     /// `NotAsked` if there is none. `Memory`: nothing changes, and the call is to be made again.
     #[tactic(auto, using(crate::proofs::OwnLemmas::untouched_set, crate::proofs::TheirsLemmas::left_set))]
     pub fn output_taken(&mut self) -> Result<(), Refused>
+        ensures taken { OnOk result (self.old.closes ≡ None
+            → TakesFirst self.old.outputs.items self.new.outputs.items) }
+        ensures closes { OnOk result (self.new.closes ≡ None) }
         ensures refused { IfErr result (λ e. IsRefused e self.old self.new) }
         ensures own { Untouched self.old.streams.entries self.new.streams.entries }
         ensures left { Left self.old.streams.entries self.new.streams.entries }
@@ -70,6 +76,13 @@ impl Connection {
         ensures next { IfSome result (λ n. ShowsNext self.now n.id n.bytes.now n.more.now n.fin) }
         ensures over { is_over self.now ≡ true → result ≡ None }
         ensures blocked { self.now.is_blocked ≡ true → result ≡ None }
+        ensures control { result ≡ None → is_over self.now ≡ false → self.now.is_blocked ≡ false
+            → is_some self.now.control.id ≡ true → ¬ (IsDue self.now.control) }
+        ensures decoder { result ≡ None → is_over self.now ≡ false → self.now.is_blocked ≡ false
+            → ¬ (IsDue self.now.control) → is_some self.now.decoder.id ≡ true → ¬ (IsDue self.now.decoder) }
+        ensures encoder { result ≡ None → is_over self.now ≡ false → self.now.is_blocked ≡ false
+            → ¬ (IsDue self.now.control) → ¬ (IsDue self.now.decoder)
+            → is_some self.now.encoder.id ≡ true → ¬ (IsDue self.now.encoder) }
     {
         if self.ended.is_some() || self.is_blocked {
             return None;
@@ -112,6 +125,10 @@ impl Connection {
         ensures own { UntouchedBut id self.old.streams.entries self.new.streams.entries }
         ensures took { OnOk result (is_own self.old id ≡ false
             → TookAlone len (own_at self.old.streams.entries id) (own_at self.new.streams.entries id)) }
+        ensures control { OnOk result (is_it id self.old.control.id ≡ true
+            → Does (Puts (take len (waiting self.old.control.queue))
+            (ends_with self.old.control.queue (drop len (waiting self.old.control.queue))))
+            self.old.control.queue self.new.control.queue) }
     {
         self.reserve()?;
         let spares = &mut self.tools.spares;

@@ -1,5 +1,5 @@
 //! Sessions.
-ghost use Rattle.std.specs.Prelude.{◌≡◌, ◌⊎◌, true, Ok, Err, OnOk, OnErr, IfErr, IfOk};
+ghost use Rattle.std.specs.Prelude.{◌≡◌, ◌⊎◌, ◌+◌, ◌-◌, ◌^◌, min, true, false, Ok, Err, OnOk, OnErr, IfErr, IfOk};
 ghost use Rattle.vesgrauf_stream.specs.Writing.{Drains};
 ghost use Rattle.vesgrauf.specs.State.{IsStill, IsRefused, Changes, IsWhy, RefusesDrain, is_over, open_session};
 ghost use Rattle.vesgrauf.specs.Own.{Untouched, UntouchedBut};
@@ -147,6 +147,8 @@ impl Connection {
     pub fn tick(&mut self)
         ensures over { is_over self.old ≡ true → self.new ≡ self.old }
         ensures still { IsStill self.old self.new }
+        ensures counts { is_over self.old ≡ false → self.new.ticks ≡ min (self.old.ticks + 1) (2 ^ 64 - 1) }
+        ensures wakes { is_over self.old ≡ false → (self.new.pending.is_woken ≡ true) × (self.new.pending.cursor ≡ 0) }
     {
         if self.ended.is_some() {
             return;

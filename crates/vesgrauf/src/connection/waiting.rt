@@ -1,5 +1,5 @@
 //! Streams that wait.
-ghost use Rattle.std.specs.Prelude.{◌≡◌};
+ghost use Rattle.std.specs.Prelude.{◌≡◌, true};
 ghost use Rattle.vesgrauf.specs.State.{IsStill, known_in};
 ghost use Rattle.vesgrauf.specs.Own.{Untouched};
 ghost use Rattle.vesgrauf.specs.Theirs.{Left, IsSilent};
@@ -121,7 +121,9 @@ impl Connection {
 
     // Looks at the streams that wait once more.
     pub(super) fn wake(&mut self)
-        ensures { IsStill self.old self.new }
+        ensures still { IsStill self.old self.new }
+        ensures wakes { (self.new.pending.is_woken ≡ true) × (self.new.pending.cursor ≡ 0) }
+        ensures ticks { self.new.ticks ≡ self.old.ticks }
     {
         self.pending.is_woken = true;
         self.pending.cursor = 0;
