@@ -335,7 +335,9 @@ impl Connection {
         if matches!(input.report, Report::ConnectionClosed(_)) {
             self.closes = None;
         }
-        input.drop_rest();
+        if matches!(input.report, Report::Stream(_)) {
+            input.drop_rest();
+        }
         input.report = Report::Nothing;
         if let Some(id) = self.next_told() {
             self.pending.cursor = id.saturating_add(1);
