@@ -107,11 +107,22 @@ impl Connection {
         if matches!(known, Known::Open) {
             self.members.insert(Member { session, id })?;
         }
-        self.pending.named = None;
+        self.forget_named(id);
         let Some(entry) = self.streams.get_mut(&id) else {
             return Ok(Said::More);
         };
         Ok(entry.reading.join_session(&mut self.shared, known))
+    }
+
+    // A stream that named its session is not to join it any more.
+    fn forget_named(&mut self, id: u64)
+        ensures still { IsStill self.old self.new }
+    {
+        if let Some(named) = self.pending.named {
+            if named.id == id {
+                self.pending.named = None;
+            }
+        }
     }
 
     // A stream of the peer joined its session.
