@@ -40,8 +40,6 @@ impl Connection {
             && self.events.is_empty()
             && self.pending.resumed.is_none()
             && !self.pending.begins_table
-            && self.pending.named.is_none()
-            && self.pending.unplaced.is_none()
             && self.datagrams.opened.is_empty()
             && self.is_instructed()
     }
