@@ -1,27 +1,23 @@
 -- Connections, by the rows of the tables.
-use Rattle.std.proofs.Common.{◌≡◌, ℕ, arith}
-use Rattle.vesgrauf_registry.specs.Capsules.{capsules, capsule_of}
+use Rattle.std.proofs.Common.{◌≡◌, ℕ, arith, sym}
+use Rattle.vesgrauf_registry.specs.Capsules.{capsule_of}
 use Rattle.vesgrauf_registry.specs.Settings.{settings, setting_of, setting_columns}
 use Rattle.vesgrauf_registry.specs.Streams.{streams, stream_of}
 use Rattle.vesgrauf_registry.specs.Table.{AtEach, IsOther}
 use Rattle.vesgrauf_registry.proofs.TableLemmas.{by_entries}
-use Rattle.vesgrauf_registry_agreement.specs.Connections.{critical_by, is_flag_by, is_supported_by, purpose_by, sort_in}
+use Rattle.vesgrauf_registry_agreement.specs.Connections.{critical_by, is_supported_by}
 use Rattle.wtp_connection.specs.Opening.{is_for_critical, type_purpose}
+use Rattle.wtp_connection.specs.Rows.{is_flag_by, purpose_by}
 use Rattle.wtp_connection.specs.Settings.{is_flag, is_understood}
+use Rattle.wtp_connection.proofs.RowLemmas.{flag_is, purpose_is}
+use Rattle.wtp_webtransport.specs.CapsuleRows.{sort_in}
 use Rattle.wtp_webtransport.specs.Capsules.{sort_of}
+use Rattle.wtp_webtransport.proofs.RowLemmas.{sort_is}
 
 -- ---- streams
 
-purposes_at_each : AtEach (λ n. type_purpose n ≡ purpose_by (stream_of n)) streams
-unfolding stream_of streams
-purposes_at_each = search
-
-purposes_others : (n : ℕ) → IsOther n streams → type_purpose n ≡ purpose_by (stream_of n)
-unfolding stream_of streams
-purposes_others n h = grind (arith, h)
-
 pub same_purpose : (n : ℕ) → type_purpose n ≡ purpose_by (stream_of n)
-same_purpose n = by_entries (λ m. type_purpose m ≡ purpose_by (stream_of m)) streams n purposes_at_each (purposes_others n)
+same_purpose n = sym (purpose_is n)
 
 critical_at_each : AtEach (λ n. is_for_critical (type_purpose n) ≡ critical_by (stream_of n)) streams
 unfolding stream_of streams
@@ -47,26 +43,10 @@ supported_others n h = grind (arith, h)
 pub same_supported : (n : ℕ) → is_understood n ≡ is_supported_by (setting_columns n)
 same_supported n = by_entries (λ m. is_understood m ≡ is_supported_by (setting_columns m)) settings n supported_at_each (supported_others n)
 
-flags_at_each : AtEach (λ n. is_flag n ≡ is_flag_by (setting_columns n)) settings
-unfolding setting_of settings
-flags_at_each = search
-
-flags_others : (n : ℕ) → IsOther n settings → is_flag n ≡ is_flag_by (setting_columns n)
-unfolding setting_of settings
-flags_others n h = grind (arith, h)
-
 pub same_flag : (n : ℕ) → is_flag n ≡ is_flag_by (setting_columns n)
-same_flag n = by_entries (λ m. is_flag m ≡ is_flag_by (setting_columns m)) settings n flags_at_each (flags_others n)
+same_flag n = sym (flag_is n)
 
 -- ---- capsules
 
-sorts_at_each : (len : ℕ) → AtEach (λ n. sort_of n len ≡ sort_in (capsule_of n) len) capsules
-unfolding capsule_of capsules
-sorts_at_each len = search
-
-sorts_others : (len n : ℕ) → IsOther n capsules → sort_of n len ≡ sort_in (capsule_of n) len
-unfolding capsule_of capsules
-sorts_others len n h = grind (arith, h)
-
 pub same_sort : (n len : ℕ) → sort_of n len ≡ sort_in (capsule_of n) len
-same_sort n len = by_entries (λ m. sort_of m len ≡ sort_in (capsule_of m) len) capsules n (sorts_at_each len) (sorts_others len n)
+same_sort n len = sym (sort_is n len)

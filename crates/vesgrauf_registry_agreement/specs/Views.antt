@@ -46,10 +46,10 @@ frame_kind_of other = None
 -- wtp_wire has no push streams
 abbrev pub stream_kind_in : StreamContent → Option StreamKind
 stream_kind_in content.Control = Some stream.Control
-stream_kind_in content.Push = None
 stream_kind_in content.Encoder = Some stream.QPackEncoder
 stream_kind_in content.Decoder = Some stream.QPackDecoder
 stream_kind_in content.Session = Some stream.WebTransport
+stream_kind_in other = None
 
 abbrev pub stream_kind_by : Option (Entry UniStream) → Option StreamKind
 stream_kind_by None = None

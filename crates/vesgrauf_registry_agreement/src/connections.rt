@@ -4,9 +4,11 @@ ghost use Rattle.std.specs.Prelude.{◌≡◌, ℕ, []};
 ghost use Rattle.vesgrauf_registry.specs.Capsules.{capsule_of};
 ghost use Rattle.vesgrauf_registry.specs.Settings.{setting_columns};
 ghost use Rattle.vesgrauf_registry.specs.Streams.{stream_of};
-ghost use Rattle.vesgrauf_registry_agreement.specs.Connections.{IsDefault, IsOff, critical_by, is_flag_by, is_supported_by, purpose_by, setting_default, sort_in};
+ghost use Rattle.vesgrauf_registry_agreement.specs.Connections.{IsDefault, IsOff, critical_by, is_supported_by, setting_default};
 ghost use Rattle.wtp_connection.specs.Opening.{is_for_critical, type_purpose};
+ghost use Rattle.wtp_connection.specs.Rows.{is_flag_by, purpose_by};
 ghost use Rattle.wtp_connection.specs.Settings.{is_flag, is_understood, values_of, with_defaults};
+ghost use Rattle.wtp_webtransport.specs.CapsuleRows.{sort_in};
 ghost use Rattle.wtp_webtransport.specs.Capsules.{sort_of};
 
 /// Streams: the purpose of a unidirectional stream follows from what its row says, and so does

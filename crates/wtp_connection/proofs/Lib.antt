@@ -1,3 +1,4 @@
+pub mod RowLemmas
 pub mod BudgetLemmas
 pub mod EndLemmas
 pub mod FinishLemmas

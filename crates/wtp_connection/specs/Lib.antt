@@ -1,6 +1,7 @@
 pub mod Budget
 pub mod Fault
 pub mod Settings
+pub mod Rows
 pub mod Resumption
 pub mod Instructions
 pub mod Opening

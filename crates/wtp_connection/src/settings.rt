@@ -1,11 +1,13 @@
 //! The settings of the peer (RFC 9114, section 7.2.4; RFC 9204, section 5; RFC 9220, section 3; RFC
 //! 9297, section 2.1.1; WebTransport over HTTP/3).
 ghost use Rattle.std.specs.Prelude.{◌≡◌, [], None};
+ghost use Rattle.wtp_connection.specs.Rows.{is_flag_row};
 ghost use Rattle.wtp_connection.specs.Settings.{values_of, stored as stored_is, held as held_is, taken, with_item, is_flag as is_flag_is, is_on as is_on_is, with_defaults, settings_in};
 
 pub mod words;
 
 use crate::fault::Fault;
+use vesgrauf_registry::settings::{Range, find_setting};
 use wtp_core::error::ErrorCode;
 use wtp_frames::fault::Fault as StreamFault;
 use wtp_wire::settings::{SettingPair, SettingPairs};
@@ -199,10 +201,21 @@ impl Values {
 }
 
 // Returns whether the value of this setting is 0 or 1.
+#[tactic(auto, using(crate::proofs::RowLemmas::flag_is))]
 fn is_flag(id: u64) -> bool
     ensures { result ≡ is_flag_is id }
 {
-    matches!(id, 0x08 | 0x33 | 0x2b60_3742)
+    is_flag_row(id)
+}
+
+// Returns whether this is a setting whose value is used, and is 0 or 1.
+fn is_flag_row(id: u64) -> bool
+    ensures { result ≡ is_flag_row id }
+{
+    match find_setting(id) {
+        Some(row) => row.columns.supported && matches!(row.columns.range, Range::Flag),
+        None => false,
+    }
 }
 
 // Returns whether the value is 1.

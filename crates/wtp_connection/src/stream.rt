@@ -1,8 +1,9 @@
 //! What a stream of the peer is for, by its first bytes (RFC 9114, section 6.2;
 //! draft-ietf-webtrans-http3-02, sections 4.1 and 4.2).
-ghost use Rattle.std.specs.Prelude.{◌≡◌, ◌≤◌, false, length, drop, None, Some, MatchOption, IfSome};
+ghost use Rattle.std.specs.Prelude.{◌≡◌, ◌≤◌, ◌==◌, false, length, drop, None, Some, MatchOption, IfSome};
 ghost use Rattle.wtp_core.specs.Varint.{number_at};
 ghost use Rattle.wtp_connection.specs.Opening.{with_session, type_purpose, frames_purpose, uni_at, bi_at, stream_of, waits_for, is_critical as is_critical_is, connected, remaining_of, is_for_critical, has_no_headers as has_no_headers_is, is_closed as is_closed_is, over_from, over_by, allows_bidirectional as allows_bidirectional_is, is_forbidden as is_forbidden_is, forbidden_at, end_unopened};
+ghost use Rattle.wtp_connection.specs.Rows.{is_session_row, purpose_in, purpose_row};
 ghost use Rattle.wtp_connection.specs.Ahead.{past_piece};
 ghost use Rattle.wtp_connection.specs.Streams.{known_by_stream};
 ghost use Rattle.wtp_frames.specs.Start.{message_reader};
@@ -11,6 +12,7 @@ pub mod words;
 
 use crate::connection::Known;
 use crate::instructions::DecoderPlace;
+use vesgrauf_registry::streams::{StreamContent, find_stream};
 use wtp_core::varint::first_varint;
 use wtp_frames::endpoint::{Endpoint, Side};
 use wtp_frames::fault::Fault;
@@ -271,7 +273,7 @@ pub(crate) fn uni_opening(endpoint: Endpoint, bytes: &[u8]) -> Option<(Purpose, 
     match first_varint(bytes) {
         None => None,
         Some((number, first)) => {
-            if number.into_inner() == 0x54 && endpoint.webtransport {
+            if is_session(number.into_inner()) && endpoint.webtransport {
                 session_after(bytes, first)
             } else {
                 Some((purpose_of(number.into_inner()), first))
@@ -316,15 +318,52 @@ fn forbidden_opening(bytes: &[u8]) -> Option<(Purpose, usize)>
     }
 }
 
+// Returns whether a session ID follows this type.
+#[tactic(auto, using(crate::proofs::RowLemmas::session_is))]
+fn is_session(number: u64) -> bool
+    ensures { result ≡ (number == 0x54) }
+{
+    is_session_row(number)
+}
+
+// Returns whether a session ID follows the type with this row.
+fn is_session_row(number: u64) -> bool
+    ensures { result ≡ is_session_row number }
+{
+    match find_stream(number) {
+        Some(row) => matches!(row.columns.content, StreamContent::Session),
+        None => false,
+    }
+}
+
 // Returns the purpose of this type.
+#[tactic(auto, using(crate::proofs::RowLemmas::purpose_is))]
 fn purpose_of(number: u64) -> Purpose
     ensures { result ≡ type_purpose number }
 {
-    match number {
-        0x00 => Purpose::Control,
-        0x01 => Purpose::Push,
-        0x02 => Purpose::Encoder,
-        0x03 => Purpose::Decoder,
+    purpose_row(number)
+}
+
+// Returns the purpose of the type with this row.
+fn purpose_row(number: u64) -> Purpose
+    ensures { result ≡ purpose_row number }
+{
+    match find_stream(number) {
+        Some(row) => purpose_in(row.columns.content),
+        None => Purpose::Ignored,
+    }
+}
+
+// Returns the purpose of a stream with this content. Without WebTransport that of a session is of an
+// unknown type.
+fn purpose_in(content: StreamContent) -> Purpose
+    ensures { result ≡ purpose_in content }
+{
+    match content {
+        StreamContent::Control => Purpose::Control,
+        StreamContent::Push => Purpose::Push,
+        StreamContent::Encoder => Purpose::Encoder,
+        StreamContent::Decoder => Purpose::Decoder,
         _ => Purpose::Ignored,
     }
 }

@@ -1,3 +1,4 @@
+pub mod RowLemmas
 pub mod AcknowledgmentLemmas
 pub mod EnablingLemmas
 pub mod EndingLemmas

@@ -1,5 +1,6 @@
 pub mod Calls
 pub mod Capsules
+pub mod CapsuleRows
 pub mod Close
 pub mod Cuts
 pub mod Enabling

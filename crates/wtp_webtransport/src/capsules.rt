@@ -1,15 +1,17 @@
 //! The capsules of a session, in the content of its own stream (RFC 9297, section 3.2).
 ghost use Rattle.std.specs.Prelude.{◌≡◌, ◌≢◌, ◌≤◌, ◌<◌, ◌+◌, ◌-◌, ◌++◌, ◌↔◌, [], None, Some, Ok, length, drop, IsTrue, MatchResult, MatchOption, IfOk, OnErr};
 ghost use Rattle.wtp_wire.specs.Settings.{pair_at};
-ghost use Rattle.wtp_webtransport.specs.Capsules.{type_of as type_of_is, sort_of as sort_of_is, between, skipping, CapsuleIs, StartGives, ValueGives, HeadIs};
+ghost use Rattle.wtp_webtransport.specs.CapsuleRows.{sort_row, type_in};
+ghost use Rattle.wtp_webtransport.specs.Capsules.{sort_of as sort_of_is, between, skipping, CapsuleIs, StartGives, ValueGives, HeadIs};
 
 pub mod words;
 
 use std::alloc::{AllocError, Global};
 use std::marker::Model;
 use std::mem;
+use vesgrauf_registry::capsules::{Meaning, find_capsule};
 use wtp_core::varint::VarInt;
-use wtp_wire::capsule::{CapsuleError, CapsuleKind};
+use wtp_wire::capsule::CapsuleError;
 use wtp_wire::head::{FirstPair, first_pair};
 
 /// A capsule that means something to a session.
@@ -33,9 +35,6 @@ enum Sort {
     /// It is longer than any value of its capsule.
     Refuse,
 }
-
-/// The longest value of a datagram that is read, in bytes.
-const MAX_DATAGRAM: u64 = 65_535;
 
 /// A capsule with its value.
 #[derive(Drop)]
@@ -231,47 +230,41 @@ fn take_head(head: &mut Vec<u8>, bytes: &mut &[u8]) -> Result<Option<FirstPair>,
     }
 }
 
-// Returns what a capsule of this type is to a session, if it means something.
-fn type_of(id: VarInt) -> Option<CapsuleType>
-    ensures { result ≡ type_of_is id }
+// Returns what a capsule with this meaning is to a session, if it means something.
+fn type_of(meaning: Meaning) -> Option<CapsuleType>
+    ensures { result ≡ type_in meaning }
 {
-    match CapsuleKind::parse(id) {
-        Some(CapsuleKind::CloseWebTransportSession) => Some(CapsuleType::Close),
-        None => match id.into_inner() {
-            0x00 => Some(CapsuleType::Datagram),
-            0x78ae => Some(CapsuleType::Drain),
-            _ => None,
-        },
+    match meaning {
+        Meaning::Datagram => Some(CapsuleType::Datagram),
+        Meaning::Close => Some(CapsuleType::Close),
+        Meaning::Drain => Some(CapsuleType::Drain),
+        _ => None,
     }
 }
 
 // Returns what is done with the value of a capsule of this type and length.
+#[tactic(auto, using(crate::proofs::RowLemmas::sort_is))]
 fn sort_of(id: VarInt, len: VarInt) -> Sort
     ensures { result ≡ sort_of_is id len }
 {
-    let len = len.into_inner();
-    match type_of(id) {
-        None => Sort::Skip,
-        Some(CapsuleType::Datagram) => {
-            if len > MAX_DATAGRAM {
-                Sort::Skip
-            } else {
-                Sort::Read(CapsuleType::Datagram)
-            }
-        }
-        Some(CapsuleType::Close) => {
-            if len > CapsuleKind::CloseWebTransportSession.max_value_len() as u64 {
-                Sort::Refuse
-            } else {
-                Sort::Read(CapsuleType::Close)
-            }
-        }
-        Some(CapsuleType::Drain) => {
-            if len > 0 {
-                Sort::Refuse
-            } else {
-                Sort::Read(CapsuleType::Drain)
-            }
-        }
+    sort_row(id.into_inner(), len.into_inner())
+}
+
+// Returns what is done with a value of this length, by the row of its type.
+fn sort_row(id: u64, len: u64) -> Sort
+    ensures { result ≡ sort_row id len }
+{
+    let Some(row) = find_capsule(id) else {
+        return Sort::Skip;
+    };
+    let Some(kind) = type_of(row.columns.meaning) else {
+        return Sort::Skip;
+    };
+    if len <= row.columns.longest {
+        Sort::Read(kind)
+    } else if row.columns.bounded {
+        Sort::Refuse
+    } else {
+        Sort::Skip
     }
 }
