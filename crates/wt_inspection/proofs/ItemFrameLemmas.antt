@@ -31,13 +31,16 @@ use Rattle.wt_inspection_model.specs.declared.item.fields.SectionFault.{SectionF
 use Rattle.wt_inspection_model.specs.declared.item.fields.SectionFault.TheVariants as fault-is
 use Rattle.wt_inspection_model.specs.declared.item.Signal.{Signal}
 use Rattle.wt_inspection_model.specs.declared.item.Signal.TheVariants as signal-is
+use Rattle.vesgrauf_registry.specs.Frames.{kind_of as registered_kind_of}
+use Rattle.vesgrauf_registry.specs.declared.frames.FrameType.{FrameType}
+use Rattle.vesgrauf_registry.specs.declared.frames.FrameType.TheVariants as registered-is
 use Rattle.wt_inspection_model.specs.declared.item.names.FrameName.{FrameName}
 use Rattle.wt_inspection_model.specs.declared.item.names.FrameName.TheVariants as name-is
 use Rattle.wt_inspection.specs.declared.reading.Next.{Next}
 use Rattle.wt_inspection.specs.declared.reading.Next.TheVariants as next-is
 use Rattle.wt_inspection.specs.DataCapsules.{Stage}
 use Rattle.wt_inspection.specs.ItemFrames.{frame_of, frames_at, frames_in, IsWithin, IsReadable, AreReadable}
-use Rattle.wt_inspection_model.specs.Names.{frame_name_of, named, other_name, is_http2}
+use Rattle.wt_inspection_model.specs.Names.{frame_name_of, named, name_in, other_name}
 use Rattle.wtp_wire.specs.Settings.{pair_at}
 use Rattle.wt_inspection.specs.Recording.{Then, AfterSection, AfterSettings, HasParts, HasSignal, IsCut, IsCutPart, Judged, JudgedCut, IsFrameAt, IsNext, IsNoFrame, IsRefused, Reads, is_session, name_fault, session_fault, still_first}
 
@@ -211,14 +214,20 @@ pick P false x y p q = q
 abbrev IsSkipped : FrameName → Type 0
 IsSkipped name = ((first : Bool) → still_first first name ≡ first) × ((payload : List ℕ) → frame_of name payload ≡ [])
 
+skipped_kind : (k : FrameType) → IsSkipped (name_in k)
+skipped_kind registered-is.Data = ((λ first. refl), (λ payload. refl))
+skipped_kind registered-is.Headers = ((λ first. refl), (λ payload. refl))
+skipped_kind registered-is.CancelPush = ((λ first. refl), (λ payload. refl))
+skipped_kind registered-is.Settings = ((λ first. refl), (λ payload. refl))
+skipped_kind registered-is.PushPromise = ((λ first. refl), (λ payload. refl))
+skipped_kind registered-is.GoAway = ((λ first. refl), (λ payload. refl))
+skipped_kind registered-is.MaxPushId = ((λ first. refl), (λ payload. refl))
+skipped_kind registered-is.Http2 = ((λ first. refl), (λ payload. refl))
+skipped_kind registered-is.WebTransport = ((λ first. refl), (λ payload. refl))
+skipped_kind registered-is.Unknown = ((λ first. refl), (λ payload. refl))
+
 skipped : (n : ℕ) → IsSkipped (other_name n)
-skipped n =
-    pick IsSkipped (is_http2 n) name-is.Http2 _ ((λ first. refl), (λ payload. refl))
-    (pick IsSkipped (n == 0x03) name-is.CancelPush _ ((λ first. refl), (λ payload. refl))
-    (pick IsSkipped (n == 0x05) name-is.PushPromise _ ((λ first. refl), (λ payload. refl))
-    (pick IsSkipped (n == 0x07) name-is.Goaway _ ((λ first. refl), (λ payload. refl))
-    (pick IsSkipped (n == 0x0d) name-is.MaxPushId _ ((λ first. refl), (λ payload. refl))
-    (pick IsSkipped ((n == 0xf0700) || (n == 0xf0701)) name-is.PriorityUpdate name-is.Unknown ((λ first. refl), (λ payload. refl)) ((λ first. refl), (λ payload. refl)))))))
+skipped n = pick IsSkipped ((n == 0xf0700) || (n == 0xf0701)) name-is.PriorityUpdate _ ((λ first. refl), (λ payload. refl)) (skipped_kind (registered_kind_of n))
 
 -- ---- one item
 

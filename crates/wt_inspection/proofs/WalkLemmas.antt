@@ -8,6 +8,7 @@ use Rattle.wtp_core.specs.declared.error.ErrorCode.{ErrorCode}
 use Rattle.wtp_core.specs.declared.error.ErrorCode.TheVariants.{Datagram}
 use Rattle.wtp_core.specs.Varint.{number_at}
 use Rattle.wtp_core.proofs.EncodingLemmas.{bytes_at-append}
+use Rattle.vesgrauf_registry.specs.Capsules.{capsules, capsule_of}
 use Rattle.wtp_wire.specs.declared.capsule.CapsuleKind.{CapsuleKind}
 use Rattle.wtp_wire.specs.declared.capsule.CapsuleKind.TheVariants.{CloseWebTransportSession}
 use Rattle.wtp_wire.specs.declared.capsule.cursor.AnyCapsule.{AnyCapsule}
@@ -123,6 +124,7 @@ pub other_known : (kind : CapsuleKind) (value held : List ℕ) → IsCapsule kin
 other_known kind value held k judges = not_other kind value (known_judged kind value held closing-is.Other k judges)
 
 kind_no_limit : (kind : CapsuleKind) (value : List ℕ) → limit_of (capsule_number_of kind) value ≡ None
+unfolding capsule_of capsules
 kind_no_limit CloseWebTransportSession value = no_limit (capsule_number_of CloseWebTransportSession) value refl
 
 pub close_known : (kind : CapsuleKind) (value held : List ℕ) (reason : CloseReason) (item : CapsuleItem) → item.number ≡ capsule_number_of kind → item.name.now ≡ capsule_name (capsule_number_of kind) → item.announced ≡ length value → item.close ≡ Some reason → item.limit ≡ None → IsCapsule kind value held → (length held < 2 ^ 62 → Judges (capsule_in held) (closing-is.Close reason)) → IsWhole held item

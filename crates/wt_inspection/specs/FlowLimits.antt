@@ -1,21 +1,33 @@
 -- The values of the capsules of flow control: variable-length integers (the later drafts of
 -- WebTransport over HTTP/3, draft-ietf-webtrans-http3).
-use Rattle.std.specs.Prelude.{ℕ, ◌==◌, ◌||◌, if◌then◌else◌, Bool, List, [], Option, Some, None}
+use Rattle.std.specs.Prelude.{ℕ, ◌||◌, if◌then◌else◌, Bool, true, false, List, [], Option, Some, None, option_map}
+use Rattle.vesgrauf_registry.specs.Capsules.{capsule_of}
+use Rattle.vesgrauf_registry.specs.declared.capsules.Meaning.{Meaning}
+use Rattle.vesgrauf_registry.specs.declared.capsules.Meaning.TheVariants as meaning
 use Rattle.wtp_core.specs.Varint.{number_at}
 use Rattle.wtp_wire.specs.Settings.{pair_at}
 use Rattle.wt_inspection_model.specs.declared.item.capsule.FlowLimit.{FlowLimit}
 use Rattle.wt_inspection_model.specs.declared.item.capsule.FlowLimit.TheVariants.{Session, Stream}
 
--- the value of a capsule of this type is a limit: WT_MAX_DATA, WT_MAX_STREAMS of both directions,
--- WT_DATA_BLOCKED, and WT_STREAMS_BLOCKED of both directions
-abbrev pub is_limit : ℕ → Bool
-is_limit n =
-    (n == 0x190b4d3d) || ((n == 0x190b4d3f) || ((n == 0x190b4d40) || ((n == 0x190b4d41)
-    || ((n == 0x190b4d43) || (n == 0x190b4d44)))))
+-- what a capsule of this type says to its session, if it is registered
+abbrev pub meaning_of : ℕ → Option Meaning
+meaning_of n = option_map (λ e. e.columns.meaning) (capsule_of n)
 
--- the value is a stream ID and a limit: WT_MAX_STREAM_DATA and WT_STREAM_DATA_BLOCKED
+-- its value is a limit
+abbrev pub is_limit_in : Option Meaning → Bool
+is_limit_in (Some meaning.Limit) = true
+is_limit_in other = false
+
+abbrev pub is_limit : ℕ → Bool
+is_limit n = is_limit_in (meaning_of n)
+
+-- its value is a stream ID and a limit
+abbrev pub is_stream_limit_in : Option Meaning → Bool
+is_stream_limit_in (Some meaning.StreamLimit) = true
+is_stream_limit_in other = false
+
 abbrev pub is_stream_limit : ℕ → Bool
-is_stream_limit n = (n == 0x190b4d3e) || (n == 0x190b4d42)
+is_stream_limit n = is_stream_limit_in (meaning_of n)
 
 abbrev pub has_limit : ℕ → Bool
 has_limit n = is_limit n || is_stream_limit n

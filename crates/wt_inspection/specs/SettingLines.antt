@@ -1,7 +1,11 @@
 -- Settings, one by one, as a payload has them (RFC 9114, section 7.2.4).
-use Rattle.std.specs.Prelude.{◌≡◌, ◌==◌, ◌&&◌, ◌||◌, ℕ, Bool, true, false, List, [], ◌∷◌, Option, Some}
+use Rattle.std.specs.Prelude.{◌≡◌, ◌&&◌, ℕ, Bool, true, false, List, [], ◌∷◌, Option, Some}
 use Rattle.std.specs.Prelude.{None, nat_eq, nat_lt}
 use Rattle.std.specs.List.{list_any}
+use Rattle.vesgrauf_registry.specs.Settings.{setting_columns}
+use Rattle.vesgrauf_registry.specs.declared.settings.Range.{Range}
+use Rattle.vesgrauf_registry.specs.declared.settings.Range.TheVariants.{Flag}
+use Rattle.vesgrauf_registry.specs.declared.settings.Setting.{Setting}
 use Rattle.wtp_wire.specs.SettingId.{is_reserved}
 use Rattle.wt_inspection_model.specs.declared.item.settings.SettingIssue.{SettingIssue}
 use Rattle.wt_inspection_model.specs.declared.item.settings.SettingIssue.TheVariants.{Reserved}
@@ -17,13 +21,19 @@ StartsSettings bytes (line ∷ lines) rest =
     × (pair_at bytes ≡ Some ((line.id, line.value), behind))
     × StartsSettings behind lines rest
 
--- a setting that has no values but 0 and 1: SETTINGS_ENABLE_CONNECT_PROTOCOL (RFC 8441, section 3;
--- RFC 9220, section 3), SETTINGS_H3_DATAGRAM (RFC 9297, section 2.1.1), and
--- SETTINGS_ENABLE_WEBTRANSPORT (draft-ietf-webtrans-http3-02, section 3.1)
-abbrev pub is_flag : ℕ → Bool
-is_flag id = (id == 0x08) || ((id == 0x33) || (id == 0x2b603742))
+abbrev pub is_flag_in : Range → Bool
+is_flag_in Flag = true
+is_flag_in other = false
 
--- the value is not allowed for this setting
+abbrev pub is_flag_by : Option Setting → Bool
+is_flag_by None = false
+is_flag_by (Some s) = s.supported && is_flag_in s.range
+
+-- a setting whose value is used, and is 0 or 1
+abbrev pub is_flag : ℕ → Bool
+is_flag id = is_flag_by (setting_columns id)
+
+-- the value is not allowed for this setting: it has no values but 0 and 1
 abbrev pub is_bad_value : ℕ → ℕ → Bool
 is_bad_value id value = is_flag id && nat_lt 1 value
 

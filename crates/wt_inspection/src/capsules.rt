@@ -7,7 +7,7 @@ ghost use Rattle.wtp_wire.specs.CapsuleCursor.{capsule_value};
 ghost use Rattle.wtp_wire.specs.CapsuleFront.{IsCapsule};
 ghost use Rattle.wtp_wire.specs.CloseSession.{close_in};
 ghost use Rattle.wt_inspection.specs.Recording.{Closes, EndsWithin, IsNext, is_overlong};
-ghost use Rattle.wt_inspection.specs.CapsuleNames.{capsule_name, other_name as other_name_of};
+ghost use Rattle.wt_inspection.specs.CapsuleNames.{capsule_name};
 ghost use Rattle.wt_inspection.specs.DataCapsules.{place_of};
 ghost use Rattle.wt_inspection.specs.Walks.{Fits, Holds, HoldsAt, IsFaultOf, JudgesBy, JudgesClose};
 ghost use Rattle.wt_inspection.specs.Walks.{Judges, LacksOf, TakesPiece, Stepped, begins_at};
@@ -18,6 +18,7 @@ use crate::limits::{breach_of, has_limit, limit_of};
 use crate::reading::{Next, Reading, Step, Then, cut, fault, fault_at};
 use std::alloc::{AllocError, Global};
 use std::borrow::CowSlice;
+use vesgrauf_registry::capsules::find_capsule;
 use wt_inspection_model::item::{
     CapsuleItem, CloseReason, Content, Cut, End, Fault, FaultCode, FlowLimit,
 };
@@ -315,30 +316,10 @@ fn reason_of(alloc: Global, close: &CloseWebTransportSession) -> Result<CloseRea
 fn name_of(number: VarInt) -> &'static str
     ensures { result.now ≡ capsule_name number }
 {
-    match CapsuleKind::parse(number) {
-        Some(CapsuleKind::CloseWebTransportSession) => "CLOSE_WEBTRANSPORT_SESSION",
-        None => other_name(number),
-    }
-}
-
-/// Returns the name of a capsule's type that the library does not read.
-#[tactic(auto, unfolding(crate::specs::CapsuleNames::other_name))]
-fn other_name(number: VarInt) -> &'static str
-    ensures { result.now ≡ other_name_of number }
-{
-    match number.into_inner() {
-        0x00 => "DATAGRAM",
-        0x78ae => "DRAIN_WEBTRANSPORT_SESSION",
-        0x190b_4d3d => "WT_MAX_DATA",
-        0x190b_4d3e => "WT_MAX_STREAM_DATA",
-        0x190b_4d3f => "WT_MAX_STREAMS_BIDI",
-        0x190b_4d40 => "WT_MAX_STREAMS_UNI",
-        0x190b_4d41 => "WT_DATA_BLOCKED",
-        0x190b_4d42 => "WT_STREAM_DATA_BLOCKED",
-        0x190b_4d43 => "WT_STREAMS_BLOCKED_BIDI",
-        0x190b_4d44 => "WT_STREAMS_BLOCKED_UNI",
-        _ if is_reserved(number) => "reserved",
-        _ => "unknown",
+    match find_capsule(number.into_inner()) {
+        Some(row) => row.name,
+        None if is_reserved(number) => "reserved",
+        None => "unknown",
     }
 }
 

@@ -7,32 +7,29 @@ ghost use Rattle.wt_inspection.specs.FlowLimits.{only_limit, only_stream_limit};
 
 use crate::reading::add_warning;
 use std::alloc::AllocError;
+use vesgrauf_registry::capsules::{Meaning, find_capsule};
 use wt_inspection_model::item::{CapsuleItem, FlowLimit, Rule, Warning};
 use wtp_core::varint::{VarInt, first_varint};
 use wtp_wire::head::first_pair;
-
-/// The type of the capsule that drains a session.
-const DRAIN: u64 = 0x78ae;
 
 /// Returns whether the value of a capsule of this type is a limit.
 fn is_limit(number: VarInt) -> bool
     ensures { result ≡ is_limit number }
 {
-    let number = number.into_inner();
-    number == 0x190b_4d3d
-        || number == 0x190b_4d3f
-        || number == 0x190b_4d40
-        || number == 0x190b_4d41
-        || number == 0x190b_4d43
-        || number == 0x190b_4d44
+    match find_capsule(number.into_inner()) {
+        Some(row) => matches!(row.columns.meaning, Meaning::Limit),
+        None => false,
+    }
 }
 
 /// Returns whether the value of a capsule of this type is a stream ID and a limit.
 fn is_stream_limit(number: VarInt) -> bool
     ensures { result ≡ is_stream_limit number }
 {
-    let number = number.into_inner();
-    number == 0x190b_4d3e || number == 0x190b_4d42
+    match find_capsule(number.into_inner()) {
+        Some(row) => matches!(row.columns.meaning, Meaning::StreamLimit),
+        None => false,
+    }
 }
 
 /// Returns whether the value of a capsule of this type has a limit.
@@ -87,9 +84,13 @@ fn only_stream_limit(value: &[u8]) -> Option<FlowLimit>
 /// Returns the rule that a complete capsule breaks: the value of one of flow control is not its
 /// integers, or one that drains a session has a value.
 pub(crate) fn breach_of(capsule: &CapsuleItem) -> Option<Rule> {
-    let is_bad = match VarInt::try_from_u64(capsule.number) {
-        Ok(number) if has_limit(number) => capsule.limit.is_none(),
-        _ => capsule.number == DRAIN && capsule.announced > 0,
+    let Some(row) = find_capsule(capsule.number) else {
+        return None;
+    };
+    let is_bad = match row.columns.meaning {
+        Meaning::Limit | Meaning::StreamLimit => capsule.limit.is_none(),
+        Meaning::Drain => capsule.announced > row.columns.longest,
+        _ => false,
     };
     if is_bad {
         Some(Rule::BadCapsuleValue)

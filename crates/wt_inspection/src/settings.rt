@@ -3,12 +3,13 @@ ghost use Rattle.std.specs.Prelude.{◌≡◌, ◌<◌, ◌^◌, length, not, Ok
 ghost use Rattle.wtp_wire.specs.SettingId.{is_reserved};
 ghost use Rattle.wtp_wire.specs.Settings.{AnswersSettings, settings_in};
 ghost use Rattle.wt_inspection.specs.Recording.{AfterSettings, HasFault};
-ghost use Rattle.wt_inspection.specs.SettingLines.{AreSettings, flag_of, is_bad_value};
+ghost use Rattle.wt_inspection.specs.SettingLines.{AreSettings, flag_of, is_bad_value, is_flag};
 
 use crate::reading::{Next, Reading, Then, fault};
 use std::alloc::{AllocError, Global};
 use std::borrow::CowSlice;
 use std::collections::BTreeSet;
+use vesgrauf_registry::settings::{Range, find_setting};
 use wt_inspection_model::item::{Rule, SettingIssue, SettingLine};
 use wtp_core::error::{ErrorCode, Refused};
 use wtp_core::varint::VarInt;
@@ -63,8 +64,17 @@ fn line_of(pair: FirstPair, is_new: bool) -> SettingLine
 fn is_bad_value(id: VarInt, value: VarInt) -> bool
     ensures { result ≡ is_bad_value id value }
 {
-    let is_flag = matches!(id.into_inner(), 0x08 | 0x33 | 0x2b60_3742);
-    is_flag && value.into_inner() > 1
+    is_flag(id) && value.into_inner() > 1
+}
+
+/// Returns whether this is a setting whose value is used, and is 0 or 1.
+fn is_flag(id: VarInt) -> bool
+    ensures { result ≡ is_flag id }
+{
+    match find_setting(id.into_inner()) {
+        Some(row) => row.columns.supported && matches!(row.columns.range, Range::Flag),
+        None => false,
+    }
 }
 
 /// Warns of what is wrong with settings that does not end the reading.

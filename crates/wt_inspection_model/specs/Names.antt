@@ -1,6 +1,13 @@
 -- The names of frame types (RFC 9114, section 7.2; RFC 9218, section 7.2) and of stream types (RFC
 -- 9114, section 6.2).
-use Rattle.std.specs.Prelude.{ℕ, Bool, ◌||◌, ◌==◌, if◌then◌else◌, List, codes, Option, Some, None}
+use Rattle.std.specs.Prelude.{ℕ, ◌||◌, ◌==◌, if◌then◌else◌, List, codes, Option, Some, None}
+use Rattle.vesgrauf_registry.specs.Frames.{kind_of as registered_kind_of}
+use Rattle.vesgrauf_registry.specs.Streams.{UniStream, stream_of}
+use Rattle.vesgrauf_registry.specs.Table.{Entry}
+use Rattle.vesgrauf_registry.specs.declared.frames.FrameType.{FrameType}
+use Rattle.vesgrauf_registry.specs.declared.frames.FrameType.TheVariants as registered-is
+use Rattle.vesgrauf_registry.specs.declared.streams.StreamContent.{StreamContent}
+use Rattle.vesgrauf_registry.specs.declared.streams.StreamContent.TheVariants as content-is
 use Rattle.wtp_wire.specs.Kind.{kind_of}
 use Rattle.wtp_wire.specs.declared.frame.kind.FrameKind.{FrameKind}
 use Rattle.wtp_wire.specs.declared.frame.kind.FrameKind.TheVariants as kind-is
@@ -12,24 +19,21 @@ use Rattle.wt_inspection_model.specs.declared.item.names.StreamName.TheVariants 
 use Rattle.wt_inspection_model.specs.declared.item.names.FrameName.{FrameName}
 use Rattle.wt_inspection_model.specs.declared.item.names.FrameName.TheVariants as name-is
 
--- the frame type belongs to HTTP/2 and must not be sent (RFC 9114, section 7.2.8)
-abbrev pub is_http2 : ℕ → Bool
-is_http2 n = (n == 0x02) || (n == 0x06) || (n == 0x08) || (n == 0x09)
+-- the name of a frame type that has no frame kind, by the kind that its row says. One of HTTP/2 must
+-- not be sent (RFC 9114, section 7.2.8)
+abbrev pub name_in : FrameType → FrameName
+name_in registered-is.CancelPush = name-is.CancelPush
+name_in registered-is.PushPromise = name-is.PushPromise
+name_in registered-is.GoAway = name-is.Goaway
+name_in registered-is.MaxPushId = name-is.MaxPushId
+name_in registered-is.Http2 = name-is.Http2
+name_in other = name-is.Unknown
 
 -- the name of a frame type that has no frame kind
 abbrev pub other_name : ℕ → FrameName
 other_name n =
-    if is_http2 n
-    then name-is.Http2
-    else (if n == 0x03
-    then name-is.CancelPush
-    else (if n == 0x05
-    then name-is.PushPromise
-    else (if n == 0x07
-    then name-is.Goaway
-    else (if n == 0x0d
-    then name-is.MaxPushId
-    else (if (n == 0xf0700) || (n == 0xf0701) then name-is.PriorityUpdate else name-is.Unknown)))))
+    if (n == 0xf0700) || (n == 0xf0701) then name-is.PriorityUpdate
+    else name_in (registered_kind_of n)
 
 -- the name of a frame type with this frame kind, if it has one
 abbrev pub named : Option FrameKind → ℕ → FrameName
@@ -40,10 +44,19 @@ named None n = other_name n
 unfoldable pub frame_name_of : ℕ → FrameName
 frame_name_of n = named (kind_of n) n
 
+-- the name of a stream type that has no stream kind, by what its row says
+abbrev pub stream_name_in : StreamContent → StreamName
+stream_name_in content-is.Push = stream-name-is.Push
+stream_name_in other = stream-name-is.Unknown
+
+abbrev pub other_stream_name : Option (Entry UniStream) → StreamName
+other_stream_name None = stream-name-is.Unknown
+other_stream_name (Some e) = stream_name_in e.columns.content
+
 -- the name of a stream type with this stream kind, if it has one
 abbrev pub stream_named : Option StreamKind → ℕ → StreamName
 stream_named (Some kind) n = stream-name-is.Read kind
-stream_named None n = if n == 0x01 then stream-name-is.Push else stream-name-is.Unknown
+stream_named None n = other_stream_name (stream_of n)
 
 -- the name of a type of unidirectional stream
 unfoldable pub stream_name_of : ℕ → StreamName

@@ -1,8 +1,11 @@
 //! Names of frame types and stream types.
 ghost use Rattle.std.specs.Prelude.{◌≡◌};
-ghost use Rattle.wt_inspection_model.specs.Names.{frame_name_of, frame_name_text, stream_name_of};
-ghost use Rattle.wt_inspection_model.specs.Names.{stream_name_text};
+ghost use Rattle.vesgrauf_registry.specs.Frames.{kind_of};
+ghost use Rattle.wt_inspection_model.specs.Names.{frame_name_of, frame_name_text, name_in};
+ghost use Rattle.wt_inspection_model.specs.Names.{stream_name_of, stream_name_text};
 
+use vesgrauf_registry::frames::{FrameType, find_frame};
+use vesgrauf_registry::streams::{StreamContent, find_stream};
 use wtp_core::varint::VarInt;
 use wtp_wire::frame::FrameKind;
 use wtp_wire::stream_header::StreamKind;
@@ -38,12 +41,31 @@ impl FrameName {
             return FrameName::Read(kind);
         }
         match number.into_inner() {
-            0x02 | 0x06 | 0x08 | 0x09 => FrameName::Http2,
-            0x03 => FrameName::CancelPush,
-            0x05 => FrameName::PushPromise,
-            0x07 => FrameName::Goaway,
-            0x0d => FrameName::MaxPushId,
             0xf_0700 | 0xf_0701 => FrameName::PriorityUpdate,
+            other => FrameName::of_row(other),
+        }
+    }
+
+    // Returns the name of a type that has no frame kind, by its row.
+    fn of_row(number: u64) -> Self
+        ensures { result ≡ name_in (kind_of number) }
+    {
+        match find_frame(number) {
+            Some(row) => FrameName::of_kind(row.columns.kind),
+            None => FrameName::Unknown,
+        }
+    }
+
+    // Returns the name of a type with this kind, which is no frame kind.
+    fn of_kind(kind: FrameType) -> Self
+        ensures { result ≡ name_in kind }
+    {
+        match kind {
+            FrameType::CancelPush => FrameName::CancelPush,
+            FrameType::PushPromise => FrameName::PushPromise,
+            FrameType::GoAway => FrameName::Goaway,
+            FrameType::MaxPushId => FrameName::MaxPushId,
+            FrameType::Http2 => FrameName::Http2,
             _ => FrameName::Unknown,
         }
     }
@@ -89,10 +111,9 @@ impl StreamName {
         if let Some(kind) = StreamKind::parse(number) {
             return StreamName::Read(kind);
         }
-        if number.into_inner() == 1 {
-            StreamName::Push
-        } else {
-            StreamName::Unknown
+        match find_stream(number.into_inner()) {
+            Some(row) if matches!(row.columns.content, StreamContent::Push) => StreamName::Push,
+            _ => StreamName::Unknown,
         }
     }
 

@@ -1,8 +1,11 @@
 //! Settings.
 ghost use Rattle.std.specs.Prelude.{◌≡◌, ◌<◌, ◌≤◌, ◌^◌, None, option_map};
-ghost use Rattle.wt_inspection_model.specs.SettingNames.{draft_setting_name};
+ghost use Rattle.vesgrauf_registry.specs.Table.{shown_name};
+ghost use Rattle.wt_inspection_model.specs.SettingNames.{draft_setting_name, is_of_draft};
 ghost use Rattle.wtp_wire.specs.SettingId.{setting_id_of};
 
+use vesgrauf_registry::row::CName;
+use vesgrauf_registry::settings::{Range, find_setting};
 use wtp_core::varint::VarInt;
 use wtp_wire::settings::SettingId;
 
@@ -37,15 +40,21 @@ impl SettingLine {
     pub fn draft_name(&self) -> Option<&'static str>
         ensures { option_map (λ text. text.now) result ≡ draft_setting_name self.now.id }
     {
-        match self.id {
-            0xff_d277 => Some("SETTINGS_H3_DATAGRAM_DRAFT04"),
-            0x2b61 => Some("SETTINGS_WT_INITIAL_MAX_DATA"),
-            0x2b64 => Some("SETTINGS_WT_INITIAL_MAX_STREAMS_UNI"),
-            0x2b65 => Some("SETTINGS_WT_INITIAL_MAX_STREAMS_BIDI"),
-            0x14e9_cd29 => Some("SETTINGS_WT_MAX_SESSIONS"),
-            0x2c7c_f000 => Some("SETTINGS_WT_ENABLED"),
+        match find_setting(self.id) {
+            Some(row) if is_of_draft(row.c_name, row.columns.range) => Some(row.name),
             _ => None,
         }
+    }
+}
+
+// Returns whether only a draft has a setting with this constant in C and this range.
+fn is_of_draft(c_name: CName, range: Range) -> bool
+    ensures { result ≡ is_of_draft (shown_name c_name) range }
+{
+    match (c_name, range) {
+        (_, Range::Http2) => false,
+        (CName::Absent, _) => true,
+        _ => false,
     }
 }
 
