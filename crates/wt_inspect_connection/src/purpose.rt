@@ -1,26 +1,12 @@
 //! What a stream is for.
 ghost use Rattle.std.specs.Prelude.{◌≡◌};
 ghost use Rattle.wtp_core.specs.Varint.{number_at};
-ghost use Rattle.wt_inspect_connection.specs.Purposes.{purpose_by_signal, purpose_by_type, purpose_of};
+ghost use Rattle.wt_inspect_connection.specs.Purposes.{purpose_by_signal, purpose_by_type, purpose_in, purpose_of, purpose_with};
 ghost use Rattle.wt_inspect_connection.specs.Purposes.{purpose_without, session_by};
 
 use crate::list::is_bidirectional;
+use vesgrauf_registry::streams::{StreamContent, find_stream};
 use wtp_core::varint::first_varint;
-
-/// The type of a control stream (RFC 9114, section 6.2.1).
-const CONTROL: u64 = 0x00;
-
-/// The type of a push stream (RFC 9114, section 6.2.2).
-const PUSH: u64 = 0x01;
-
-/// The type of an encoder stream (RFC 9204, section 4.2).
-const ENCODER: u64 = 0x02;
-
-/// The type of a decoder stream (RFC 9204, section 4.2).
-const DECODER: u64 = 0x03;
-
-/// The type of a unidirectional stream of a session (draft-ietf-webtrans-http3-02, section 4.1).
-const SESSION: u64 = 0x54;
 
 /// The first number of a bidirectional stream of a session (draft-ietf-webtrans-http3-02, section
 /// 4.2).
@@ -64,12 +50,31 @@ fn purpose_by_type(bytes: &[u8]) -> Purpose
     let Some((number, size)) = first_varint(bytes) else {
         return Purpose::Other;
     };
-    match number.into_inner() {
-        CONTROL => Purpose::Control,
-        PUSH => Purpose::Push,
-        ENCODER => Purpose::Encoder,
-        DECODER => Purpose::Decoder,
-        SESSION => session_in(&bytes[size..]),
+    match find_stream(number.into_inner()) {
+        Some(row) => purpose_in(row.columns.content, &bytes[size..]),
+        None => Purpose::Other,
+    }
+}
+
+/// Returns what a unidirectional stream with this content is for, by the bytes after its type.
+fn purpose_in(content: StreamContent, rest: &[u8]) -> Purpose
+    ensures { result ≡ purpose_in content rest.now }
+{
+    match content {
+        StreamContent::Session => session_in(rest),
+        _ => purpose_with(content),
+    }
+}
+
+/// Returns what a unidirectional stream with this content is for, without a session.
+fn purpose_with(content: StreamContent) -> Purpose
+    ensures { result ≡ purpose_with content }
+{
+    match content {
+        StreamContent::Control => Purpose::Control,
+        StreamContent::Push => Purpose::Push,
+        StreamContent::Encoder => Purpose::Encoder,
+        StreamContent::Decoder => Purpose::Decoder,
         _ => Purpose::Other,
     }
 }
