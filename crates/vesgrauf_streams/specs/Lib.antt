@@ -1,0 +1,4 @@
+pub mod Lends
+pub mod Runs
+pub mod Slots
+pub mod Streams
