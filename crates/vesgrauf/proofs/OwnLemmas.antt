@@ -1,10 +1,10 @@
 -- What is sent on the streams of a connection.
-use Rattle.std.proofs.Common.{◌≡◌, ◌⊎◌, ℕ, List, [], ◌∷◌, Option, None, Some, Bool, true, false, cond, refl, arith, inl, inr, sym, ◌∙◌}
+use Rattle.std.proofs.Common.{◌≡◌, ℕ, List, [], ◌∷◌, Option, None, Some, Bool, true, false, cond, refl, arith, inl, inr, ◌∙◌}
 use Rattle.std.specs.Ordering.{nat_cmp}
 use Rattle.std.specs.Map.{lookup, set_value}
 use Rattle.std.specs.BTreeMap.{is_at}
 use Rattle.vesgrauf.specs.declared.entry.Entry.{Entry}
-use Rattle.vesgrauf.specs.Own.{Own, own_in, own_at, entry_at, is_blank, IsUntouched, Took, TookAlone, Untouched, own_of}
+use Rattle.vesgrauf.specs.Own.{Own, own_in, own_at, entry_at, IsUntouched, Took, TookAlone, Untouched, own_of}
 
 -- ---- steps
 

@@ -21,11 +21,17 @@ use Rattle.vesgrauf.specs.declared.connection.ids.Ids.{Ids}
 use Rattle.vesgrauf.specs.declared.event.Event.{Event}
 use Rattle.vesgrauf.specs.Own.{entry_at}
 use Rattle.vesgrauf.specs.Streams.{is_known}
+use Rattle.vesgrauf.specs.Keeps.{KeepsOwnAll, KeptOwn}
+use Rattle.vesgrauf.specs.Told.{ends, word_of}
+use Rattle.vesgrauf.specs.declared.config.Config.{Config}
 use Rattle.vesgrauf.specs.Inputs.{IsSameOrRead}
 use Rattle.vesgrauf.specs.State.{go_on, IsAfterEnd, IsStill}
 use Rattle.vesgrauf.specs.Theirs.{theirs_of, IsRead, ReadsOn, Hands, Tells, TellsAll, with_chunk, content_on, content_found}
-use Rattle.vesgrauf.proofs.ReadsLemmas.{looked_plain, reads_pass, taken_passes}
+use Rattle.vesgrauf.proofs.ReadsLemmas.{looked_plain, reads_pass}
+use Rattle.vesgrauf.proofs.TellsLemmas.{taken_passes}
 use Rattle.vesgrauf.proofs.StepLemmas.{all_same}
+use Rattle.vesgrauf.proofs.GoesLemmas.{goes_after, goes_set, goes_tells}
+use Rattle.vesgrauf.proofs.OwnLemmas.{untouched_set}
 
 -- what is heard of a piece is its bytes
 piece_content : (p : Part) (b : Bytes) → content_found (found.Heard (heard_piece p b)) ≡ bytes_of b
@@ -53,6 +59,18 @@ piece_tells id stream content c d i j l same h g p t =
     subst (λ n. Tells (content_on n content) c i d l) (sym same)
     (reads_pass id content (content_on id content) c d d i j l h g p
     (taken_passes id content (content_on id content) d d j l t (told_itself id content d)))
+
+-- an event of its stream is told with it
+pub piece_keeps : (es : List (ℕ × Entry)) (ids : Ids) (q : List Event) (a : Config) (id : ℕ) (e f : Entry) (ev : Event)
+    → entry_at es id ≡ Some e → is_known e.told ≡ true → f.told ≡ e.told → f.writing ≡ e.writing → ev.stream ≡ id
+    → ends (word_of ev.kind) ≡ false
+    → KeepsOwnAll (ev ∷ []) es ids q a (set_value (is_at (nat_cmp id)) es f) ids q a
+piece_keeps es ids q a id e f ev there known same own at n = KeptOwn
+    (λ m. untouched_set es id f (rw (there, own) (inl refl)))
+    (goes_after (ev ∷ []) es es (set_value (is_at (nat_cmp id)) es f) ids ids ids q q q
+    (goes_tells es ids q ev (rw (at, there) known) n)
+    (goes_set es ids q id f (rw (there, same) refl)))
+    refl
 
 -- there is no piece, and then this is told
 pub no_piece_all : (said : ℕ → List ℕ) (c d : Connection) {e : List (ℕ × Entry)} {i j l : Input} → IsStill c d → j ≡ i

@@ -1,5 +1,5 @@
 -- Where nothing is left to be told.
-use Rattle.std.proofs.Common.{◌≡◌, ℕ, List, [], Option, None, Some, true, sym, subst, inr}
+use Rattle.std.proofs.Common.{◌≡◌, ℕ, [], None, Some, true, sym, subst, inr}
 use Rattle.vesgrauf.specs.declared.connection.Connection.{Connection}
 use Rattle.vesgrauf.specs.declared.connection.Ended.{Ended}
 use Rattle.vesgrauf.specs.declared.input.Input.{Input}

@@ -1,7 +1,6 @@
 -- What is read of the peer's halves of streams, one call after the other.
-use Rattle.std.proofs.Common.{◌≡◌, ◌⊎◌, ◌++◌, ◌||◌, ◌<◌, ◌≤◌, ◌&&◌, ℕ, List, [], ◌∷◌, Option, None, Some, Bool, true, false, cond, refl, arith, inl, inr, sym, ap, ◌∙◌, drop, take, length, append_assoc, append-nil, length-append, length-take, subst, le_trans, Ordering, Less, Equal, Greater}
-use Rattle.std.specs.Prelude.{◌==◌, ◌%◌, ◌+◌, min, nat_lt}
-use Rattle.std.proofs.lemmas.Bool.Decides.{nat_tests}
+use Rattle.std.proofs.Common.{◌≡◌, ◌++◌, ◌||◌, ◌<◌, ◌≤◌, ◌&&◌, ℕ, List, [], ◌∷◌, Some, Bool, true, false, cond, refl, arith, inl, inr, sym, ap, ◌∙◌, drop, take, length, append_assoc, append-nil, length-append, length-take, subst, le_trans, Ordering, Less, Equal, Greater}
+use Rattle.std.specs.Prelude.{◌==◌, min}
 use Rattle.std.specs.Ordering.{nat_cmp, is_eq, MatchOrdering}
 use Rattle.std.specs.Cmp.{nat_cmp_is}
 use Rattle.std.specs.Map.{lookup, set_value}
@@ -21,32 +20,11 @@ use Rattle.vesgrauf_stream.specs.declared.reading.Found.{Found}
 use Rattle.vesgrauf_stream.specs.declared.reading.Found.TheVariants as found
 use Rattle.vesgrauf.specs.declared.entry.Entry.{Entry}
 use Rattle.vesgrauf.specs.declared.entry.Peer.{Peer}
-use Rattle.vesgrauf.specs.declared.event.Event.{Event}
 use Rattle.vesgrauf.specs.declared.entry.Peer.TheVariants as peer
 use Rattle.vesgrauf.specs.declared.input.Input.{Input}
 use Rattle.vesgrauf.specs.declared.input.Report.{Report}
 use Rattle.vesgrauf.specs.declared.input.Report.TheVariants as report
-use Rattle.vesgrauf.specs.declared.connection.ids.Ids.{Ids}
-use Rattle.vesgrauf.specs.Ids.{was, seen, own_bit, kind_of, next_own, next_peer}
-use Rattle.vesgrauf.specs.declared.output.StreamKind.{StreamKind}
-use Rattle.vesgrauf.specs.declared.output.StreamKind.TheVariants as kind
-use Rattle.vesgrauf.specs.Theirs.{Theirs, Gone, Unread, theirs_by, theirs_of, theirs_in, theirs_at, IsLeft, Left, Piece, IsCall, AreCalls, contents, AreRead, IsReadTo, IsRead, Same, ReadsOn, ReadsKept, Hands, Passes, IsHanded, TellsKept, Tells, IsStart, Accepts, TellsAll, unread_at, with_input, with_chunk, content_of, content_on, content_found, is_of, piece_of, told_in, IsSilent}
-use Rattle.vesgrauf.specs.Inputs.{IsSameOrRead, IsTaken}
-use Rattle.vesgrauf.specs.declared.connection.Step.{Step}
-use Rattle.vesgrauf.specs.declared.connection.Step.TheVariants as step
-use Rattle.wtp_connection.specs.declared.connection.Known.{Known}
-use Rattle.wtp_connection.specs.declared.stream.Stream.{Stream as Frames}
-use Rattle.wtp_connection.specs.declared.stream.Stream.TheVariants as frames
-use Rattle.wtp_core.specs.declared.error.scope.ErrorScope.{ErrorScope}
-use Rattle.wtp_core.specs.declared.error.scope.ErrorScope.TheVariants as scope
-use Rattle.wtp_webtransport.specs.declared.fault.Fault.{Fault}
-use Rattle.wtp_webtransport.specs.declared.fault.Fault.TheVariants as fault
-use Rattle.wtp_webtransport.specs.declared.stream.Stream.{Stream}
-use Rattle.wtp_connection.specs.Streams.{Joined as After, joins as joins_streams}
-use Rattle.wtp_webtransport.specs.Joining.{Outcome, joins, joined_by, joined_told, joining_of}
-use Rattle.wtp_webtransport.specs.Receiving.{closed_in}
-use Rattle.wtp_webtransport.specs.Fault.{scope_of}
-use Rattle.wtp_webtransport.specs.Streams.{with_streams}
+use Rattle.vesgrauf.specs.Theirs.{Theirs, Gone, Unread, theirs_by, theirs_of, theirs_in, theirs_at, IsLeft, Left, Piece, IsCall, AreCalls, contents, AreRead, IsReadTo, IsRead, Same, ReadsOn, ReadsKept, Hands, Passes, IsHanded, TellsKept, Tells, unread_at, with_input, with_chunk, content_of, content_on, content_found, is_of}
 
 -- ---- calls one after the other
 
@@ -84,7 +62,7 @@ set_look es id k e f h =
     lookup-set_value (eq_by_cmp_equiv nat_cmp_total) (is_at (nat_cmp id))
     (λ x y t. ap (λ n. is_eq (nat_cmp n y)) (same_key id x t)) k f es (rw h refl)
 
-set_here : (es : List (ℕ × Entry)) (id : ℕ) (e f : Entry) → lookup (is_at (nat_cmp id)) es ≡ Some e
+pub set_here : (es : List (ℕ × Entry)) (id : ℕ) (e f : Entry) → lookup (is_at (nat_cmp id)) es ≡ Some e
     → lookup (is_at (nat_cmp id)) (set_value (is_at (nat_cmp id)) es f) ≡ Some f
 set_here es id e f h = set_look es id id e f h ∙ ap (λ b. cond b (Some f) (lookup (is_at (nat_cmp id)) es)) (own_key id)
 
@@ -105,7 +83,7 @@ left_steps x y z (inl p) (inl q) = inl (q ∙ p)
 left_steps x y z (inr p) (inl q) = inr (q ∙ p)
 
 -- nothing is read of what is left
-read_left : (x y : Theirs) → IsLeft x y → IsRead x [] y
+pub read_left : (x y : Theirs) → IsLeft x y → IsRead x [] y
 read_left x y p = (x, inl (refl, refl), p)
 
 join_reads : (x y z : Theirs) (a b : List ℕ) → AreRead x a y → AreRead y b z → AreRead x (a ++ b) z
@@ -159,7 +137,7 @@ steps_by x u y z a b p (inr e) q =
 pub read_steps : (x y z : Theirs) (a b : List ℕ) → IsRead x a y → IsRead y b z → IsRead x (a ++ b) z
 read_steps x y z a b p q = steps_by x p.0 y z a b p.1 p.2 q
 
-read_then : (x y z : Theirs) (content : List ℕ) → IsRead x content y → IsLeft y z → IsRead x content z
+pub read_then : (x y z : Theirs) (content : List ℕ) → IsRead x content y → IsLeft y z → IsRead x content z
 read_then x y z content p q = (p.0, p.1, left_steps p.0 y z p.2 q)
 
 pub hand_steps : (x y z : Theirs) (a b : List ℕ) → IsRead x a y → IsHanded y a b z → IsRead x b z
@@ -168,7 +146,7 @@ hand_steps x y z a b p (inr q) = (x, inl (refl, q.1), inr q.0)
 
 -- ---- with an input
 
-gone_by : (b : Bool) → cond b Gone Gone ≡ Gone
+pub gone_by : (b : Bool) → cond b Gone Gone ≡ Gone
 gone_by true = refl
 gone_by false = refl
 
@@ -198,7 +176,7 @@ same_passes id said c d i j h p = record {
   each = λ k. passes_by (is_at (nat_cmp id) k) (unread_at c i k) (unread_at d j k) (said k) (h k) (p.each k);
 }
 
-hand_with : (i : Input) (k : ℕ) (x y : Theirs) (a b : List ℕ) → IsHanded x a b y
+pub hand_with : (i : Input) (k : ℕ) (x y : Theirs) (a b : List ℕ) → IsHanded x a b y
     → IsHanded (with_input i k x) a b (with_input i k y)
 hand_with i k x y a b (inl p) = inl (left_with i k x y p.0, p.1)
 hand_with i k x y a b (inr p) = inr (ap (with_input i k) p.0 ∙ with_gone i k, p.1)
@@ -220,7 +198,7 @@ reads_by true id k content c d i j h p =
     subst (λ n. IsRead (with_chunk (theirs_at c n) i) content (with_chunk (theirs_at d n) j)) (same_key id k h) p.here
 reads_by false id k content c d i j h p = read_left (theirs_at c k) (theirs_at d k) (p.there k h)
 
-input_by : (r : Report) (id k : ℕ) → r ≡ report.Stream id → is_of r k ≡ is_at (nat_cmp id) k
+pub input_by : (r : Report) (id k : ℕ) → r ≡ report.Stream id → is_of r k ≡ is_at (nat_cmp id) k
 input_by r id k h = ap (λ x. is_of x k) h
 
 pub reads_at : (id k : ℕ) (content : List ℕ) (c d : List (ℕ × Entry)) (i j : Input)
@@ -240,13 +218,13 @@ reads_pass id content said c d e i j l h g p q = record {
 }
 
 -- without an input
-chunk_none : (x : Theirs) (i : Chunk) → i.bytes.now ≡ [] → i.fin ≡ false → with_chunk x i ≡ x
+pub chunk_none : (x : Theirs) (i : Chunk) → i.bytes.now ≡ [] → i.fin ≡ false → with_chunk x i ≡ x
 chunk_none Gone i h g = refl
 chunk_none (Unread bytes true) i h g = ap (λ l. Unread l true) (ap (λ l. bytes ++ l) h ∙ append-nil bytes)
 chunk_none (Unread bytes false) i h g =
     ap (λ l. Unread l i.fin) (ap (λ l. bytes ++ l) h ∙ append-nil bytes) ∙ ap (λ b. Unread bytes b) g
 
-none_left : (l : List ℕ) → length l ≤ 0 → l ≡ []
+pub none_left : (l : List ℕ) → length l ≤ 0 → l ≡ []
 none_left [] h = refl
 none_left (x ∷ l) h = absurd (omega (arith, h))
 
@@ -273,7 +251,7 @@ kept_hands id content said c d e p q = record {
       (kept_by (is_at (nat_cmp id) k) id k content c d refl p) (q.each k);
 }
 
-on_none : (b : Bool) → cond {A = List ℕ} b [] [] ≡ []
+pub on_none : (b : Bool) → cond {A = List ℕ} b [] [] ≡ []
 on_none true = refl
 on_none false = refl
 
@@ -334,7 +312,7 @@ to_more : (x y : Theirs) (content : List ℕ) (i : Chunk) → IsReadTo x content
 to_more x y content i (inl p) = inl (ap (λ t. with_chunk t i) p.0, p.1)
 to_more x y content i (inr p) = inr (read_more x y content i p)
 
-chunk_left : (x y : Theirs) (i : Chunk) → IsLeft x y → IsLeft (with_chunk x i) (with_chunk y i)
+pub chunk_left : (x y : Theirs) (i : Chunk) → IsLeft x y → IsLeft (with_chunk x i) (with_chunk y i)
 chunk_left x y i (inl p) = inl (ap (λ t. with_chunk t i) p)
 chunk_left x y i (inr p) = inr (ap (λ t. with_chunk t i) p)
 
@@ -509,284 +487,4 @@ pub keep_set : (es : List (ℕ × Entry)) (id : ℕ) (e f : Entry) (i j : Input)
 keep_set es id e f i j h p q keeps s n = record {
   each = λ k. inl (rw (ap (λ x. is_of x k) n, ap (λ x. is_of x k) s)
       (keep_at (is_at (nat_cmp id) k) es id k e f i.chunk j.chunk refl h p q keeps));
-}
-
--- ---- after a read
-
-pub reads_left : (id : ℕ) (content : List ℕ) (c d e : List (ℕ × Entry)) (i j : Chunk)
-    → ReadsOn id content c i d j → Left d e → ReadsOn id content c i e j
-reads_left id content c d e i j p q = record {
-  here = read_then (with_chunk (theirs_at c id) i) (with_chunk (theirs_at d id) j) (with_chunk (theirs_at e id) j)
-      content p.here (chunk_left (theirs_at d id) (theirs_at e id) j (q.each id));
-  there = λ k t. left_steps (theirs_at c k) (theirs_at d k) (theirs_at e k) (p.there k t) (q.each k);
-}
-
-pub gone_set : (es : List (ℕ × Entry)) (id : ℕ) (e f : Entry) → lookup (is_at (nat_cmp id)) es ≡ Some e
-    → theirs_of f ≡ Gone → theirs_at (set_value (is_at (nat_cmp id)) es f) id ≡ Gone
-gone_set es id e f h p = ap theirs_in (set_here es id e f h) ∙ p
-
-pub reads_tell : (id : ℕ) (said : ℕ → List ℕ) (c d : List (ℕ × Entry)) (i j : Input)
-    → i.report ≡ report.Stream id → j.report ≡ report.Stream id → ((k : ℕ) → said k ≡ [])
-    → ReadsOn id [] c i.chunk d j.chunk → Tells said c i d j
-reads_tell id said c d i j h g silent p = record {
-  each = λ k. subst (λ a. IsRead (unread_at c i k) a (unread_at d j k)) (on_none (is_at (nat_cmp id) k) ∙ sym (silent k))
-      (reads_at id k [] c d i j h g p);
-}
-
--- ---- steps that read nothing
-
-silent_none : (s : Step) (k : ℕ) → IsSilent s → told_in s k ≡ []
-silent_none (step.Told e) k h = ap (λ l. content_on e.stream l k) h ∙ on_none (is_at (nat_cmp e.stream) k)
-silent_none step.More k h = refl
-silent_none step.Nothing k h = refl
-
-handed_left : (x y : Theirs) (content said : List ℕ) → said ≡ content → IsLeft x y → IsHanded x content said y
-handed_left x y content said h p = inl (p, h)
-
-pub left_hands : (id : ℕ) (s : Step) (c d : List (ℕ × Entry)) → IsSilent s → Left c d → Hands id [] (told_in s) c d
-left_hands id s c d h p = record {
-  each = λ k. handed_left (theirs_at c k) (theirs_at d k) (content_on id [] k) (told_in s k)
-      (silent_none s k h ∙ sym (on_none (is_at (nat_cmp id) k))) (p.each k);
-}
-
-pub silent_hands : (id : ℕ) (content : List ℕ) (s : Step) (c d : List (ℕ × Entry)) → content ≡ [] → IsSilent s → Left c d
-    → Hands id content (told_in s) c d
-silent_hands id content s c d e h p = subst (λ l. Hands id l (told_in s) c d) (sym e) (left_hands id s c d h p)
-
-pub left_tells : (s : Step) (c d : List (ℕ × Entry)) (i : Input) → IsSilent s → Left c d → Tells (told_in s) c i d i
-left_tells s c d i h p = same_tell (told_in s) c d i i (λ k. silent_none s k h) (left_same c d i p)
-
-pub left_reads : (id : ℕ) (content : List ℕ) (c d : List (ℕ × Entry)) (i : Chunk) → content ≡ [] → Left c d
-    → ReadsOn id content c i d i
-left_reads id content c d i h p = record {
-  here = subst (λ l. IsRead (with_chunk (theirs_at c id) i) l (with_chunk (theirs_at d id) i)) (sym h)
-      (read_left (with_chunk (theirs_at c id) i) (with_chunk (theirs_at d id) i)
-      (chunk_left (theirs_at c id) (theirs_at d id) i (p.each id)));
-  there = λ k t. p.each k;
-}
-
-pub gone_left : (c d : List (ℕ × Entry)) (id : ℕ) → theirs_at c id ≡ Gone → Left c d → theirs_at d id ≡ Gone
-gone_left c d id h p = gone_left_by (theirs_at c id) (theirs_at d id) h (p.each id)
-
-pub same_left : (c d e : List (ℕ × Entry)) (i j : Input) → Same c i d j → Left d e → Same c i e j
-same_left c d e i j p q = same_steps c d e i j j p (left_same d e j q)
-
-pub left_then_same : (c d e : List (ℕ × Entry)) (i j : Input) → Left c d → Same d i e j → Same c i e j
-left_then_same c d e i j p q = same_steps c d e i i j (left_same c d i p) q
-
--- ---- inputs that are taken in without a read
-
--- bytes of a stream that is not read are dropped
-dropped_by : (b g : Bool) (id k : ℕ) (c d : List (ℕ × Entry)) (i j : Chunk) → is_at (nat_cmp id) k ≡ b
-    → (b ≡ false → g ≡ false) → theirs_at c id ≡ Gone → Left c d
-    → IsLeft (cond b (with_chunk (theirs_at c k) i) (theirs_at c k)) (cond g (with_chunk (theirs_at d k) j) (theirs_at d k))
-dropped_by true g id k c d i j t f h p =
-    let gone : theirs_at d k ≡ Gone = subst (λ n. theirs_at d n ≡ Gone) (same_key id k t) (gone_left c d id h p) in
-    inr (ap (λ x. cond g (with_chunk x j) x) gone ∙ gone_by g)
-dropped_by false g id k c d i j t f h p =
-    subst (λ x. IsLeft (theirs_at c k) (cond x (with_chunk (theirs_at d k) j) (theirs_at d k))) (sym (f refl)) (p.each k)
-
-pub dropped_same : (id : ℕ) (c d : List (ℕ × Entry)) (i j : Input) → i.report ≡ report.Stream id
-    → theirs_at c id ≡ Gone → j.report ≡ report.Nothing → Left c d → Same c i d j
-dropped_same id c d i j r h n p = record {
-  each = λ k. rw (input_by i.report id k r, ap (λ x. is_of x k) n)
-      (dropped_by (is_at (nat_cmp id) k) false id k c d i.chunk j.chunk refl (λ _. refl) h p);
-}
-
-pub passed_same : (id : ℕ) (c d : List (ℕ × Entry)) (i j : Input) → i.report ≡ report.Stream id
-    → theirs_at c id ≡ Gone → j.report ≡ i.report → Left c d → Same c i d j
-passed_same id c d i j r h n p = record {
-  each = λ k. rw (input_by j.report id k (n ∙ r), input_by i.report id k r)
-      (dropped_by (is_at (nat_cmp id) k) (is_at (nat_cmp id) k) id k c d i.chunk j.chunk refl (λ e. e) h p);
-}
-
--- an input that says nothing of bytes
-pub reported_tells : (s : Step) (c d : List (ℕ × Entry)) (i j : Input) → ((k : ℕ) → is_of i.report k ≡ false)
-    → j.report ≡ report.Nothing → IsSilent s → Left c d → Tells (told_in s) c i d j
-reported_tells s c d i j h n q p = same_tell (told_in s) c d i j (λ k. silent_none s k q) (record {
-  each = λ k. rw (h k, ap (λ x. is_of x k) n) (p.each k);
-})
-
--- all bytes of an input were read
-taken_none : (b : Bool) (x y : Theirs) → y ≡ x → x ≡ cond b y x
-taken_none true x y h = sym h
-taken_none false x y h = refl
-
-taken_by : (i j : Input) (k : ℕ) (x : Theirs) → IsSameOrRead i j → with_input j k x ≡ with_input i k x
-taken_by i j k x (inl p) = ap (λ n. with_input n k x) p
-taken_by i j k x (inr p) =
-    ap (λ r. cond (is_of r k) (with_chunk x j.chunk) x) p.report
-    ∙ taken_none (is_of i.report k) x (with_chunk x i.chunk) (chunk_none x i.chunk (none_left i.chunk.bytes.now (omega (arith, p.bytes))) p.fin)
-
-pub taken_passes : (id : ℕ) (content : List ℕ) (said : ℕ → List ℕ) (c d : List (ℕ × Entry)) (i j : Input)
-    → IsSameOrRead i j → Hands id content said c d → Passes id content said c i d j
-taken_passes id content said c d i j t p = record {
-  each = λ k. subst (λ y. IsHanded (unread_at c i k) (content_on id content k) (said k) y)
-      (sym (taken_by i j k (theirs_at d k) t))
-      (hand_with i k (theirs_at c k) (theirs_at d k) (content_on id content k) (said k) (p.each k));
-}
-
--- ---- what joins a session says
-
-joined_silent : (before : Option ℕ) (f : Frames) → content_of (joined_told before f) ≡ []
-joined_silent (Some id) (frames.Session of) = refl
-joined_silent (Some id) (frames.Waiting for) = refl
-joined_silent before other = refl
-
-closed_silent : (c : Shared) (f : Fault) (s : ErrorScope) → content_of (closed_in c f s).1 ≡ []
-closed_silent c f scope.Stream = refl
-closed_silent c f other = refl
-
-after_silent : (c : Shared) (s : Stream) (before : Option ℕ) (a : After) → content_of (joined_by c s before a).0 ≡ []
-after_silent c s before (d, t, None) = joined_silent before t
-after_silent c s before (d, t, Some f) =
-    closed_silent (with_streams c d) (fault.Streams f) (scope_of (fault.Streams f))
-
-joins_by : (b : Bool) (c : Shared) (s : Stream) (x : Outcome) → content_of x.0 ≡ []
-    → content_of (cond b (say.More, c, s) x).0 ≡ []
-joins_by true c s x h = refl
-joins_by false c s x h = h
-
-pub joins_silent : (c : Shared) (s : Stream) (k : Known) → content_of (joins c s k).0 ≡ []
-joins_silent c s k =
-    joins_by c.over c s (joined_by c s (joining_of s.frames) (joins_streams c.streams s.frames k))
-    (after_silent c s (joining_of s.frames) (joins_streams c.streams s.frames k))
-
--- ---- streams that come to be
-
-pub all_of : (a : Ids) (said : ℕ → List ℕ) (c d : List (ℕ × Entry)) (i j : Input) → Tells said c i d j
-    → TellsAll a said c i d j
-all_of a said c d i j p = record { each = λ k. (theirs_at c k, inl refl, p.each k) }
-
-pub accepts_all : (a b : Ids) (said : ℕ → List ℕ) (c d e : List (ℕ × Entry)) (i j : Input)
-    → Accepts a c b d → Tells said d i e j → TellsAll a said c i e j
-accepts_all a b said c d e i j p q = record { each = λ k. (theirs_at d k, p.each k, q.each k) }
-
-start_by : (s t : Bool) (x y z : Theirs) → (s ≡ true → t ≡ true) → IsStart s x y → IsStart t y z → IsStart s x z
-start_by s t x y z h (inl p) (inl q) = inl (q ∙ p)
-start_by s t x y z h (inr p) (inl q) = inr (p.0, q ∙ p.1)
-start_by true t x y z h p (inr q) = absurd (cc (h refl, q.0))
-start_by false t x y z h p (inr q) = inr (refl, q.1)
-
-pub accepts_steps : (a b f : Ids) (c d e : List (ℕ × Entry)) → Accepts a c b d → Accepts b d f e → Accepts a c f e
-accepts_steps a b f c d e p q = record {
-  each = λ k. start_by (was a k) (was b k) (theirs_at c k) (theirs_at d k) (theirs_at e k) (p.seen k) (p.each k) (q.each k);
-  seen = λ k h. q.seen k (p.seen k h);
-}
-
-pub accepts_none : (a : Ids) (c : List (ℕ × Entry)) → Accepts a c a c
-accepts_none a c = record { each = λ k. inl refl; seen = λ k h. h }
-
-accept_by : (b : Bool) (a : Ids) (es fs : List (ℕ × Entry)) (id k : ℕ) (e : Entry) → is_at (nat_cmp id) k ≡ b
-    → was a id ≡ false → theirs_of e ≡ Unread [] false
-    → lookup (is_at (nat_cmp id)) fs ≡ Some e
-    → ((k : ℕ) → is_at (nat_cmp id) k ≡ false → lookup (is_at (nat_cmp k)) fs ≡ lookup (is_at (nat_cmp k)) es)
-    → IsStart (was a k) (theirs_at es k) (theirs_at fs k)
-accept_by true a es fs id k e t w n here there =
-    subst (λ m. IsStart (was a m) (theirs_at es m) (theirs_at fs m)) (same_key id k t) (inr (w, ap theirs_in here ∙ n))
-accept_by false a es fs id k e t w n here there = inl (ap theirs_in (there k t))
-
-seen_lt : (id n : ℕ) → nat_lt id n ≡ true → nat_lt id (n + 4) ≡ true
-seen_lt id n h = grind (arith, nat_tests, h)
-
-was_by : (b : Bool) (kd kk : StreamKind) (a : Ids) (k : ℕ)
-    → cond b (nat_lt k (next_own a kk)) (nat_lt k (next_peer a kk)) ≡ true
-    → cond b (nat_lt k (next_own (seen a kd) kk)) (nat_lt k (next_peer (seen a kd) kk)) ≡ true
-was_by true kind.Bidirectional kind.Bidirectional a k h = h
-was_by true kind.Bidirectional kind.Unidirectional a k h = h
-was_by true kind.Unidirectional kind.Bidirectional a k h = h
-was_by true kind.Unidirectional kind.Unidirectional a k h = h
-was_by false kind.Bidirectional kind.Bidirectional a k h = seen_lt k a.peer_bidirectional h
-was_by false kind.Bidirectional kind.Unidirectional a k h = h
-was_by false kind.Unidirectional kind.Bidirectional a k h = h
-was_by false kind.Unidirectional kind.Unidirectional a k h = seen_lt k a.peer_unidirectional h
-
-was_seen : (kd : StreamKind) (a : Ids) (k : ℕ) → was a k ≡ true → was (seen a kd) k ≡ true
-was_seen kind.Bidirectional a k h = was_by (k % 2 == own_bit a.side) kind.Bidirectional (kind_of k) a k h
-was_seen kind.Unidirectional a k h = was_by (k % 2 == own_bit a.side) kind.Unidirectional (kind_of k) a k h
-
-pub seen_next : (b : Bool) (kd : StreamKind) (a : Ids) (k : ℕ) → was a k ≡ true → was (cond b (seen a kd) a) k ≡ true
-seen_next true kd a k h = was_seen kd a k h
-seen_next false kd a k h = h
-
-pub accepts_insert : (a b : Ids) (t : Bool) (kd : StreamKind) (es fs : List (ℕ × Entry)) (id : ℕ) (e : Entry)
-    → was a id ≡ false → theirs_of e ≡ Unread [] false → b ≡ cond t (seen a kd) a
-    → lookup (is_at (nat_cmp id)) fs ≡ Some e
-    → ((k : ℕ) → is_at (nat_cmp id) k ≡ false → lookup (is_at (nat_cmp k)) fs ≡ lookup (is_at (nat_cmp k)) es)
-    → Accepts a es b fs
-accepts_insert a b t kd es fs id e w n i here there = record {
-  each = λ k. accept_by (is_at (nat_cmp id) k) a es fs id k e refl w n here there;
-  seen = λ k h. subst (λ x. was x k ≡ true) (sym i) (seen_next t kd a k h);
-}
-
--- ---- steps that tell nothing
-
-pub more_tells : (c d : List (ℕ × Entry)) (i j : Input) → Same c i d j → Tells (told_in step.More) c i d j
-more_tells c d i j p = same_tell (told_in step.More) c d i j (λ k. refl) p
-
-pub left_more_tells : (c d e : List (ℕ × Entry)) (i j : Input) → Left c d → Same d i e j
-    → Tells (told_in step.More) c i e j
-left_more_tells c d e i j p q = more_tells c e i j (left_then_same c d e i j p q)
-
-pub reads_more_tells : (id : ℕ) (c d : List (ℕ × Entry)) (i j : Input)
-    → i.report ≡ report.Stream id → j.report ≡ report.Stream id → ReadsOn id [] c i.chunk d j.chunk
-    → Tells (told_in step.More) c i d j
-reads_more_tells id c d i j h g p = reads_tell id (told_in step.More) c d i j h g (λ k. refl) p
-
-pub more_passes : (id : ℕ) (c d : List (ℕ × Entry)) (i j : Input) → Same c i d j
-    → Passes id [] (told_in step.More) c i d j
-more_passes id c d i j p = same_passes id (told_in step.More) c d i j (λ k. refl) p
-
-pub same_more_passes : (id : ℕ) (c d e : List (ℕ × Entry)) (i j : Input) → Same c i d j → Left d e
-    → Passes id [] (told_in step.More) c i e j
-same_more_passes id c d e i j p q = more_passes id c e i j (same_left c d e i j p q)
-
-pub left_more_passes : (id : ℕ) (c d e : List (ℕ × Entry)) (i j : Input) → Left c d → Same d i e j
-    → Passes id [] (told_in step.More) c i e j
-left_more_passes id c d e i j p q = more_passes id c e i j (left_then_same c d e i j p q)
-
-pub more_hands : (id : ℕ) (c d : List (ℕ × Entry)) → Left c d → Hands id [] (told_in step.More) c d
-more_hands id c d p = left_hands id step.More c d tt p
-
-pub more_kept : (id : ℕ) (c d : List (ℕ × Entry)) → ReadsKept id [] c d → TellsKept (told_in step.More) c d
-more_kept id c d p =
-    kept_left id (told_in step.More) c d d (λ k. refl) p (record { each = λ k. inl refl })
-
-pub none_kept : (c : List (ℕ × Entry)) → TellsKept (told_in step.More) c c
-none_kept c = record { each = λ k. read_left (theirs_at c k) (theirs_at c k) (inl refl) }
-
--- content is told on its stream, or the stream is read no further
-hand_by : (b : Bool) (x : Theirs) (content : List ℕ) → IsHanded x (cond b content []) (cond b content []) x
-hand_by b x content = inl (inl refl, refl)
-
-pub told_hands : (id : ℕ) (content : List ℕ) (e : Event) (c : List (ℕ × Entry)) → e.stream ≡ id
-    → piece_of e.kind ≡ content → Hands id content (told_in (step.Told e)) c c
-told_hands id content e c p q = record {
-  each = λ k. rw (p, q) (hand_by (is_at (nat_cmp id) k) (theirs_at c k) content);
-}
-
-gone_by_id : (b : Bool) (id k : ℕ) (content : List ℕ) (c d : List (ℕ × Entry)) → is_at (nat_cmp id) k ≡ b
-    → Left c d → theirs_at d id ≡ Gone → IsHanded (theirs_at c k) (cond b content []) [] (theirs_at d k)
-gone_by_id true id k content c d t p g =
-    inr (subst (λ n. theirs_at d n ≡ Gone) (same_key id k t) g, refl)
-gone_by_id false id k content c d t p g = inl (p.each k, refl)
-
-pub gone_hands : (id : ℕ) (content : List ℕ) (c d : List (ℕ × Entry)) → Left c d → theirs_at d id ≡ Gone
-    → Hands id content (told_in step.More) c d
-gone_hands id content c d p g = record {
-  each = λ k. gone_by_id (is_at (nat_cmp id) k) id k content c d refl p g;
-}
-
--- nothing was read and told, and then this
-start_none : (s : Bool) (u v x y : Theirs) (f : Theirs → Theirs) (content : List ℕ) → IsRead (f u) [] (f v)
-    → IsStart s v x → IsRead (f x) content y → (t : Theirs) × IsStart s u t × IsRead (f t) content y
-start_none s u v x y f content p (inl h) r =
-    (u, inl refl, read_steps (f u) (f v) y [] content p (subst (λ t. IsRead (f t) content y) h r))
-start_none s u v x y f content p (inr h) r = (x, inr h, r)
-
-pub none_all : (a : Ids) (quiet said : ℕ → List ℕ) (c d e : List (ℕ × Entry)) (i l : Input)
-    → ((k : ℕ) → quiet k ≡ []) → Tells quiet c i d i → TellsAll a said d i e l → TellsAll a said c i e l
-none_all a quiet said c d e i l h p q = record {
-  each = λ k. start_none (was a k) (theirs_at c k) (theirs_at d k) (q.each k).0 (unread_at e l k) (with_input i k)
-      (said k) (subst (λ b. IsRead (unread_at c i k) b (unread_at d i k)) (h k) (p.each k)) (q.each k).1 (q.each k).2;
 }

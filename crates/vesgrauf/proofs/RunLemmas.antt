@@ -1,7 +1,7 @@
 -- What comes on one stream, call after call, and what is told of it.
-use Rattle.std.proofs.Common.{◌≡◌, ◌⊎◌, ◌++◌, ◌||◌, ℕ, List, [], ◌∷◌, Bool, true, false, refl, inl, inr, sym, ap, ◌∙◌, append_assoc, append-nil, subst}
-use Rattle.vesgrauf.specs.Theirs.{Theirs, Gone, Unread, Piece, AreCalls, contents, IsLeft, AreRead, IsReadTo, IsRead}
-use Rattle.vesgrauf.specs.Runs.{Step, Comes, Tells, Rests, with_more, Does, Leads, came, ends, told, IsToldOf}
+use Rattle.std.proofs.Common.{◌≡◌, ◌++◌, ◌||◌, ℕ, List, [], ◌∷◌, Bool, true, false, refl, inl, inr, sym, ap, ◌∙◌, append_assoc, append-nil, subst}
+use Rattle.vesgrauf.specs.Theirs.{Theirs, Gone, Unread, AreCalls, contents, IsLeft, AreRead, IsReadTo}
+use Rattle.vesgrauf.specs.Runs.{Step, Comes, Tells, Rests, with_more, Leads, came, ends, told, IsToldOf}
 use Rattle.vesgrauf.proofs.ReadsLemmas.{gone_left_by, gone_is_read, calls_join, calls_more, contents_join}
 
 or_none : (a : Bool) → (a || false) ≡ a

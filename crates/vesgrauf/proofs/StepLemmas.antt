@@ -1,20 +1,20 @@
 -- Steps of a connection, one after the other.
-use Rattle.std.proofs.Common.{◌≡◌, ◌++◌, ◌∙◌, ℕ, List, [], Option, None, Some, Bool, true, false, cond, refl, sym, ap, subst, inl}
+use Rattle.std.proofs.Common.{◌≡◌, ◌∙◌, ℕ, List, [], None, Some, Bool, true, false, cond, refl, sym, ap, subst, inl}
 use Rattle.std.specs.Ordering.{nat_cmp}
 use Rattle.std.specs.BTreeMap.{is_at}
 use Rattle.std.specs.Prelude.{IfOk, OnOk, Result, Ok, Err, is_some}
-use Rattle.vesgrauf.specs.declared.connection.Step.{Step}
 use Rattle.vesgrauf.specs.declared.connection.Step.TheVariants as step
 use Rattle.vesgrauf.specs.declared.connection.ids.Ids.{Ids}
 use Rattle.vesgrauf.specs.declared.entry.Entry.{Entry}
 use Rattle.vesgrauf.specs.declared.event.Event.{Event}
 use Rattle.vesgrauf.specs.declared.input.Input.{Input}
-use Rattle.vesgrauf.specs.Theirs.{Left, Same, Hands, Passes, ReadsKept, TellsKept, Tells, IsSilent, content_on, piece_of, theirs_at, told_in, told_if, told_by, TellsAll}
+use Rattle.vesgrauf.specs.Theirs.{Left, Tells, content_on, piece_of, theirs_at, told_if, told_by, TellsAll}
 use Rattle.vesgrauf.specs.Own.{Untouched}
-use Rattle.vesgrauf.specs.State.{IsAfterEnd, go_on, is_over}
+use Rattle.vesgrauf.specs.State.{IsAfterEnd, go_on}
 use Rattle.vesgrauf.specs.declared.connection.Connection.{Connection}
 use Rattle.vesgrauf.proofs.OwnLemmas.{untouched_trans}
-use Rattle.vesgrauf.proofs.ReadsLemmas.{left_steps, left_same, left_tells, left_hands, same_tells, same_tell, tells_steps, kept_tells, all_of, none_all}
+use Rattle.vesgrauf.proofs.ReadsLemmas.{left_steps, left_same, same_tells, same_tell, tells_steps}
+use Rattle.vesgrauf.proofs.TellsLemmas.{all_of, none_all}
 
 -- what holds of a result holds of one that follows from it
 pub ok_map : {A E : Type 0} (r : Result A E) (P Q : A → Type 0) → ((a : A) → P a → Q a) → IfOk r P → IfOk r Q

@@ -1,7 +1,7 @@
 -- Events that are told.
 use Rattle.std.proofs.Common.{◌≡◌, List, Bool, true, false, refl, ap, ◌∙◌}
 use Rattle.std.specs.Prelude.{not}
-use Rattle.std.specs.List.{filter, list_any}
+use Rattle.std.specs.List.{filter}
 use Rattle.std.proofs.lemmas.Map.Views.{any-filter_same}
 use Rattle.vesgrauf.specs.declared.event.Event.{Event}
 use Rattle.vesgrauf.specs.State.{closes_stream, go_on}

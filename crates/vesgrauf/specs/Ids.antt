@@ -1,5 +1,5 @@
 -- The IDs of streams (RFC 9000, section 2.1).
-use Rattle.std.specs.Prelude.{◌≡◌, ◌==◌, ◌&&◌, ℕ, ◌+◌, ◌-◌, ◌/◌, ◌%◌, ◌<◌, ◌^◌, nat_lt, Bool, true, false, if◌then◌else◌, Option, Some, None}
+use Rattle.std.specs.Prelude.{◌≡◌, ◌==◌, ◌&&◌, ℕ, ◌+◌, ◌-◌, ◌/◌, ◌%◌, nat_lt, Bool, true, false, if◌then◌else◌, Option, Some, None}
 use Rattle.wtp_frames.specs.declared.endpoint.Side.{Side}
 use Rattle.wtp_frames.specs.declared.endpoint.Side.TheVariants as side
 use Rattle.vesgrauf.specs.declared.output.StreamKind.{StreamKind}

@@ -1,12 +1,17 @@
+pub mod Calls
 pub mod Bounds
 pub mod Closes
 pub mod Codes
 pub mod Config
 pub mod Ids
 pub mod Inputs
+pub mod Keeps
+pub mod Messages
+pub mod Order
 pub mod Own
 pub mod Progress
 pub mod Runs
 pub mod State
 pub mod Streams
 pub mod Theirs
+pub mod Told

@@ -1,12 +1,11 @@
 -- A connection as its contracts speak of it.
-use Rattle.std.specs.Prelude.{◌^◌, ◌≤◌, ◌+◌, ◌%◌, ◌==◌, ◌&&◌, ◌++◌, nat_lt, max, ◌≡◌, ◌⊎◌, ◌||◌, ℕ, if◌then◌else◌, Bool, true, false, not, is_some, IfOk, IfSome, List, [], ◌∷◌, length, Option, None, Some, Result, Ok, Err}
+use Rattle.std.specs.Prelude.{◌^◌, ◌≤◌, ◌%◌, ◌==◌, ◌&&◌, ◌++◌, nat_lt, max, ◌≡◌, ◌⊎◌, ◌||◌, ℕ, if◌then◌else◌, Bool, true, false, not, is_some, IfOk, IfSome, List, [], ◌∷◌, length, Option, None, Some, Result, Ok, Err}
 use Rattle.std.specs.List.{filter, list_any}
 use Rattle.std.specs.declared.vec.Vec.{Vec}
 use Rattle.std.specs.declared.alloc.Global.{Global}
 use Rattle.std.specs.Ordering.{nat_cmp}
 use Rattle.std.specs.Map.{lookup, set_value}
 use Rattle.std.specs.BTreeMap.{is_at}
-use Rattle.vesgrauf_stream.specs.declared.reading.Reading.{Reading}
 use Rattle.vesgrauf_stream.specs.declared.writing.Writing.{Writing}
 use Rattle.vesgrauf.specs.declared.connection.Connection.{Connection}
 use Rattle.vesgrauf.specs.declared.connection.DatagramQueue.{DatagramQueue}
@@ -267,6 +266,18 @@ ShowsNext c id bytes more fin =
 -- this is an own critical stream
 abbrev pub is_own : Connection → ℕ → Bool
 is_own c id = is_it id c.control.id || (is_it id c.decoder.id || is_it id c.encoder.id)
+
+-- QUIC has opened this stream: an own critical one, or another one, unless that is forgotten
+abbrev pub opened_by : Option Entry → Bool
+opened_by None = true
+opened_by (Some e) = e.is_opened
+
+abbrev pub is_opened_at : Connection → ℕ → Bool
+is_opened_at c id =
+    if is_it id c.control.id then c.control.is_opened
+    else if is_it id c.decoder.id then c.decoder.is_opened
+    else if is_it id c.encoder.id then c.encoder.is_opened
+    else opened_by (stream_at c id)
 
 -- QUIC takes nothing of a stream for now, or does again
 abbrev pub with_block : Bool → Critical → Critical

@@ -1,7 +1,7 @@
 -- The streams of a connection.
-use Rattle.std.specs.Prelude.{◌≡◌, ℕ, ◌==◌, ◌&&◌, ◌⊎◌, not, if◌then◌else◌, Bool, true, false, List, [], Option, None, Some}
-use Rattle.vesgrauf_queue.specs.State.{State, IsIdle, Shows}
-use Rattle.vesgrauf_queue.specs.Steps.{Does, Queues}
+use Rattle.std.specs.Prelude.{◌≡◌, ℕ, ◌==◌, ◌&&◌, ◌⊎◌, not, if◌then◌else◌, Bool, true, false, List, [], take, drop, Option, None, Some}
+use Rattle.vesgrauf_queue.specs.State.{IsIdle, Shows, waiting}
+use Rattle.vesgrauf_queue.specs.Steps.{Does, Queues, Puts, ends_with}
 use Rattle.vesgrauf.specs.declared.critical.Critical.{Critical}
 use Rattle.vesgrauf_ready.specs.declared.rank.Kind.{Kind}
 use Rattle.vesgrauf_ready.specs.declared.rank.Kind.TheVariants as order
@@ -92,6 +92,11 @@ IsNotDue c = (c.id ≡ None) ⊎ ¬ (IsDue c)
 -- it is due, and these are its next bytes
 abbrev pub ShowsOwn : Critical → (id : ℕ) → (bytes more : List ℕ) → (fin : Bool) → Type 0
 ShowsOwn c id bytes more fin = IsDue c × (c.id ≡ Some id) × Shows c.queue bytes more fin
+
+-- QUIC took the first `len` bytes that wait
+pub record TookOwn (len : ℕ) (c d : Critical) : Type 0 where
+  pub queue : Does (Puts (take len (waiting c.queue)) (ends_with c.queue (drop len (waiting c.queue)))) c.queue d.queue
+  pub others : d ≡ record c { queue = d.queue }
 
 -- these bytes are queued: no bytes are none
 pub record Says (bytes : List ℕ) (c d : Critical) : Type 0 where

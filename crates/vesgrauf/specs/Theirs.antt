@@ -60,6 +60,10 @@ IsLeft x y = (y ≡ x) ⊎ (y ≡ Gone)
 pub record Left (c d : List (ℕ × Entry)) : Type 0 where
   pub each : (id : ℕ) → IsLeft (theirs_at c id) (theirs_at d id)
 
+-- of no other stream than this one the bytes change that are kept
+pub record OnlyAt (id : ℕ) (c d : List (ℕ × Entry)) : Type 0 where
+  pub each : (k : ℕ) → is_at (nat_cmp id) k ≡ false → theirs_at d k ≡ theirs_at c k
+
 -- ---- the input
 
 -- the bytes of an input come after those that are kept

@@ -2,6 +2,7 @@
 mod calls;
 mod closing;
 mod control;
+mod cutting;
 mod datagrams;
 mod endings;
 mod failing;
@@ -15,6 +16,7 @@ mod opening;
 mod pieces;
 mod quick;
 mod reading;
+mod requests;
 mod sending;
 mod sessions;
 mod settled;
@@ -30,10 +32,11 @@ use crate::event::{Event, EventKind, Failure};
 use crate::input::{Input, Report};
 use crate::output::Output;
 use std::alloc::{AllocError, AllocFailed, Global};
-use std::collections::{BTreeMap, BTreeSet, VecDeque};
+use std::collections::{BTreeSet, VecDeque};
 use vesgrauf_ready::ready::Ready;
 use vesgrauf_stream::early::EarlyDatagrams;
 use vesgrauf_stream::tools::Tools;
+use vesgrauf_streams::map::StreamMap;
 use wtp_connection::budget::RequestBudget;
 use wtp_connection::settings::PeerSettings;
 use wtp_core::error::Code;
@@ -56,7 +59,7 @@ pub struct Connection {
     /// What the own halves have in common.
     tools: Tools,
     /// The streams, but for the own critical ones.
-    streams: BTreeMap<u64, Entry>,
+    streams: StreamMap<Entry>,
     /// The streams of sessions.
     members: BTreeSet<Member>,
     /// The streams that wait, or are paused.
@@ -228,15 +231,18 @@ enum Step<'a> {
     Nothing,
 }
 
+#[tactic(auto, using(crate::proofs::KeepsLemmas::keep))]
 impl Connection {
-    ghost use Rattle.vesgrauf.specs.Bounds.{InstructionsFit};
+    ghost use Rattle.vesgrauf.specs.Keeps.{Keeps, KeepsOwn};
+    ghost use Rattle.vesgrauf.specs.Bounds.{InstructionsFit, IsBounded, KeepsBound};
     ghost use Rattle.vesgrauf.specs.Progress.{IsSettled};
     ghost use Rattle.vesgrauf.specs.Own.{Untouched};
     ghost use Rattle.vesgrauf.specs.State.{IsAfterEnd, IsSomeOk, is_last, is_over};
+    ghost use Rattle.vesgrauf.specs.Told.{GoesOn, said_by, told_by_call, Sound};
     ghost use Rattle.vesgrauf_queue.specs.State.{waiting};
     ghost use Rattle.vesgrauf.specs.Config.{announced};
     ghost use Rattle.wtp_sending.specs.Control.{settings_bytes};
-    ghost use Rattle.vesgrauf.specs.Theirs.{Left, Tells, TellsAll, IsSilent, told_in, told_by};
+    ghost use Rattle.vesgrauf.specs.Theirs.{Tells, TellsAll, IsSilent, told_in, told_by};
     ghost use Rattle.vesgrauf.specs.declared.config.OnMalformed.TheVariants as chosen;
     ghost use Rattle.std.specs.Prelude.{◌≡◌, if◌then◌else◌, true, false, Ok, Some, None, [], IfOk, OnOk};
 
@@ -245,22 +251,41 @@ impl Connection {
     /// # Errors
     ///
     /// If memory is refused.
+    #[tactic(auto, using(crate::proofs::GoesSteps::sound_then))]
     pub fn new(alloc: Global, config: Config) -> Result<Self, AllocError>
         ensures of_config { IfOk result (λ c. c.config ≡ config) }
         ensures streams { IfOk result (λ c. c.streams.entries ≡ []) }
         ensures outputs { IfOk result (λ c. (c.events.items ≡ []) × (c.outputs.items ≡ [])) }
         ensures datagrams { IfOk result (λ c. c.datagrams.queue.items ≡ []) }
         ensures open { IfOk result (λ c. (c.sessions ≡ 0) × (c.ended ≡ None) × (c.closes ≡ None)) }
+        ensures sound { IfOk result (λ c. Sound c.streams.entries c.ids) }
         ensures starts { IfOk result (λ c. waiting c.control.queue ≡ settings_bytes (announced config)) }
+        ensures bounded { IfOk result (λ c. IsBounded c) }
+    {
+        let mut connection = Connection::idle(alloc, config);
+        connection.begin()?;
+        Ok(connection)
+    }
+
+    // Returns a connection without streams, of which nothing is queued.
+    #[tactic(auto, using(crate::proofs::GoesSteps::sound_none))]
+    fn idle(alloc: Global, config: Config) -> Self
+        ensures of_config { result.config ≡ config }
+        ensures streams { result.streams.entries ≡ [] }
+        ensures outputs { (result.events.items ≡ []) × (result.outputs.items ≡ []) }
+        ensures datagrams { result.datagrams.queue.items ≡ [] }
+        ensures open { (result.sessions ≡ 0) × (result.ended ≡ None) × (result.closes ≡ None) }
+        ensures starts { waiting result.control.queue ≡ [] }
+        ensures sound { Sound result.streams.entries result.ids }
     {
         let queue = config.queue();
-        let mut connection = Connection {
+        Connection {
             alloc,
             config,
             shared: shared_for(alloc, &config),
             fields: Fields::new(alloc, u64::from(config.max_field_section_size)),
             tools: Tools::new(alloc),
-            streams: BTreeMap::new(alloc),
+            streams: StreamMap::new(alloc),
             members: BTreeSet::new(alloc),
             waiting: BTreeSet::new(alloc),
             full: BTreeSet::new(alloc),
@@ -286,9 +311,7 @@ impl Connection {
             ended: None,
             failure: None,
             closes: None,
-        };
-        connection.begin()?;
-        Ok(connection)
+        }
     }
 
     /// Returns the next event, or `None` once the input is taken in and nothing else is to be told.
@@ -299,7 +322,7 @@ impl Connection {
     /// # Errors
     ///
     /// If memory is refused: nothing is lost, the input stays as it is, and the call is to be made again.
-    #[tactic(auto, using(crate::proofs::ProgressLemmas::quiet_settled))]
+    #[tactic(auto, using(crate::proofs::KeepsLemmas::held, crate::proofs::ProgressLemmas::quiet_settled, crate::proofs::BoundLemmas::bounded))]
     #[inline(always)]
     pub fn next_event<'a>(&mut self, input: &mut Input<'a>) -> Result<Option<Event<'a>>, AllocError>
         ensures last { IsAfterEnd self.old → IsSomeOk result (λ e. is_last e.kind ≡ true) }
@@ -309,7 +332,9 @@ impl Connection {
         ensures told { is_over self.new ≡ false → IfOk result (λ e. TellsAll self.old.ids (told_by e)
             self.old.streams.entries input.old self.new.streams.entries input.new) }
         ensures config { self.new.config ≡ self.old.config }
+        ensures goes { GoesOn (told_by_call result) self.old self.new }
         ensures settled { result ≡ Ok None → IsSettled self.new input.new }
+        ensures bounded { IsBounded self.old → is_over self.new ≡ false → OnOk result (IsBounded self.new) }
     {
         if self.has_nothing_due(input) {
             return Ok(None);
@@ -318,25 +343,24 @@ impl Connection {
     }
 
     // Takes one step.
-    #[tactic(auto, using(crate::proofs::StepLemmas::left_then_tells))]
+    #[tactic(auto, using(crate::proofs::KeepsLemmas::hold, crate::proofs::StepLemmas::left_then_tells, crate::proofs::BoundLemmas::bound))]
     fn step<'a>(&mut self, input: &mut Input<'a>) -> Result<Step<'a>, Stop>
-        ensures own { self.old.config.on_malformed ≡ chosen.Reset
-            → Untouched self.old.streams.entries self.new.streams.entries }
+        ensures keeps { KeepsOwn (said_by result) self.old self.new }
         ensures tells { IfOk result (λ s. Tells (told_in s)
             self.old.streams.entries input.old self.new.streams.entries input.new) }
-        ensures config { self.new.config ≡ self.old.config }
+        ensures bounded { OnOk result (KeepsBound self.old self.new) }
     {
         self.prepare()?;
         self.step_due(input)
     }
 
     // Takes a step for a session that opened, or another.
+    #[tactic(auto, using(crate::proofs::KeepsLemmas::hold, crate::proofs::BoundLemmas::bound))]
     fn step_due<'a>(&mut self, input: &mut Input<'a>) -> Result<Step<'a>, Stop>
-        ensures own { self.old.config.on_malformed ≡ chosen.Reset
-            → Untouched self.old.streams.entries self.new.streams.entries }
+        ensures keeps { KeepsOwn (said_by result) self.old self.new }
         ensures tells { IfOk result (λ s. Tells (told_in s)
             self.old.streams.entries input.old self.new.streams.entries input.new) }
-        ensures config { self.new.config ≡ self.old.config }
+        ensures bounded { OnOk result (KeepsBound self.old self.new) }
     {
         if let Some(session) = self.session_opened() {
             return Ok(self.step_opened(session));
@@ -345,12 +369,12 @@ impl Connection {
     }
 
     // Takes a step by what is kept of a stream that is read again, or by what the input reports.
+    #[tactic(auto, using(crate::proofs::KeepsLemmas::hold, crate::proofs::BoundLemmas::bound, crate::proofs::BoundLemmas::bound_kept))]
     fn step_read<'a>(&mut self, input: &mut Input<'a>) -> Result<Step<'a>, Stop>
-        ensures own { self.old.config.on_malformed ≡ chosen.Reset
-            → Untouched self.old.streams.entries self.new.streams.entries }
+        ensures keeps { KeepsOwn (said_by result) self.old self.new }
         ensures tells { IfOk result (λ s. Tells (told_in s)
             self.old.streams.entries input.old self.new.streams.entries input.new) }
-        ensures config { self.new.config ≡ self.old.config }
+        ensures bounded { OnOk result (KeepsBound self.old self.new) }
     {
         if let Some(id) = self.pending.resumed {
             return self.read_kept(id);
@@ -359,13 +383,12 @@ impl Connection {
     }
 
     // Takes a step by what the input reports.
-    #[tactic(auto, using(crate::proofs::ReadsLemmas::reported_tells))]
+    #[tactic(auto, using(crate::proofs::KeepsLemmas::hold, crate::proofs::TellsLemmas::reported_tells, crate::proofs::BoundLemmas::bound))]
     fn take_input<'a>(&mut self, input: &mut Input<'a>) -> Result<Step<'a>, Stop>
-        ensures own { self.old.config.on_malformed ≡ chosen.Reset
-            → Untouched self.old.streams.entries self.new.streams.entries }
+        ensures keeps { KeepsOwn (said_by result) self.old self.new }
         ensures tells { IfOk result (λ s. Tells (told_in s)
             self.old.streams.entries input.old self.new.streams.entries input.new) }
-        ensures config { self.new.config ≡ self.old.config }
+        ensures bounded { OnOk result (KeepsBound self.old self.new) }
     {
         match input.report {
             Report::Nothing => self.step_alone(),
@@ -385,9 +408,7 @@ impl Connection {
 
     // Takes in a report without bytes.
     fn report_came(&mut self, report: Report) -> Result<(), Stop>
-        ensures own { Untouched self.old.streams.entries self.new.streams.entries }
-        ensures left { Left self.old.streams.entries self.new.streams.entries }
-        ensures config { self.new.config ≡ self.old.config }
+        ensures keeps { Keeps [] self.old self.new }
     {
         match report {
             Report::Nothing | Report::Stream(_) | Report::Datagram => Ok(()),
@@ -413,9 +434,7 @@ impl Connection {
 
     // Does what is due before anything else, and reserves the memory that a step takes.
     fn prepare(&mut self) -> Result<(), Stop>
-        ensures own { Untouched self.old.streams.entries self.new.streams.entries }
-        ensures left { Left self.old.streams.entries self.new.streams.entries }
-        ensures config { self.new.config ≡ self.old.config }
+        ensures keeps { Keeps [] self.old self.new }
         ensures instructions { OnOk result (InstructionsFit self.new) }
     {
         self.reserve_all()?;
@@ -428,10 +447,8 @@ impl Connection {
 
     // Takes a step without an input.
     fn step_alone<'a>(&mut self) -> Result<Step<'a>, Stop>
-        ensures own { Untouched self.old.streams.entries self.new.streams.entries }
-        ensures left { Left self.old.streams.entries self.new.streams.entries }
+        ensures keeps { Keeps (said_by result) self.old self.new }
         ensures silent { IfOk result IsSilent }
-        ensures config { self.new.config ≡ self.old.config }
     {
         if let Some(first) = self.pending.unprocessed {
             return self.leave_unprocessed(first);

@@ -119,6 +119,7 @@ impl Critical {
     pub(crate) fn sent(&mut self, spares: &mut Spares, len: usize) -> Result<(), NotShown>
         ensures ok { OnOk result (Does (Puts (take len (waiting self.old.queue))
             (ends_with self.old.queue (drop len (waiting self.old.queue)))) self.old.queue self.new.queue) }
+        ensures others { self.new ≡ record self.old { queue = self.new.queue } }
         ensures err { OnErr result (self.new ≡ self.old) }
     {
         self.queue.sent(spares, len)

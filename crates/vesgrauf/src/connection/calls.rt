@@ -1,9 +1,12 @@
 //! Calls on one stream.
-ghost use Rattle.std.specs.Prelude.{◌≡◌, is_some, is_ok, true, Some, None, OnOk, OnErr, IfErr, []};
+ghost use Rattle.std.specs.Prelude.{◌≡◌, is_some, is_ok, true, false, Some, None, OnOk, OnErr, IfErr, []};
+ghost use Rattle.vesgrauf.specs.Keeps.{Keeps};
 ghost use Rattle.vesgrauf.specs.State.{code_on, named_at, Becomes, Pauses, Prioritizes, IsStill, IsRefusedBy, IsWhyNamed};
 ghost use Rattle.vesgrauf.specs.declared.refused.Refused.TheVariants as refused;
 ghost use Rattle.vesgrauf.specs.Own.{Untouched};
-ghost use Rattle.vesgrauf.specs.Theirs.{Left};
+ghost use Rattle.vesgrauf.specs.Theirs.{Left, Gone, theirs_at};
+ghost use Rattle.vesgrauf.specs.Order.{LooksAt};
+ghost use Rattle.vesgrauf.specs.Told.{GoesOn};
 
 use crate::code::StreamCode;
 use crate::connection::Connection;
@@ -12,6 +15,7 @@ use crate::refused::Refused;
 use std::alloc::AllocError;
 use vesgrauf_ready::rank::{Kind, Priority};
 
+#[tactic(auto, using(crate::proofs::KeepsLemmas::keep))]
 impl Connection {
     /// Resets the own half of a stream, with a code of HTTP/3 or, on a stream of a session, of the application. What is
     /// queued is dropped. One that was finished is reset too, unless all of it is acknowledged. That of a session's own
@@ -20,12 +24,14 @@ impl Connection {
     /// # Errors
     ///
     /// Nothing changes. `Closed`; `NoStream`; `WrongCode`; and `Memory`.
+    #[tactic(auto, using(crate::proofs::KeepsLemmas::kept))]
     pub fn reset(&mut self, id: u64, code: StreamCode) -> Result<(), Refused>
         ensures fits { OnOk result (is_ok (code_on self.old id code) ≡ true) }
         ensures refused { IfErr result (λ e. IsRefusedBy (code_on self.old id code) e self.old self.new) }
         ensures own { Untouched self.old.streams.entries self.new.streams.entries }
         ensures left { Left self.old.streams.entries self.new.streams.entries }
         ensures config { self.new.config ≡ self.old.config }
+        ensures goes { GoesOn [] self.old self.new }
     {
         let code = self.code_for(id, code)?;
         self.reserve()?;
@@ -42,12 +48,15 @@ impl Connection {
     /// # Errors
     ///
     /// As of [`reset`](Self::reset).
+    #[tactic(auto, using(crate::proofs::KeepsLemmas::kept, crate::proofs::KeepsLemmas::keeps_gone))]
     pub fn stop_sending(&mut self, id: u64, code: StreamCode) -> Result<(), Refused>
+        ensures gone { OnOk result (theirs_at self.new.streams.entries id ≡ Gone) }
         ensures fits { OnOk result (is_ok (code_on self.old id code) ≡ true) }
         ensures refused { IfErr result (λ e. IsRefusedBy (code_on self.old id code) e self.old self.new) }
         ensures own { Untouched self.old.streams.entries self.new.streams.entries }
         ensures left { Left self.old.streams.entries self.new.streams.entries }
         ensures config { self.new.config ≡ self.old.config }
+        ensures goes { GoesOn [] self.old self.new }
     {
         let code = self.code_for(id, code)?;
         self.reserve()?;
@@ -63,29 +72,38 @@ impl Connection {
     /// # Errors
     ///
     /// As of [`reset`](Self::reset).
+    #[tactic(auto, using(crate::proofs::KeepsLemmas::kept, crate::proofs::KeepsLemmas::keeps_gone))]
     pub fn abort(&mut self, id: u64, code: StreamCode) -> Result<(), Refused>
+        ensures gone { OnOk result (theirs_at self.new.streams.entries id ≡ Gone) }
         ensures fits { OnOk result (is_ok (code_on self.old id code) ≡ true) }
         ensures refused { IfErr result (λ e. IsRefusedBy (code_on self.old id code) e self.old self.new) }
         ensures own { Untouched self.old.streams.entries self.new.streams.entries }
         ensures left { Left self.old.streams.entries self.new.streams.entries }
         ensures config { self.new.config ≡ self.old.config }
+        ensures goes { GoesOn [] self.old self.new }
     {
         let code = self.code_for(id, code)?;
         self.reserve()?;
+        self.abort_halves(id, code)?;
+        Ok(self.remove_if_done(id)?)
+    }
+
+    // Ends both halves of a stream, and the session whose own stream it is.
+    fn abort_halves(&mut self, id: u64, code: u64) -> Result<(), AllocError>
+        ensures keeps { Keeps [] self.old self.new }
+        ensures gone { OnOk result (theirs_at self.new.streams.entries id ≡ Gone) }
+    {
         self.cancel(id)?;
         self.end_if_session(id, code, true)?;
         self.reset_own(id, code)?;
         self.reset_ended(id, code)?;
-        self.stop_peer(id, code)?;
-        Ok(self.remove_if_done(id)?)
+        self.stop_peer(id, code)
     }
 
     // Ends the session whose own stream this is, if it is one that is open or, with `always`, to come; and both halves of
     // the stream.
     fn end_if_session(&mut self, id: u64, code: u64, always: bool) -> Result<(), AllocError>
-        ensures own { Untouched self.old.streams.entries self.new.streams.entries }
-        ensures left { Left self.old.streams.entries self.new.streams.entries }
-        ensures config { self.new.config ≡ self.old.config }
+        ensures keeps { Keeps [] self.old self.new }
     {
         let has_session = match self.streams.get(&id) {
             Some(entry) => entry.has_session,
@@ -137,11 +155,13 @@ impl Connection {
     /// # Errors
     ///
     /// Nothing changes. `Closed`; `NoStream`; and `Memory`.
-    #[tactic(auto, using(std::proofs::lemmas::Map::Steps::set_value_same))]
+    #[tactic(auto, using(crate::proofs::KeepsLemmas::kept, std::proofs::lemmas::Map::Steps::set_value_same, crate::proofs::GoesLemmas::goes_set))]
     pub fn pause(&mut self, id: u64, paused: bool) -> Result<(), Refused>
         ensures ok { OnOk result (Pauses id paused self.old self.new) }
+        ensures looks { OnOk result (paused ≡ false → LooksAt id self.new) }
         ensures why { IfErr result (λ e. IsWhyNamed self.old id e) }
         ensures kept { OnErr result (IsStill self.old self.new) }
+        ensures goes { GoesOn [] self.old self.new }
     {
         if self.ended.is_some() {
             return Err(Refused::Closed);
@@ -177,11 +197,12 @@ impl Connection {
     /// # Errors
     ///
     /// Nothing changes. `Closed`; `NoStream`; and `Memory`.
-    #[tactic(auto, using(std::proofs::lemmas::Map::Steps::set_value_same))]
+    #[tactic(auto, using(crate::proofs::KeepsLemmas::kept, std::proofs::lemmas::Map::Steps::set_value_same, crate::proofs::GoesLemmas::goes_set))]
     pub fn prioritize(&mut self, id: u64, priority: Priority) -> Result<(), Refused>
         ensures ok { OnOk result (Prioritizes id priority self.old self.new) }
         ensures why { IfErr result (λ e. IsWhyNamed self.old id e) }
         ensures kept { OnErr result (IsStill self.old self.new) }
+        ensures goes { GoesOn [] self.old self.new }
     {
         if self.ended.is_some() {
             return Err(Refused::Closed);
@@ -211,11 +232,12 @@ impl Connection {
     /// # Errors
     ///
     /// `NoStream`.
-    #[tactic(auto, using(std::proofs::lemmas::Map::Steps::set_value_same))]
+    #[tactic(auto, using(crate::proofs::KeepsLemmas::kept, std::proofs::lemmas::Map::Steps::set_value_same, crate::proofs::GoesLemmas::goes_set))]
     pub fn set_user(&mut self, id: u64, user: u64) -> Result<(), Refused>
         ensures ok { OnOk result (Becomes id (λ e. record e { user = Some user }) self.old self.new) }
         ensures err { IfErr result (λ e. (e ≡ refused.NoStream) × (named_at self.old id ≡ None)) }
         ensures kept { OnErr result (IsStill self.old self.new) }
+        ensures goes { GoesOn [] self.old self.new }
     {
         if !self.is_named(id) {
             return Err(Refused::NoStream);

@@ -1,12 +1,13 @@
-//! Streams that are closed, and sessions that end.
-ghost use Rattle.std.specs.Prelude.{◌≡◌, [], false, OnOk};
+//! Streams that are closed.
+ghost use Rattle.std.specs.Prelude.{◌≡◌, Bool, [], true, false, OnOk};
+ghost use Rattle.vesgrauf_stream.specs.declared.reading.Reading.{Reading as ReadingOf};
+ghost use Rattle.vesgrauf.specs.Keeps.{Keeps};
 ghost use Rattle.vesgrauf.specs.State.{stream_at, knows_of};
-ghost use Rattle.vesgrauf.specs.Own.{Untouched};
-ghost use Rattle.vesgrauf.specs.Theirs.{Left, Gone, theirs_at};
+ghost use Rattle.vesgrauf.specs.Told.{ended_at};
+ghost use Rattle.vesgrauf.specs.Theirs.{Gone, theirs_at, theirs_by};
 
-use crate::code::StreamCode;
+use crate::connection::Connection;
 use crate::connection::reading::counted;
-use crate::connection::{Connection, Step};
 use crate::entry::{Entry, Member, Peer, Told};
 use crate::event::{Event, EventKind, Why};
 use crate::output::Output;
@@ -17,17 +18,30 @@ use wtp_core::error::Code;
 /// The status of the answer that a CONNECT request gets by a reset: what follows it is read as of one that is refused.
 const REFUSED: u32 = 500;
 
+#[tactic(auto, using(crate::proofs::KeepsLemmas::keep))]
 impl Connection {
     // Closes both halves of a stream at once.
     pub(super) fn shut(&mut self, id: u64, code: Code, why: Why) -> Result<(), AllocError>
-        ensures own { Untouched self.old.streams.entries self.new.streams.entries }
-        ensures left { Left self.old.streams.entries self.new.streams.entries }
-        ensures config { self.new.config ≡ self.old.config }
+        ensures keeps { Keeps [] self.old self.new }
     {
-        let code = code.number().into_inner();
+        self.end_halves(id, code.number().into_inner())?;
+        self.leave(id, why)
+    }
+
+    // Ends both halves of a stream, and the session whose own stream it is.
+    fn end_halves(&mut self, id: u64, code: u64) -> Result<(), AllocError>
+        ensures keeps { Keeps [] self.old self.new }
+    {
         self.reset_own(id, code)?;
+        self.reset_session(id, code)?;
         self.stop_peer(id, code)?;
-        self.end_session(id)?;
+        self.end_session(id)
+    }
+
+    // Tells the program that a stream is over, and why, and forgets it if both halves are.
+    pub(super) fn leave(&mut self, id: u64, why: Why) -> Result<(), AllocError>
+        ensures keeps { Keeps [] self.old self.new }
+    {
         self.tell_failure(id, &why)?;
         self.closed(id, why)?;
         self.cancel_left(id);
@@ -36,9 +50,7 @@ impl Connection {
 
     // Resets the own half.
     pub(super) fn reset_own(&mut self, id: u64, code: u64) -> Result<(), AllocError>
-        ensures own { Untouched self.old.streams.entries self.new.streams.entries }
-        ensures left { Left self.old.streams.entries self.new.streams.entries }
-        ensures config { self.new.config ≡ self.old.config }
+        ensures keeps { Keeps [] self.old self.new }
     {
         if self.reset_half(id, code)? {
             self.wake();
@@ -46,11 +58,20 @@ impl Connection {
         Ok(())
     }
 
+    // Resets the own half of a session's own stream of which QUIC took the end: more may not come after a close of the peer
+    // (draft-ietf-webtrans-http3-02, section 5).
+    fn reset_session(&mut self, id: u64, code: u64) -> Result<(), AllocError>
+        ensures keeps { Keeps [] self.old self.new }
+    {
+        if self.is_session(id) {
+            self.reset_ended(id, code)?;
+        }
+        Ok(())
+    }
+
     // Resets the own half, unless nothing is to be done for it. Returns whether something was.
     fn reset_half(&mut self, id: u64, code: u64) -> Result<bool, AllocError>
-        ensures own { Untouched self.old.streams.entries self.new.streams.entries }
-        ensures left { Left self.old.streams.entries self.new.streams.entries }
-        ensures config { self.new.config ≡ self.old.config }
+        ensures keeps { Keeps [] self.old self.new }
     {
         if !self.has_own(id) {
             return Ok(false);
@@ -69,11 +90,9 @@ impl Connection {
     }
 
     // Resets the own half, if it may be.
-    #[tactic(auto, using(crate::proofs::OwnLemmas::untouched_set, crate::proofs::TheirsLemmas::left_set, std::proofs::lemmas::Map::Steps::set_value_same))]
+    #[tactic(auto, using(crate::proofs::KeepsLemmas::keep, std::proofs::lemmas::Map::Steps::set_value_same))]
     fn reset_writing(&mut self, id: u64, code: u64) -> Result<(), AllocError>
-        ensures own { Untouched self.old.streams.entries self.new.streams.entries }
-        ensures left { Left self.old.streams.entries self.new.streams.entries }
-        ensures config { self.new.config ≡ self.old.config }
+        ensures keeps { Keeps [] self.old self.new }
     {
         let Some(entry) = self.streams.get_mut(&id) else {
             return Ok(());
@@ -89,11 +108,8 @@ impl Connection {
     }
 
     // Nothing more is sent on the own half of a stream. A request on it is refused.
-    #[tactic(auto, using(crate::proofs::OwnLemmas::untouched_set, crate::proofs::TheirsLemmas::left_set))]
     fn leave_order(&mut self, id: u64)
-        ensures own { Untouched self.old.streams.entries self.new.streams.entries }
-        ensures left { Left self.old.streams.entries self.new.streams.entries }
-        ensures config { self.new.config ≡ self.old.config }
+        ensures keeps { Keeps [] self.old self.new }
     {
         let Some(entry) = self.streams.get_mut(&id) else {
             return;
@@ -105,11 +121,9 @@ impl Connection {
 
     // Resets an own half of which QUIC took the end, unless all of it is acknowledged: QUIC may still send some of it (RFC
     // 9000, section 3.5). Returns whether it is reset.
-    #[tactic(auto, using(crate::proofs::OwnLemmas::untouched_set, crate::proofs::TheirsLemmas::left_set, std::proofs::lemmas::Map::Steps::set_value_same))]
+    #[tactic(auto, using(crate::proofs::KeepsLemmas::keep, std::proofs::lemmas::Map::Steps::set_value_same))]
     pub(super) fn reset_ended(&mut self, id: u64, code: u64) -> Result<bool, AllocError>
-        ensures own { Untouched self.old.streams.entries self.new.streams.entries }
-        ensures left { Left self.old.streams.entries self.new.streams.entries }
-        ensures config { self.new.config ≡ self.old.config }
+        ensures keeps { Keeps [] self.old self.new }
     {
         let Some(entry) = self.streams.get_mut(&id) else {
             return Ok(false);
@@ -127,85 +141,119 @@ impl Connection {
     }
 
     // Asks the peer to stop its half, which is read no further.
-    #[tactic(auto, using(crate::proofs::OwnLemmas::untouched_set, crate::proofs::TheirsLemmas::left_set))]
     pub(super) fn stop_peer(&mut self, id: u64, code: u64) -> Result<(), AllocError>
-        ensures own { Untouched self.old.streams.entries self.new.streams.entries }
-        ensures left { Left self.old.streams.entries self.new.streams.entries }
-        ensures config { self.new.config ≡ self.old.config }
+        ensures keeps { Keeps [] self.old self.new }
+        ensures gone { OnOk result (theirs_at self.new.streams.entries id ≡ Gone) }
+    {
+        if self.is_peer_over(id) {
+            return Ok(());
+        }
+        self.ask_stop(id, code)?;
+        self.abandon(id);
+        self.leave_peer(id, true)
+    }
+
+    // Asks the peer to stop its half, unless its end came. QUIC is asked once it knows of the stream.
+    fn ask_stop(&mut self, id: u64, code: u64) -> Result<(), AllocError>
+        ensures keeps { Keeps [] self.old self.new }
     {
         let Some(entry) = self.streams.get_mut(&id) else {
             return Ok(());
         };
-        if entry.peer == Peer::Over {
+        if entry.is_ended {
             return Ok(());
         }
-        if !entry.is_ended {
-            if entry.is_opened {
-                self.outputs.push_back(Output::StopSending(id, code))?;
-            } else {
-                entry.stops = Some(code);
-            }
+        if !entry.is_opened {
+            entry.stops = Some(code);
+            return Ok(());
         }
-        entry.reading.abandon(&mut self.shared);
-        self.leave_peer(id, true)
+        self.outputs.push_back(Output::StopSending(id, code))?;
+        Ok(())
+    }
+
+    // Gives up what waits on the peer's half.
+    fn abandon(&mut self, id: u64)
+        ensures keeps { Keeps [] self.old self.new }
+    {
+        if let Some(entry) = self.streams.get_mut(&id) {
+            entry.reading.abandon(&mut self.shared);
+        }
     }
 
     // There is nothing left to stop: the end of the peer's half came, or a reset.
     pub(super) fn forget_stop(&mut self, id: u64)
-        ensures own { Untouched self.old.streams.entries self.new.streams.entries }
-        ensures left { Left self.old.streams.entries self.new.streams.entries }
-        ensures config { self.new.config ≡ self.old.config }
+        ensures keeps { Keeps [] self.old self.new }
     {
         self.outputs.retain(|output| !is_stop(output, id));
     }
 
     // Reads the peer's half no further, whose end is still to come.
-    #[tactic(auto, using(crate::proofs::OwnLemmas::untouched_set, crate::proofs::TheirsLemmas::left_set))]
+    #[tactic(auto, using(crate::proofs::KeepsLemmas::keep, crate::proofs::KeepsLemmas::keeps_gone))]
     pub(super) fn drop_peer(&mut self, id: u64) -> Result<(), AllocError>
-        ensures own { Untouched self.old.streams.entries self.new.streams.entries }
-        ensures left { Left self.old.streams.entries self.new.streams.entries }
+        ensures keeps { Keeps [] self.old self.new }
         ensures gone { OnOk result (theirs_at self.new.streams.entries id ≡ Gone) }
-        ensures config { self.new.config ≡ self.old.config }
     {
-        let Some(entry) = self.streams.get_mut(&id) else {
-            return Ok(());
-        };
-        if entry.peer == Peer::Over {
+        if self.is_peer_over(id) {
             return Ok(());
         }
-        entry.reading.abandon(&mut self.shared);
-        let is_over = entry.is_ended;
+        self.abandon(id);
+        let is_over = self.has_ended(id);
         self.leave_peer(id, is_over)
     }
 
+    // Returns whether the peer's half is over.
+    fn is_peer_over(&self, id: u64) -> bool
+        ensures gone { result ≡ true → theirs_at self.now.streams.entries id ≡ Gone }
+    {
+        match self.streams.get(&id) {
+            Some(entry) => matches!(entry.peer, Peer::Over),
+            None => true,
+        }
+    }
+
+    // Returns whether the end of the peer's half came.
+    fn has_ended(&self, id: u64) -> bool {
+        match self.streams.get(&id) {
+            Some(entry) => entry.is_ended,
+            None => false,
+        }
+    }
+
     // The peer's half is read no further: it is over, or what comes is dropped until its end. What is kept of it is dropped.
-    #[tactic(auto, using(crate::proofs::OwnLemmas::untouched_set, crate::proofs::TheirsLemmas::left_set, crate::proofs::ReadsLemmas::gone_set))]
+    #[tactic(auto, using(crate::proofs::KeepsLemmas::keep, crate::proofs::KeepsLemmas::keeps_gone))]
     fn leave_peer(&mut self, id: u64, is_over: bool) -> Result<(), AllocError>
-        ensures own { Untouched self.old.streams.entries self.new.streams.entries }
-        ensures left { Left self.old.streams.entries self.new.streams.entries }
+        ensures keeps { Keeps [] self.old self.new }
         ensures gone { theirs_at self.new.streams.entries id ≡ Gone }
-        ensures config { self.new.config ≡ self.old.config }
     {
         self.waiting.remove(&id);
+        let owed = self.drop_half(id, is_over);
+        self.credit(id, owed)
+    }
+
+    // Drops what is kept of the peer's half, which is read no further. Returns by how many bytes QUIC's windows are to be
+    // extended for it.
+    #[tactic(auto, using(crate::proofs::KeepsLemmas::keep, crate::proofs::TellsLemmas::gone_set))]
+    fn drop_half(&mut self, id: u64, is_over: bool) -> usize
+        ensures keeps { Keeps [] self.old self.new }
+        ensures gone { theirs_at self.new.streams.entries id ≡ Gone }
+    {
         let Some(entry) = self.streams.get_mut(&id) else {
-            return Ok(());
+            return 0;
         };
-        entry.peer = if is_over { Peer::Over } else { Peer::Drops };
+        entry.peer = left_as(is_over);
         let before = entry.credited();
         entry.reading.drop_kept();
         let owed = entry.withheld;
         entry.withheld = 0;
         self.held = counted(self.held, before, 0);
-        self.credit(id, owed)
+        owed
     }
 
     // The peer's half is over.
-    #[tactic(auto, using(crate::proofs::OwnLemmas::untouched_set, crate::proofs::TheirsLemmas::left_set, crate::proofs::ReadsLemmas::gone_left))]
+    #[tactic(auto, using(crate::proofs::KeepsLemmas::keep, crate::proofs::KeepsLemmas::keeps_gone))]
     pub(super) fn peer_is_over(&mut self, id: u64) -> Result<(), AllocError>
-        ensures own { Untouched self.old.streams.entries self.new.streams.entries }
-        ensures left { Left self.old.streams.entries self.new.streams.entries }
+        ensures keeps { Keeps [] self.old self.new }
         ensures gone { OnOk result (theirs_at self.new.streams.entries id ≡ Gone) }
-        ensures config { self.new.config ≡ self.old.config }
     {
         self.leave_peer(id, true)?;
         self.remove_if_done(id)
@@ -213,11 +261,8 @@ impl Connection {
 
     // Ends the own half after what is queued, if a message may end there. Without memory it has its place in the order of
     // sending from the next step on.
-    #[tactic(auto, using(crate::proofs::OwnLemmas::untouched_set, crate::proofs::TheirsLemmas::left_set))]
     pub(super) fn end_own(&mut self, id: u64)
-        ensures own { Untouched self.old.streams.entries self.new.streams.entries }
-        ensures left { Left self.old.streams.entries self.new.streams.entries }
-        ensures config { self.new.config ≡ self.old.config }
+        ensures keeps { Keeps [] self.old self.new }
     {
         let Some(entry) = self.streams.get_mut(&id) else {
             return;
@@ -234,9 +279,7 @@ impl Connection {
 
     // Gives a stream its place in the order of sending for which memory was refused.
     pub(super) fn place_due(&mut self) -> Result<(), AllocError>
-        ensures own { Untouched self.old.streams.entries self.new.streams.entries }
-        ensures left { Left self.old.streams.entries self.new.streams.entries }
-        ensures config { self.new.config ≡ self.old.config }
+        ensures keeps { Keeps [] self.old self.new }
     {
         let Some(id) = self.pending.unplaced else {
             return Ok(());
@@ -250,107 +293,44 @@ impl Connection {
         Ok(())
     }
 
-    // Ends the session whose own stream this is, if it is one: its streams are closed (draft-ietf-webtrans-http3-02,
-    // section 5).
-    #[tactic(auto, using(crate::proofs::OwnLemmas::untouched_set, crate::proofs::TheirsLemmas::left_set))]
-    pub(super) fn end_session(&mut self, session: u64) -> Result<(), AllocError>
-        ensures own { Untouched self.old.streams.entries self.new.streams.entries }
-        ensures left { Left self.old.streams.entries self.new.streams.entries }
-        ensures config { self.new.config ≡ self.old.config }
+    // Tells the program that a stream is over, if it knows of the stream.
+    #[tactic(auto, using(crate::proofs::KeepsLemmas::keeps_refl, crate::proofs::KeepsLemmas::keeps_over, crate::proofs::KeepsLemmas::keeps_closed, crate::proofs::KeepsLemmas::ended_unknown))]
+    pub(super) fn closed(&mut self, id: u64, why: Why) -> Result<(), AllocError>
+        ensures keeps { Keeps [] self.old self.new }
+        ensures done { OnOk result (knows_of (stream_at self.new id) ≡ false) }
+        ensures outputs { self.new.outputs ≡ self.old.outputs }
+        ensures closes { self.new.closes ≡ self.old.closes }
     {
-        let Some(entry) = self.streams.get_mut(&session) else {
+        let Some(entry) = self.streams.get(&id) else {
             return Ok(());
         };
-        if entry.has_session {
-            entry.has_session = false;
-            self.sessions = self.sessions.saturating_sub(1);
-            self.datagrams.opened.push_back(session)?;
-            self.drop_datagrams(session)?;
+        if !entry.is_known() {
+            self.end_told(id);
+            return Ok(());
         }
-        for _stream in 0..self.members.len() {
-            let Some(member) = self.first_member(session) else {
-                break;
-            };
-            self.members.remove(&member);
-            self.cut(member.id)?;
-        }
-        self.wake();
+        self.events.push_back(Event {
+            stream: id,
+            session: entry.session_shown(id),
+            user: entry.user,
+            kind: EventKind::Closed(why),
+        })?;
+        self.end_told(id);
         Ok(())
     }
 
-    // Returns the first stream of a session.
-    fn first_member(&self, session: u64) -> Option<Member> {
-        let first = Member { session, id: 0 };
-        match self.members.range(first..).next() {
-            Some(member) if member.session == session => Some(*member),
-            _ => None,
-        }
-    }
-
-    // Closes a stream whose session is over. One whose end came is read to its end; the program is told that the own half is
-    // reset.
-    fn cut(&mut self, id: u64) -> Result<(), AllocError>
-        ensures own { Untouched self.old.streams.entries self.new.streams.entries }
-        ensures left { Left self.old.streams.entries self.new.streams.entries }
-        ensures config { self.new.config ≡ self.old.config }
+    // The last event of a stream is told, or queued.
+    pub(super) fn end_told(&mut self, id: u64)
+        ensures ends { self.new.streams.entries ≡ ended_at self.old.streams.entries id }
+        ensures others { self.new ≡ record self.old { streams = self.new.streams } }
     {
-        let gone = Code::WEBTRANSPORT_SESSION_GONE;
-        let code = gone.number().into_inner();
-        let is_reset = self.is_to_reset(id);
-        self.reset_own(id, code)?;
-        if self.is_read_out(id) {
-            return if is_reset {
-                self.queue_event(id, EventKind::Stopped(StreamCode::Http(gone)))
-            } else {
-                Ok(())
-            };
-        }
-        self.stop_peer(id, code)?;
-        self.closed(id, Why::SessionGone)?;
-        self.remove_if_done(id)
-    }
-
-    // Returns whether the own half of a stream is still to be sent, or its end to be taken.
-    fn is_to_reset(&self, id: u64) -> bool {
-        match self.streams.get(&id) {
-            Some(entry) => {
-                let was_reset = entry.writing.is_ended() && !entry.writing.is_finished();
-                !was_reset && !entry.writing.is_done()
-            }
-            None => false,
-        }
-    }
-
-    // Returns whether the end of a stream came that is still read.
-    fn is_read_out(&self, id: u64) -> bool {
-        match self.streams.get(&id) {
-            Some(entry) => entry.peer == Peer::Reads && entry.is_ended,
-            None => false,
-        }
-    }
-
-    // Tells the program that a stream is over, if it knows of the stream.
-    #[tactic(auto, using(crate::proofs::OwnLemmas::untouched_set, crate::proofs::TheirsLemmas::left_set))]
-    pub(super) fn closed(&mut self, id: u64, why: Why) -> Result<(), AllocError>
-        ensures own { Untouched self.old.streams.entries self.new.streams.entries }
-        ensures left { Left self.old.streams.entries self.new.streams.entries }
-        ensures config { self.new.config ≡ self.old.config }
-        ensures done { OnOk result (knows_of (stream_at self.new id) ≡ false) }
-    {
-        if let Step::Told(event) = self.tell(id, EventKind::Closed(why)) {
-            self.events.push_back(event)?;
-        }
         if let Some(entry) = self.streams.get_mut(&id) {
             entry.told = Told::Over;
         }
-        Ok(())
     }
 
     // QUIC took the end of the own half of a stream: what follows of a CONNECT that was refused is stopped.
     pub(super) fn after_end(&mut self, id: u64) -> Result<(), AllocError>
-        ensures own { Untouched self.old.streams.entries self.new.streams.entries }
-        ensures left { Left self.old.streams.entries self.new.streams.entries }
-        ensures config { self.new.config ≡ self.old.config }
+        ensures keeps { Keeps [] self.old self.new }
     {
         if self.has_refused(id) {
             return self.stop_refused(id);
@@ -372,9 +352,9 @@ impl Connection {
 
     // Forgets a stream of which both halves are over.
     pub(super) fn remove_if_done(&mut self, id: u64) -> Result<(), AllocError>
-        ensures own { Untouched self.old.streams.entries self.new.streams.entries }
-        ensures left { Left self.old.streams.entries self.new.streams.entries }
-        ensures config { self.new.config ≡ self.old.config }
+        ensures keeps { Keeps [] self.old self.new }
+        ensures outputs { self.new.outputs ≡ self.old.outputs }
+        ensures closes { self.new.closes ≡ self.old.closes }
     {
         let Some(entry) = self.streams.get(&id) else {
             return Ok(());
@@ -396,9 +376,9 @@ impl Connection {
 
     // Forgets a stream.
     pub(super) fn remove(&mut self, id: u64)
-        ensures own { Untouched self.old.streams.entries self.new.streams.entries }
-        ensures left { Left self.old.streams.entries self.new.streams.entries }
-        ensures config { self.new.config ≡ self.old.config }
+        ensures keeps { knows_of (stream_at self.old id) ≡ false → Keeps [] self.old self.new }
+        ensures outputs { self.new.outputs ≡ self.old.outputs }
+        ensures closes { self.new.closes ≡ self.old.closes }
     {
         let Some(entry) = self.streams.remove(&id) else {
             return;
@@ -412,6 +392,8 @@ impl Connection {
         ensures ids { self.new.ids ≡ self.old.ids }
         ensures events { self.new.events ≡ self.old.events }
         ensures config { self.new.config ≡ self.old.config }
+        ensures outputs { self.new.outputs ≡ self.old.outputs }
+        ensures closes { self.new.closes ≡ self.old.closes }
     {
         if entry.is_quiet {
             self.quiet = self.quiet.saturating_sub(1);
@@ -426,6 +408,13 @@ impl Connection {
         self.waiting.remove(&id);
         self.full.remove(&id);
     }
+}
+
+// Returns what becomes of a half of the peer that is read no further.
+fn left_as(is_over: bool) -> Peer
+    ensures { (is_decoder : Bool) (r : ReadingOf) → theirs_by result is_decoder r ≡ Gone }
+{
+    if is_over { Peer::Over } else { Peer::Drops }
 }
 
 // Returns whether this asks to stop this stream.

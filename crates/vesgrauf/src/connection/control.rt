@@ -1,13 +1,14 @@
 //! The own control stream, and the end of the connection.
 ghost use Rattle.std.specs.Prelude.{◌≡◌, ◌++◌, false, Some, length, option_map, IfOk, OnOk, OnErr, IfErr, []};
+ghost use Rattle.vesgrauf.specs.Keeps.{Keeps};
 ghost use Rattle.vesgrauf.specs.State.{is_over, next_output, stream_at, view_of, with_begun, EndsUnless, IsAfterEnd, IsStill, ShutsDown, RefusesGoaway, goaway_for as goaway_is};
 ghost use Rattle.vesgrauf.specs.declared.output.Output.TheVariants as output;
 ghost use Rattle.vesgrauf_queue.specs.State.{counted, waiting};
 ghost use Rattle.vesgrauf.specs.Config.{announced};
 ghost use Rattle.wtp_sending.specs.Control.{settings_bytes};
-ghost use Rattle.vesgrauf.specs.Own.{Untouched};
 ghost use Rattle.vesgrauf.specs.Progress.{IsSpent};
-ghost use Rattle.vesgrauf.specs.Theirs.{Left, IsSilent};
+ghost use Rattle.vesgrauf.specs.Theirs.{IsSilent};
+ghost use Rattle.vesgrauf.specs.Told.{GoesOn, said_in};
 
 use crate::connection::{Connection, Ended, Step, Stop};
 use crate::event::{Event, EventKind};
@@ -23,12 +24,15 @@ use wtp_wire::settings::Settings;
 /// The ID of a GOAWAY that rejects no request yet (RFC 9114, section 5.2).
 const NO_REQUEST: u64 = (1 << 62) - 4;
 
+#[tactic(auto, using(crate::proofs::KeepsLemmas::keep))]
 impl Connection {
     // Queues the first bytes of the own control stream, and of the own decoder stream.
+    #[tactic(auto, using(crate::proofs::KeepsLemmas::kept))]
     pub(super) fn begin(&mut self) -> Result<(), AllocError>
         ensures others { view_of self.new ≡ with_begun self.new (view_of self.old) }
         ensures starts { OnOk result (waiting self.new.control.queue
             ≡ waiting self.old.control.queue ++ settings_bytes (announced self.old.config)) }
+        ensures goes { GoesOn [] self.old self.new }
     {
         let settings = self.settings()?;
         let mut bytes = Vec::new(self.alloc);
@@ -85,11 +89,13 @@ impl Connection {
     ///
     /// Nothing changes. `Closed`; `Send` for [`Notice`](crate::output::Shutdown::Notice) after the last one; and `Memory`.
     /// The last one may be repeated: GOAWAY is sent again.
+    #[tactic(auto, using(crate::proofs::KeepsLemmas::kept))]
     pub fn shutdown(&mut self, phase: Shutdown) -> Result<(), Refused>
         ensures ok { OnOk result (ShutsDown phase self.old self.new) }
         ensures why { IfErr result (λ e.
             RefusesGoaway (is_over self.old) self.old.goaways (goaway_is phase self.old) e) }
         ensures kept { OnErr result (IsStill self.old self.new) }
+        ensures goes { GoesOn [] self.old self.new }
     {
         if self.ended.is_some() {
             return Err(Refused::Closed);
@@ -129,10 +135,12 @@ impl Connection {
 
     /// Closes the connection at once, with a code of HTTP/3. What is queued is dropped, and each stream that is not closed
     /// is told to be. Nothing changes if it ended before.
+    #[tactic(auto, using(crate::proofs::KeepsLemmas::kept))]
     pub fn close(&mut self, code: Code)
         ensures end { EndsUnless (is_over self.old) code self.old self.new }
         ensures after { is_over self.old ≡ false → IsAfterEnd self.new }
         ensures output { is_over self.old ≡ false → next_output self.new ≡ Some (output.Close code) }
+        ensures goes { GoesOn [] self.old self.new }
     {
         self.break_off(code.number().into_inner());
     }
@@ -176,11 +184,10 @@ impl Connection {
     }
 
     // Closes the connection, of which nothing is left.
+    #[tactic(auto, using(crate::proofs::KeepsLemmas::keep, crate::proofs::GoesLemmas::goes_aside))]
     pub(super) fn shut_down<'a>(&mut self) -> Step<'a>
-        ensures own { Untouched self.old.streams.entries self.new.streams.entries }
-        ensures left { Left self.old.streams.entries self.new.streams.entries }
+        ensures keeps { Keeps (said_in result) self.old self.new }
         ensures silent { IsSilent result }
-        ensures config { self.new.config ≡ self.old.config }
     {
         let code = Code::H3_NO_ERROR.number().into_inner();
         self.datagrams.queue.clear();

@@ -1,8 +1,11 @@
 //! Datagrams (RFC 9297).
 ghost use Rattle.std.specs.Prelude.{◌≡◌, ◌-◌, ◌++◌, [], Ok, Some, MatchOption, OnOk, IfOk, IfSome, OnErr, IfErr, List, ℕ, length, option_map};
+ghost use Rattle.vesgrauf.specs.Keeps.{Keeps};
 ghost use Rattle.vesgrauf.specs.State.{Adds, head, open_session, HeadOf, KeepsDatagrams, KeepsOthers, SendsDatagram};
 ghost use Rattle.vesgrauf.specs.Bounds.{DatagramsFit};
+ghost use Rattle.vesgrauf.specs.Order.{TakesFirst};
 ghost use Rattle.vesgrauf.specs.Own.{Untouched};
+ghost use Rattle.vesgrauf.specs.Told.{GoesOn, said_by, said_if};
 ghost use Rattle.vesgrauf.specs.declared.refused.Refused.TheVariants as refused;
 ghost use Rattle.vesgrauf.specs.Theirs.{Left, IsSilent, IsSilentIf};
 
@@ -55,6 +58,7 @@ impl DatagramQueue {
     pub(super) fn age(&mut self, alloc: Global)
         ensures queue { self.new.queue ≡ self.old.queue }
         ensures owed { self.new.is_owed ≡ self.old.is_owed }
+        ensures aged { self.old.opened.items ≡ [] → (self.new.aged ≡ self.old.early) × (self.new.early ≡ []) }
     {
         if self.opened.is_empty() {
             self.aged = mem::replace(&mut self.early, EarlyDatagrams::new(alloc));
@@ -62,13 +66,12 @@ impl DatagramQueue {
     }
 }
 
+#[tactic(auto, using(crate::proofs::KeepsLemmas::keep))]
 impl Connection {
     // Takes in a datagram.
     pub(super) fn datagram_came<'a>(&mut self, bytes: &'a [u8]) -> Result<Step<'a>, Stop>
-        ensures own { Untouched self.old.streams.entries self.new.streams.entries }
-        ensures left { Left self.old.streams.entries self.new.streams.entries }
+        ensures keeps { Keeps (said_by result) self.old self.new }
         ensures silent { IfOk result IsSilent }
-        ensures config { self.new.config ≡ self.old.config }
     {
         let found = match self.shared.datagram(bytes) {
             Ok(found) => found,
@@ -96,10 +99,8 @@ impl Connection {
 
     // Takes a datagram that came before its session was open: it is dropped if the session is refused.
     pub(super) fn early_of<'a>(&mut self, session: u64) -> Option<Step<'a>>
-        ensures own { Untouched self.old.streams.entries self.new.streams.entries }
-        ensures left { Left self.old.streams.entries self.new.streams.entries }
+        ensures keeps { Keeps (said_if result) self.old self.new }
         ensures silent { IsSilentIf result }
-        ensures config { self.new.config ≡ self.old.config }
     {
         let payload = self.datagrams.take_early(session)?;
         if self.is_open(session) {
@@ -122,11 +123,13 @@ impl Connection {
     ///
     /// Nothing changes. `Closed`; `SessionGone`; `NotOpen`; `TooLarge` if it has more bytes than
     /// [`max_datagram`](Self::max_datagram) says; and `Memory`.
+    #[tactic(auto, using(crate::proofs::KeepsLemmas::kept))]
     pub fn send_datagram(&mut self, session: u64, payload: &[u8]) -> Result<bool, Refused>
         ensures open { IfOk result (λ queued. open_session self.old session ≡ Ok tt) }
         ensures ok { IfOk result (λ queued. SendsDatagram queued session payload.now self.old self.new) }
         ensures others { KeepsOthers self.old self.new }
         ensures kept { OnErr result (KeepsDatagrams self.old self.new) }
+        ensures goes { GoesOn [] self.old self.new }
         ensures fits { DatagramsFit self.old → DatagramsFit self.new }
     {
         self.check_session(session)?;
@@ -185,11 +188,15 @@ impl Connection {
     /// # Errors
     ///
     /// `Memory`: nothing changes, and the call is to be made again.
+    #[tactic(auto, using(crate::proofs::KeepsLemmas::kept))]
     pub fn datagram_sent(&mut self) -> Result<(), Refused>
+        ensures ok { OnOk result (TakesFirst self.old.datagrams.queue.items self.new.datagrams.queue.items) }
+        ensures kept { OnErr result (self.new.datagrams.queue.items ≡ self.old.datagrams.queue.items) }
         ensures refused { IfErr result (λ e. e ≡ refused.Memory) }
         ensures own { Untouched self.old.streams.entries self.new.streams.entries }
         ensures left { Left self.old.streams.entries self.new.streams.entries }
         ensures config { self.new.config ≡ self.old.config }
+        ensures goes { GoesOn [] self.old self.new }
     {
         self.reserve()?;
         let left = self.datagrams.queue.len().saturating_sub(1);
@@ -201,9 +208,7 @@ impl Connection {
     // Drops the queued datagrams of a session that is over: none is sent after the end of the own half of its stream (RFC
     // 9297, section 2.1).
     pub(super) fn drop_datagrams(&mut self, session: u64) -> Result<(), AllocError>
-        ensures own { Untouched self.old.streams.entries self.new.streams.entries }
-        ensures left { Left self.old.streams.entries self.new.streams.entries }
-        ensures config { self.new.config ≡ self.old.config }
+        ensures keeps { Keeps [] self.old self.new }
     {
         self.datagrams
             .queue
@@ -213,10 +218,10 @@ impl Connection {
     }
 
     // Tells that there is room for datagrams again, of which so many are left, if that is owed.
+    #[tactic(auto, using(crate::proofs::KeepsLemmas::keep, crate::proofs::GoesLemmas::goes_general))]
     fn tell_room(&mut self, left: usize) -> Result<(), AllocError>
-        ensures own { Untouched self.old.streams.entries self.new.streams.entries }
-        ensures left { Left self.old.streams.entries self.new.streams.entries }
-        ensures config { self.new.config ≡ self.old.config }
+        ensures queue { self.new.datagrams.queue ≡ self.old.datagrams.queue }
+        ensures keeps { Keeps [] self.old self.new }
     {
         if self.ended.is_some() || !self.datagrams.is_owed {
             return Ok(());

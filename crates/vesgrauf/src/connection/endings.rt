@@ -2,14 +2,16 @@
 ghost use Rattle.std.specs.Prelude.{◌≡◌, true, false, IfOk, [], None, OnOk};
 ghost use Rattle.wtp_connection.specs.Budget.{code_after};
 ghost use Rattle.std.specs.List.{filter};
+ghost use Rattle.vesgrauf.specs.Keeps.{Keeps};
 ghost use Rattle.vesgrauf.specs.State.{head, go_on, is_over, is_last, IsAfterEnd, IsTold, EndsUnless, closes_stream, stream_at, knows_of};
 ghost use Rattle.vesgrauf.specs.Own.{Untouched};
 ghost use Rattle.vesgrauf.specs.Theirs.{Left, IsSilent};
+ghost use Rattle.vesgrauf.specs.Told.{GoesOn, ends, word_of, said_by, said_in};
 
 use crate::code::StreamCode;
 use crate::connection::failing::EXCESSIVE_LOAD;
 use crate::connection::{Connection, Ended, Step, Stop, internal};
-use crate::entry::{Peer, Told};
+use crate::entry::{Entry, Peer};
 use crate::event::{Event, EventKind, Why};
 use crate::input::{Input, Report};
 use crate::output::Output;
@@ -21,13 +23,11 @@ use wtp_core::error::Code;
 use wtp_core::varint::VarInt;
 use wtp_webtransport::event::Event as Said;
 
+#[tactic(auto, using(crate::proofs::KeepsLemmas::keep))]
 impl Connection {
     // The peer reset a stream.
-    #[tactic(auto, using(crate::proofs::OwnLemmas::untouched_set, crate::proofs::TheirsLemmas::left_set))]
     pub(super) fn reset_came(&mut self, id: u64, code: u64) -> Result<(), Stop>
-        ensures own { Untouched self.old.streams.entries self.new.streams.entries }
-        ensures left { Left self.old.streams.entries self.new.streams.entries }
-        ensures config { self.new.config ≡ self.old.config }
+        ensures keeps { Keeps [] self.old self.new }
     {
         match self.peer_of(id) {
             Peer::Over => return Ok(self.forget_stop(id)),
@@ -37,37 +37,47 @@ impl Connection {
         self.give_up(id)?;
         let shown = self.shown_code(id, code)?;
         let is_rejected = !self.is_server() && shown == StreamCode::Http(Code::H3_REQUEST_REJECTED);
-        let Some(entry) = self.streams.get_mut(&id) else {
+        let Some(event) = self.note_reset(id, is_rejected) else {
             return Ok(());
         };
-        let event = entry.reading.reset(&mut self.shared);
         if let Said::ConnectionError(fault) = event {
             return Err(Stop::from(fault));
         }
+        self.half_reset(id, shown, event)
+    }
+
+    // The peer's half is reset. Returns what the stream says, or `None` if there is none.
+    fn note_reset(&mut self, id: u64, is_rejected: bool) -> Option<Said<'static>>
+        ensures keeps { Keeps [] self.old self.new }
+    {
+        let entry = self.streams.get_mut(&id)?;
         entry.is_ended = true;
         entry.is_rejected = is_rejected;
-        self.half_reset(id, shown, event)
+        Some(entry.reading.reset(&mut self.shared))
     }
 
     // Handles what the reset of the peer's half says of the stream.
     fn half_reset(&mut self, id: u64, shown: StreamCode, event: Said<'static>) -> Result<(), Stop>
-        ensures own { Untouched self.old.streams.entries self.new.streams.entries }
-        ensures left { Left self.old.streams.entries self.new.streams.entries }
-        ensures config { self.new.config ≡ self.old.config }
+        ensures keeps { Keeps [] self.old self.new }
     {
         self.queue_event(id, EventKind::Reset(shown))?;
         self.half_ended(id, event)?;
+        Ok(self.after_reset(id)?)
+    }
+
+    // Leaves what the peer's half of a stream was for, which was reset.
+    fn after_reset(&mut self, id: u64) -> Result<(), AllocError>
+        ensures keeps { Keeps [] self.old self.new }
+    {
         self.lose_session(id)?;
         self.leave_untold(id)?;
         self.cancel_left(id);
-        Ok(self.peer_is_over(id)?)
+        self.peer_is_over(id)
     }
 
     // The peer reset the own stream of a session that is still to come, or one side stopped it: it does not come.
     pub(super) fn lose_session(&mut self, id: u64) -> Result<(), AllocError>
-        ensures own { Untouched self.old.streams.entries self.new.streams.entries }
-        ensures left { Left self.old.streams.entries self.new.streams.entries }
-        ensures config { self.new.config ≡ self.old.config }
+        ensures keeps { Keeps [] self.old self.new }
     {
         let has_session = match self.streams.get(&id) {
             Some(entry) => entry.has_session,
@@ -81,9 +91,7 @@ impl Connection {
 
     // Resets the own half of a stream that the peer reset before the program was told of it: nothing will be sent on it.
     fn leave_untold(&mut self, id: u64) -> Result<(), AllocError>
-        ensures own { Untouched self.old.streams.entries self.new.streams.entries }
-        ensures left { Left self.old.streams.entries self.new.streams.entries }
-        ensures config { self.new.config ≡ self.old.config }
+        ensures keeps { Keeps [] self.old self.new }
     {
         let Some(entry) = self.streams.get(&id) else {
             return Ok(());
@@ -96,11 +104,8 @@ impl Connection {
     }
 
     // The peer asked to stop the own half of a stream.
-    #[tactic(auto, using(crate::proofs::OwnLemmas::untouched_set, crate::proofs::TheirsLemmas::left_set))]
     pub(super) fn stop_came(&mut self, id: u64, code: u64) -> Result<(), Stop>
-        ensures own { Untouched self.old.streams.entries self.new.streams.entries }
-        ensures left { Left self.old.streams.entries self.new.streams.entries }
-        ensures config { self.new.config ≡ self.old.config }
+        ensures keeps { Keeps [] self.old self.new }
     {
         if let Some(own) = self.own_purpose(id) {
             return match self.shared.stopped(own) {
@@ -109,27 +114,31 @@ impl Connection {
             };
         }
         let shown = self.shown_code(id, code)?;
-        let Some(entry) = self.streams.get_mut(&id) else {
-            return Ok(());
+        let is_over = match self.streams.get(&id) {
+            Some(entry) => is_sent(entry),
+            None => return Ok(()),
         };
-        let is_reset = entry.writing.is_ended() && !entry.writing.is_finished();
-        if is_reset || entry.writing.is_done() {
-            if self.reset_ended(id, code)? {
-                self.queue_event(id, EventKind::Stopped(shown))?;
-            }
-            return Ok(());
+        if is_over {
+            return Ok(self.stop_ended(id, code, shown)?);
         }
         self.give_up(id)?;
         self.reset_own(id, code)?;
         self.half_stopped(id, code, shown)
     }
 
+    // The peer asked to stop an own half of which nothing is left to send.
+    fn stop_ended(&mut self, id: u64, code: u64, shown: StreamCode) -> Result<(), AllocError>
+        ensures keeps { Keeps [] self.old self.new }
+    {
+        if self.reset_ended(id, code)? {
+            return self.queue_event(id, EventKind::Stopped(shown));
+        }
+        Ok(())
+    }
+
     // The own half of a stream is stopped. Returns what the stream says, or `None` if there is none.
-    #[tactic(auto, using(crate::proofs::OwnLemmas::untouched_set, crate::proofs::TheirsLemmas::left_set))]
     fn note_stop(&mut self, id: u64, code: u64) -> Option<Said<'static>>
-        ensures own { Untouched self.old.streams.entries self.new.streams.entries }
-        ensures left { Left self.old.streams.entries self.new.streams.entries }
-        ensures config { self.new.config ≡ self.old.config }
+        ensures keeps { Keeps [] self.old self.new }
     {
         let entry = self.streams.get_mut(&id)?;
         if !entry.is_known() {
@@ -140,32 +149,32 @@ impl Connection {
 
     // Handles what the stop of the own half says of the stream.
     fn half_stopped(&mut self, id: u64, code: u64, shown: StreamCode) -> Result<(), Stop>
-        ensures own { Untouched self.old.streams.entries self.new.streams.entries }
-        ensures left { Left self.old.streams.entries self.new.streams.entries }
-        ensures config { self.new.config ≡ self.old.config }
+        ensures keeps { Keeps [] self.old self.new }
     {
         let Some(event) = self.note_stop(id, code) else {
             return Ok(());
         };
         self.queue_event(id, EventKind::Stopped(shown))?;
         self.half_ended(id, event)?;
-        if self.is_server() {
-            self.lose_session(id)?;
+        Ok(self.after_stop(id)?)
+    }
+
+    // Leaves what the own half of a stream was for, which was stopped.
+    fn after_stop(&mut self, id: u64) -> Result<(), AllocError>
+        ensures keeps { Keeps [] self.old self.new }
+    {
+        if !self.is_server() {
+            return self.remove_if_done(id);
         }
-        Ok(self.remove_if_done(id)?)
+        self.lose_session(id)?;
+        self.remove_if_done(id)
     }
 
     // Tells the program of a stop that came before it knew of the stream. A session that was stopped does not come to be.
-    #[tactic(auto, using(crate::proofs::OwnLemmas::untouched_set, crate::proofs::TheirsLemmas::left_set))]
     pub(super) fn tell_stop(&mut self, id: u64) -> Result<(), Stop>
-        ensures own { Untouched self.old.streams.entries self.new.streams.entries }
-        ensures left { Left self.old.streams.entries self.new.streams.entries }
-        ensures config { self.new.config ≡ self.old.config }
+        ensures keeps { Keeps [] self.old self.new }
     {
-        let Some(entry) = self.streams.get_mut(&id) else {
-            return Ok(());
-        };
-        let Some(code) = entry.stopped.take() else {
+        let Some(code) = self.take_stop(id) else {
             return Ok(());
         };
         let shown = self.shown_code(id, code)?;
@@ -173,11 +182,17 @@ impl Connection {
         Ok(self.lose_session(id)?)
     }
 
+    // Takes the code of a stop that is still to be told.
+    fn take_stop(&mut self, id: u64) -> Option<u64>
+        ensures keeps { Keeps [] self.old self.new }
+    {
+        let entry = self.streams.get_mut(&id)?;
+        entry.stopped.take()
+    }
+
     // Handles what the end of one half says of the stream.
     fn half_ended(&mut self, id: u64, event: Said<'static>) -> Result<(), Stop>
-        ensures own { Untouched self.old.streams.entries self.new.streams.entries }
-        ensures left { Left self.old.streams.entries self.new.streams.entries }
-        ensures config { self.new.config ≡ self.old.config }
+        ensures keeps { Keeps [] self.old self.new }
     {
         match event {
             Said::Reset(Some(fault)) | Said::StreamError(fault) => {
@@ -192,11 +207,8 @@ impl Connection {
     }
 
     // Counts a request that its client gives up before its answer (RFC 9114, section 10.5).
-    #[tactic(auto, using(crate::proofs::OwnLemmas::untouched_set, crate::proofs::TheirsLemmas::left_set))]
     fn give_up(&mut self, id: u64) -> Result<(), Stop>
-        ensures own { Untouched self.old.streams.entries self.new.streams.entries }
-        ensures left { Left self.old.streams.entries self.new.streams.entries }
-        ensures config { self.new.config ≡ self.old.config }
+        ensures keeps { Keeps [] self.old self.new }
         ensures budget { code_after self.old.budget ≡ None → OnOk result (code_after self.new.budget ≡ None) }
     {
         let Some(entry) = self.streams.get_mut(&id) else {
@@ -215,14 +227,13 @@ impl Connection {
     }
 
     // Queues an event of a stream, if the program knows of the stream.
+    #[tactic(auto, using(crate::proofs::KeepsLemmas::keep, crate::proofs::GoesLemmas::goes_said))]
     pub(super) fn queue_event(
         &mut self,
         id: u64,
         kind: EventKind<'static>,
     ) -> Result<(), AllocError>
-        ensures own { Untouched self.old.streams.entries self.new.streams.entries }
-        ensures left { Left self.old.streams.entries self.new.streams.entries }
-        ensures config { self.new.config ≡ self.old.config }
+        ensures keeps { ends (word_of kind.entry) ≡ false → Keeps [] self.old self.new }
     {
         if let Step::Told(event) = self.tell(id, kind) {
             self.events.push_back(event)?;
@@ -260,20 +271,15 @@ impl Connection {
 
     // QUIC has closed a stream: what is kept of the own half is freed. What the peer sent is still read.
     pub(super) fn stream_closed(&mut self, id: u64) -> Result<(), AllocError>
-        ensures own { Untouched self.old.streams.entries self.new.streams.entries }
-        ensures left { Left self.old.streams.entries self.new.streams.entries }
-        ensures config { self.new.config ≡ self.old.config }
+        ensures keeps { Keeps [] self.old self.new }
     {
         self.free_own(id);
         self.remove_if_done(id)
     }
 
     // Frees what is kept of the own half of a stream.
-    #[tactic(auto, using(crate::proofs::OwnLemmas::untouched_set, crate::proofs::TheirsLemmas::left_set))]
     fn free_own(&mut self, id: u64)
-        ensures own { Untouched self.old.streams.entries self.new.streams.entries }
-        ensures left { Left self.old.streams.entries self.new.streams.entries }
-        ensures config { self.new.config ≡ self.old.config }
+        ensures keeps { Keeps [] self.old self.new }
     {
         let Some(entry) = self.streams.get_mut(&id) else {
             return;
@@ -285,10 +291,8 @@ impl Connection {
 
     // Leaves a request that the server does not process.
     pub(super) fn leave_unprocessed<'a>(&mut self, first: u64) -> Result<Step<'a>, Stop>
-        ensures own { Untouched self.old.streams.entries self.new.streams.entries }
-        ensures left { Left self.old.streams.entries self.new.streams.entries }
+        ensures keeps { Keeps (said_by result) self.old self.new }
         ensures silent { IfOk result IsSilent }
-        ensures config { self.new.config ≡ self.old.config }
     {
         let Some(id) = self.first_request(first) else {
             self.pending.unprocessed = None;
@@ -301,19 +305,23 @@ impl Connection {
 
     // Returns the first stream of an own request from this ID on.
     fn first_request(&self, first: u64) -> Option<u64> {
-        let mut streams = self.streams.range(first..);
-        while let Some((id, entry)) = streams.next() {
-            if *id % 4 == 0 && entry.session.is_none() {
-                return Some(*id);
+        let mut from = first;
+        for _stream in 0..self.streams.len() {
+            let (id, entry) = self.streams.next_from(from)?;
+            if id % 4 == 0 && entry.session.is_none() {
+                return Some(id);
             }
+            from = id.saturating_add(1);
         }
         None
     }
 
     // Ends the connection by an error.
+    #[tactic(auto, using(crate::proofs::KeepsLemmas::kept, crate::proofs::GoesLemmas::goes_filtered))]
     pub(super) fn break_off(&mut self, code: u64)
         ensures end { EndsUnless (is_over self.old) code self.old self.new }
         ensures after { is_over self.old ≡ false → IsAfterEnd self.new }
+        ensures goes { GoesOn [] self.old self.new }
     {
         if self.ended.is_some() {
             return;
@@ -333,27 +341,19 @@ impl Connection {
 
     // Takes a step after the end of the connection: what comes is dropped, and each stream that the program knows of is
     // told to be over.
-    #[tactic(auto, using(crate::proofs::OwnLemmas::untouched_set, crate::proofs::TheirsLemmas::left_set))]
+    #[tactic(auto, using(crate::proofs::KeepsLemmas::keep, crate::proofs::KeepsLemmas::keeps_of, crate::proofs::GoesLemmas::goes_aside))]
     pub(super) fn step_after_end<'a>(&mut self, ended: Ended, input: &mut Input<'a>) -> Step<'a>
         ensures last { IsTold result (λ e. is_last e.kind ≡ true) }
         ensures over { is_over self.old ≡ true → is_over self.new ≡ true }
         ensures events { self.new.events ≡ self.old.events }
-        ensures own { Untouched self.old.streams.entries self.new.streams.entries }
-        ensures left { Left self.old.streams.entries self.new.streams.entries }
+        ensures keeps { Keeps (said_in result) self.old self.new }
         ensures silent { IsSilent result }
-        ensures config { self.new.config ≡ self.old.config }
     {
         // (what is queued is told first)
         if !self.events.is_empty() {
             return Step::More;
         }
-        if matches!(input.report, Report::ConnectionClosed(_)) {
-            self.closes = None;
-        }
-        if matches!(input.report, Report::Stream(_)) {
-            input.drop_rest();
-        }
-        input.report = Report::Nothing;
+        self.drop_report(input);
         if let Some(id) = self.next_told() {
             self.pending.cursor = id.saturating_add(1);
             return self.tell_last(id);
@@ -368,42 +368,57 @@ impl Connection {
         Step::Told(Event::of_connection(EventKind::ConnectionClosed(ended.code, ended.by_peer)))
     }
 
+    // Drops what comes after the end of the connection. If the peer closed it, QUIC need not.
+    fn drop_report<'a>(&mut self, input: &mut Input<'a>)
+        ensures keeps { Keeps [] self.old self.new }
+        ensures events { self.new.events ≡ self.old.events }
+        ensures ended { self.new.ended ≡ self.old.ended }
+    {
+        if matches!(input.report, Report::ConnectionClosed(_)) {
+            self.closes = None;
+        }
+        if matches!(input.report, Report::Stream(_)) {
+            input.drop_rest();
+        }
+        input.report = Report::Nothing;
+    }
+
     // Tells that a stream is over, since the connection is.
-    #[tactic(auto, using(crate::proofs::OwnLemmas::untouched_set, crate::proofs::TheirsLemmas::left_set, std::proofs::lemmas::Map::Steps::set_value_same))]
+    #[tactic(auto, using(crate::proofs::KeepsLemmas::keeps_refl, crate::proofs::KeepsLemmas::keeps_last, crate::proofs::KeepsLemmas::ended_unknown))]
     fn tell_last(&mut self, id: u64) -> Step<'static>
         ensures last { IsTold result (λ e. is_last e.kind ≡ true) }
         ensures known { IsTold result (λ e. (e.stream ≡ id) × (knows_of (stream_at self.old id) ≡ true)) }
         ensures done { knows_of (stream_at self.new id) ≡ false }
         ensures ended { self.new.ended ≡ self.old.ended }
         ensures events { self.new.events ≡ self.old.events }
-        ensures own { Untouched self.old.streams.entries self.new.streams.entries }
-        ensures left { Left self.old.streams.entries self.new.streams.entries }
         ensures silent { IsSilent result }
-        ensures config { self.new.config ≡ self.old.config }
+        ensures keeps { self.old.events.items ≡ [] → Keeps (said_in result) self.old self.new }
     {
-        let Some(entry) = self.streams.get_mut(&id) else {
+        let Some(entry) = self.streams.get(&id) else {
             return Step::More;
         };
         if !entry.is_known() {
             return Step::More;
         }
-        entry.told = Told::Over;
-        Step::Told(Event {
+        let event = Event {
             stream: id,
             session: entry.session_shown(id),
             user: entry.user,
             kind: EventKind::Closed(Why::ConnectionClosed),
-        })
+        };
+        self.end_told(id);
+        Step::Told(event)
     }
 
     // Returns the next stream that the program knows of.
     fn next_told(&self) -> Option<u64> {
-        let cursor = self.pending.cursor;
-        let mut streams = self.streams.range(cursor..);
-        while let Some((id, entry)) = streams.next() {
+        let mut from = self.pending.cursor;
+        for _stream in 0..self.streams.len() {
+            let (id, entry) = self.streams.next_from(from)?;
             if entry.is_known() {
-                return Some(*id);
+                return Some(id);
             }
+            from = id.saturating_add(1);
         }
         None
     }
@@ -414,6 +429,12 @@ impl Connection {
     {
         self.outputs.front().copied()
     }
+}
+
+// Returns whether nothing is left to be sent on the own half of a stream.
+fn is_sent(entry: &Entry) -> bool {
+    let is_reset = entry.writing.is_ended() && !entry.writing.is_finished();
+    is_reset || entry.writing.is_done()
 }
 
 // Keeps the last events of streams: each stream that the program knows of has one.

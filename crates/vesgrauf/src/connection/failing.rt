@@ -1,8 +1,8 @@
 //! Rules that the peer violates, and where.
 ghost use Rattle.std.specs.Prelude.{◌≡◌, true, []};
-ghost use Rattle.vesgrauf.specs.State.{is_over};
-ghost use Rattle.vesgrauf.specs.Own.{Untouched};
-ghost use Rattle.vesgrauf.specs.Theirs.{Left};
+ghost use Rattle.vesgrauf.specs.Keeps.{Keeps};
+ghost use Rattle.vesgrauf.specs.State.{is_over, stream_at};
+ghost use Rattle.vesgrauf.specs.Order.{waits_on};
 
 use crate::connection::Connection;
 use crate::entry::Told;
@@ -24,6 +24,7 @@ pub(super) const EXCESSIVE_LOAD: Fault = Fault::Streams(StreamsFault::Stream(
 /// SETTINGS announce datagrams, and QUIC's transport parameters do not (RFC 9297, section 2.1.1).
 pub(super) const NO_DATAGRAMS: Fault = Fault::Streams(StreamsFault::Settings);
 
+#[tactic(auto, using(crate::proofs::KeepsLemmas::keep))]
 impl Connection {
     /// Returns the rule by whose violation the peer ended the connection, or `None` if it did not end so.
     pub fn failure(&self) -> Option<Failure>
@@ -33,7 +34,9 @@ impl Connection {
     }
 
     /// Returns what a stream waits for whose bytes came and cannot be read yet, or `None` if it waits for nothing.
-    pub fn waits(&self, id: u64) -> Option<Waits> {
+    pub fn waits(&self, id: u64) -> Option<Waits>
+        ensures { result ≡ waits_on (stream_at self.now id) }
+    {
         match self.streams.get(&id) {
             Some(entry) => entry.reading.waits(),
             None => None,
@@ -56,10 +59,8 @@ impl Connection {
 
     // Ends the connection by an error of this stream, if it is one of a stream.
     pub(super) fn fail(&mut self, stream: Option<u64>, code: u64, fault: Option<Fault>)
-        ensures own { Untouched self.old.streams.entries self.new.streams.entries }
-        ensures left { Left self.old.streams.entries self.new.streams.entries }
+        ensures keeps { Keeps [] self.old self.new }
         ensures over { is_over self.new ≡ true }
-        ensures config { self.new.config ≡ self.old.config }
     {
         if let Some(fault) = fault {
             let offset = match stream {
@@ -77,10 +78,9 @@ impl Connection {
 
     // Tells of the rule that the peer violated on a stream, if the program is to know of it: nothing follows the last event
     // of a stream.
+    #[tactic(auto, using(crate::proofs::KeepsLemmas::keep, crate::proofs::GoesLemmas::goes_failed))]
     pub(super) fn tell_failure(&mut self, id: u64, why: &Why) -> Result<(), AllocError>
-        ensures own { Untouched self.old.streams.entries self.new.streams.entries }
-        ensures left { Left self.old.streams.entries self.new.streams.entries }
-        ensures config { self.new.config ≡ self.old.config }
+        ensures keeps { Keeps [] self.old self.new }
     {
         let Some(rule) = rule_of(why) else {
             return Ok(());
@@ -109,11 +109,8 @@ impl Connection {
     }
 
     // Counts bytes of a stream that were read.
-    #[tactic(auto, using(crate::proofs::OwnLemmas::untouched_set, crate::proofs::TheirsLemmas::left_set))]
     pub(super) fn count_read(&mut self, id: u64, len: usize)
-        ensures own { Untouched self.old.streams.entries self.new.streams.entries }
-        ensures left { Left self.old.streams.entries self.new.streams.entries }
-        ensures config { self.new.config ≡ self.old.config }
+        ensures keeps { Keeps [] self.old self.new }
     {
         if let Some(entry) = self.streams.get_mut(&id) {
             entry.offset = entry.offset.saturating_add(len as u64);

@@ -1,11 +1,11 @@
 //! What is heard on a stream, and what follows from it.
 ghost use Rattle.std.specs.Prelude.{◌≡◌, [], false, IfOk};
-ghost use Rattle.vesgrauf.specs.Own.{Untouched};
+ghost use Rattle.vesgrauf.specs.Keeps.{Keeps, KeepsOwn};
+ghost use Rattle.vesgrauf.specs.Told.{ends, word_of, said_by, said_in};
 ghost use Rattle.vesgrauf.specs.State.{stream_at, told_on};
 ghost use Rattle.vesgrauf.specs.Theirs.{Left, Hands, IsSilent, IsOf, told_in, content_in, content_of, piece_of};
 ghost use Rattle.vesgrauf_stream.specs.Reading.{bytes_of};
 ghost use Rattle.wtp_webtransport.specs.Events.{told_of};
-ghost use Rattle.vesgrauf.specs.declared.config.OnMalformed.TheVariants as chosen;
 
 use crate::connection::failing::NO_DATAGRAMS;
 use crate::connection::{Connection, Step, Stop, internal};
@@ -25,7 +25,7 @@ use wtp_webtransport::fault::Fault;
 
 /// What became of a stream that is to join its session.
 #[derive(Clone, Copy)]
-enum Joining {
+pub(super) enum Joining {
     /// It joined this session.
     Joined(u64),
     /// It is to be closed.
@@ -37,7 +37,7 @@ enum Joining {
 }
 
 // Returns what an event says of a stream that is to join its session.
-fn joining_of(event: &Said<'_>) -> Joining {
+pub(super) fn joining_of(event: &Said<'_>) -> Joining {
     match event {
         Said::Joined(session) => Joining::Joined(*session),
         Said::StreamError(fault) => Joining::Refused(*fault),
@@ -53,16 +53,15 @@ fn says_content(event: &Said<'_>) -> bool
     matches!(event, Said::Data(_) | Said::StreamData(_))
 }
 
+#[tactic(auto, using(crate::proofs::KeepsLemmas::keep))]
 impl Connection {
     // Handles what was heard on a stream.
-    #[tactic(auto, using(crate::proofs::ReadsLemmas::left_hands))]
+    #[tactic(auto, using(crate::proofs::KeepsLemmas::hold, crate::proofs::TellsLemmas::left_hands))]
     pub(super) fn heard<'a>(&mut self, id: u64, heard: Heard<'a>) -> Result<Step<'a>, Stop>
-        ensures own { self.old.config.on_malformed ≡ chosen.Reset
-            → Untouched self.old.streams.entries self.new.streams.entries }
+        ensures keeps { KeepsOwn (said_by result) self.old self.new }
         ensures left { Left self.old.streams.entries self.new.streams.entries }
         ensures hands { IfOk result (λ s. Hands id (content_in heard.entry) (told_in s)
             self.old.streams.entries self.new.streams.entries) }
-        ensures config { self.new.config ≡ self.old.config }
     {
         match heard {
             Heard::Data(bytes) => self.content_came(id, bytes),
@@ -73,13 +72,11 @@ impl Connection {
     }
 
     // Tells content of a stream. One that the program does not know of is read no further.
-    #[tactic(auto, using(crate::proofs::ReadsLemmas::told_hands, crate::proofs::ReadsLemmas::gone_hands))]
+    #[tactic(auto, using(crate::proofs::KeepsLemmas::keep, crate::proofs::TellsLemmas::told_hands, crate::proofs::TellsLemmas::gone_hands))]
     pub(super) fn content_came<'a>(&mut self, id: u64, bytes: Bytes<'a>) -> Result<Step<'a>, Stop>
-        ensures own { Untouched self.old.streams.entries self.new.streams.entries }
-        ensures left { Left self.old.streams.entries self.new.streams.entries }
+        ensures keeps { Keeps (said_by result) self.old self.new }
         ensures hands { IfOk result (λ s. Hands id (bytes_of bytes.entry) (told_in s)
             self.old.streams.entries self.new.streams.entries) }
-        ensures config { self.new.config ≡ self.old.config }
     {
         match self.tell(id, EventKind::Data(bytes)) {
             Step::Told(event) => Ok(Step::Told(event)),
@@ -91,9 +88,11 @@ impl Connection {
     }
 
     // Tells the program something of a stream, if it knows of the stream.
+    #[tactic(auto, using(crate::proofs::KeepsLemmas::keep, crate::proofs::GoesLemmas::goes_tells))]
     pub(super) fn tell<'a>(&self, id: u64, kind: EventKind<'a>) -> Step<'a>
         ensures told { result ≡ told_on (stream_at self.now id) id kind.entry }
         ensures is { IsOf id (piece_of kind.entry) result }
+        ensures keeps { ends (word_of kind.entry) ≡ false → Keeps (said_in result) self.now self.now }
     {
         let Some(entry) = self.streams.get(&id) else {
             return Step::More;
@@ -110,13 +109,12 @@ impl Connection {
     }
 
     // Handles what a stream says. (Content is heard as such, and not as what a stream says.)
+    #[tactic(auto, using(crate::proofs::KeepsLemmas::hold))]
     pub(super) fn said(&mut self, id: u64, event: Said<'static>) -> Result<Step<'static>, Stop>
-        ensures own { self.old.config.on_malformed ≡ chosen.Reset
-            → Untouched self.old.streams.entries self.new.streams.entries }
+        ensures keeps { KeepsOwn (said_by result) self.old self.new }
         ensures left { Left self.old.streams.entries self.new.streams.entries }
         ensures hands { IfOk result (λ s. Hands id (content_of (told_of event.entry)) (told_in s)
             self.old.streams.entries self.new.streams.entries) }
-        ensures config { self.new.config ≡ self.old.config }
     {
         if says_content(&event) {
             return Err(internal());
@@ -125,12 +123,11 @@ impl Connection {
     }
 
     // Handles what a stream says: anything but content.
+    #[tactic(auto, using(crate::proofs::KeepsLemmas::hold))]
     fn said_else(&mut self, id: u64, event: Said<'static>) -> Result<Step<'static>, Stop>
-        ensures own { self.old.config.on_malformed ≡ chosen.Reset
-            → Untouched self.old.streams.entries self.new.streams.entries }
+        ensures keeps { KeepsOwn (said_by result) self.old self.new }
         ensures left { Left self.old.streams.entries self.new.streams.entries }
         ensures silent { IfOk result IsSilent }
-        ensures config { self.new.config ≡ self.old.config }
     {
         match event {
             Said::Settings(settings, _) => self.settings_came(settings),
@@ -163,28 +160,30 @@ impl Connection {
     }
 
     // A stream names its session.
-    #[tactic(auto, using(crate::proofs::OwnLemmas::untouched_set, crate::proofs::TheirsLemmas::left_set))]
     fn session_named(&mut self, id: u64, session: u64) -> Result<Step<'static>, Stop>
-        ensures own { Untouched self.old.streams.entries self.new.streams.entries }
-        ensures left { Left self.old.streams.entries self.new.streams.entries }
+        ensures keeps { Keeps (said_by result) self.old self.new }
         ensures silent { IfOk result IsSilent }
-        ensures config { self.new.config ≡ self.old.config }
     {
-        if let Some(entry) = self.streams.get_mut(&id) {
-            entry.since = self.ticks;
-        }
+        self.note_since(id);
         // (without memory it joins when it is read again)
         self.pending.named = Some(Member { session, id });
         let event = self.join(id, session)?;
         self.join_came(id, joining_of(&event))
     }
 
+    // A stream names its session at this tick.
+    fn note_since(&mut self, id: u64)
+        ensures keeps { Keeps [] self.old self.new }
+    {
+        if let Some(entry) = self.streams.get_mut(&id) {
+            entry.since = self.ticks;
+        }
+    }
+
     // Handles what became of a stream that is to join its session.
     fn join_came(&mut self, id: u64, joining: Joining) -> Result<Step<'static>, Stop>
-        ensures own { Untouched self.old.streams.entries self.new.streams.entries }
-        ensures left { Left self.old.streams.entries self.new.streams.entries }
+        ensures keeps { Keeps (said_by result) self.old self.new }
         ensures silent { IfOk result IsSilent }
-        ensures config { self.new.config ≡ self.old.config }
     {
         match joining {
             Joining::Joined(session) => {
@@ -204,6 +203,7 @@ impl Connection {
     // A datagram of a session came in a capsule.
     fn capsule_came(&self, id: u64, payload: Vec<u8>) -> Step<'static>
         ensures silent { IsSilent result }
+        ensures keeps { Keeps (said_in result) self.now self.now }
     {
         self.tell(id, EventKind::Datagram(Bytes::Kept(payload)))
     }
@@ -211,16 +211,16 @@ impl Connection {
     // The peer asks to end a session soon.
     fn draining_came(&self, id: u64) -> Step<'static>
         ensures silent { IsSilent result }
+        ensures keeps { Keeps (said_in result) self.now self.now }
     {
         self.tell(id, EventKind::Draining)
     }
 
     // SETTINGS of the peer came.
+    #[tactic(auto, using(crate::proofs::KeepsLemmas::keep, crate::proofs::GoesLemmas::goes_aside))]
     fn settings_came(&mut self, settings: PeerSettings) -> Result<Step<'static>, Stop>
-        ensures own { Untouched self.old.streams.entries self.new.streams.entries }
-        ensures left { Left self.old.streams.entries self.new.streams.entries }
+        ensures keeps { Keeps (said_by result) self.old self.new }
         ensures silent { IfOk result IsSilent }
-        ensures config { self.new.config ≡ self.old.config }
     {
         if settings.h3_datagram && self.datagrams.limit == 0 {
             return Err(Stop::from(NO_DATAGRAMS));
@@ -232,11 +232,10 @@ impl Connection {
     }
 
     // GOAWAY of the peer came.
+    #[tactic(auto, using(crate::proofs::KeepsLemmas::keep, crate::proofs::GoesLemmas::goes_aside))]
     fn goaway_came(&mut self, first: u64) -> Step<'static>
-        ensures own { Untouched self.old.streams.entries self.new.streams.entries }
-        ensures left { Left self.old.streams.entries self.new.streams.entries }
+        ensures keeps { Keeps (said_in result) self.old self.new }
         ensures silent { IsSilent result }
-        ensures config { self.new.config ≡ self.old.config }
     {
         if !self.is_server() {
             self.pending.unprocessed = Some(first);
@@ -246,10 +245,8 @@ impl Connection {
 
     // The stream is for this.
     fn purpose_came(&mut self, id: u64, purpose: Purpose) -> Result<Step<'static>, Stop>
-        ensures own { Untouched self.old.streams.entries self.new.streams.entries }
-        ensures left { Left self.old.streams.entries self.new.streams.entries }
+        ensures keeps { Keeps (said_by result) self.old self.new }
         ensures silent { IfOk result IsSilent }
-        ensures config { self.new.config ≡ self.old.config }
     {
         match purpose {
             Purpose::Message => {
@@ -266,11 +263,8 @@ impl Connection {
     }
 
     // The bytes of the stream are instructions for the own encoder.
-    #[tactic(auto, using(crate::proofs::OwnLemmas::untouched_set, crate::proofs::TheirsLemmas::left_set))]
     fn note_decoder(&mut self, id: u64)
-        ensures own { Untouched self.old.streams.entries self.new.streams.entries }
-        ensures left { Left self.old.streams.entries self.new.streams.entries }
-        ensures config { self.new.config ≡ self.old.config }
+        ensures keeps { Keeps [] self.old self.new }
     {
         if let Some(entry) = self.streams.get_mut(&id) {
             entry.is_decoder = true;
@@ -278,11 +272,8 @@ impl Connection {
     }
 
     // The stream is one that is open as long as the connection, or ignored.
-    #[tactic(auto, using(crate::proofs::OwnLemmas::untouched_set, crate::proofs::TheirsLemmas::left_set))]
     fn note_quiet(&mut self, id: u64)
-        ensures own { Untouched self.old.streams.entries self.new.streams.entries }
-        ensures left { Left self.old.streams.entries self.new.streams.entries }
-        ensures config { self.new.config ≡ self.old.config }
+        ensures keeps { Keeps [] self.old self.new }
     {
         if let Some(entry) = self.streams.get_mut(&id) {
             if !entry.is_quiet {
@@ -302,23 +293,25 @@ impl Connection {
 
     // Rejects the request on a stream if its ID is this one or above it: that of the own GOAWAY, or its own where there are
     // too many sessions.
-    #[tactic(auto, using(crate::proofs::OwnLemmas::untouched_set, crate::proofs::TheirsLemmas::left_set))]
     pub(super) fn reject(&mut self, id: u64, first: Option<u64>) -> Result<Step<'static>, Stop>
-        ensures own { Untouched self.old.streams.entries self.new.streams.entries }
-        ensures left { Left self.old.streams.entries self.new.streams.entries }
+        ensures keeps { Keeps (said_by result) self.old self.new }
         ensures silent { IfOk result IsSilent }
-        ensures config { self.new.config ≡ self.old.config }
     {
-        let Some(entry) = self.streams.get_mut(&id) else {
+        let Joining::Refused(fault) = self.reject_half(id, first) else {
             return Ok(Step::More);
         };
-        match entry.reading.reject(&mut self.shared, id, first) {
-            Said::StreamError(fault) => {
-                self.shut(id, fault.code(), Why::Fault(fault))?;
-                Ok(Step::More)
-            }
-            _ => Ok(Step::More),
-        }
+        self.shut(id, fault.code(), Why::Fault(fault))?;
+        Ok(Step::More)
+    }
+
+    // Rejects a request, if its ID says so.
+    fn reject_half(&mut self, id: u64, first: Option<u64>) -> Joining
+        ensures keeps { Keeps [] self.old self.new }
+    {
+        let Some(entry) = self.streams.get_mut(&id) else {
+            return Joining::Nothing;
+        };
+        joining_of(&entry.reading.reject(&mut self.shared, id, first))
     }
 
     // A field section of a message came.
@@ -328,10 +321,8 @@ impl Connection {
         kind: HeadersKind,
         list: FieldList,
     ) -> Result<Step<'static>, Stop>
-        ensures own { Untouched self.old.streams.entries self.new.streams.entries }
-        ensures left { Left self.old.streams.entries self.new.streams.entries }
+        ensures keeps { Keeps (said_by result) self.old self.new }
         ensures silent { IfOk result IsSilent }
-        ensures config { self.new.config ≡ self.old.config }
     {
         match kind {
             HeadersKind::Request => {
@@ -350,10 +341,9 @@ impl Connection {
 
     // A request came that asks for no session.
     fn request_came(&mut self, id: u64, list: FieldList) -> Step<'static>
-        ensures own { Untouched self.old.streams.entries self.new.streams.entries }
-        ensures left { Left self.old.streams.entries self.new.streams.entries }
+        ensures keeps { Keeps (said_in result) self.old self.new }
         ensures silent { IsSilent result }
-        ensures config { self.new.config ≡ self.old.config }
+        ensures quiet { Keeps [] self.old self.new }
     {
         let connects = list.first(b":method") == Some(b"CONNECT");
         let asked = if connects {
@@ -374,11 +364,9 @@ impl Connection {
     }
 
     // A request came that asks for this.
-    #[tactic(auto, using(crate::proofs::OwnLemmas::untouched_set, crate::proofs::TheirsLemmas::left_set))]
+    #[tactic(auto, using(crate::proofs::KeepsLemmas::keep, crate::proofs::GoesLemmas::goes_known))]
     pub(super) fn note_request(&mut self, id: u64, asked: Asked)
-        ensures own { Untouched self.old.streams.entries self.new.streams.entries }
-        ensures left { Left self.old.streams.entries self.new.streams.entries }
-        ensures config { self.new.config ≡ self.old.config }
+        ensures keeps { Keeps [] self.old self.new }
     {
         if let Some(entry) = self.streams.get_mut(&id) {
             entry.writing.ask(asked);
@@ -390,9 +378,7 @@ impl Connection {
 
     // The final response to a request that asked for no session came.
     fn response_came(&mut self, id: u64, status: u32)
-        ensures own { Untouched self.old.streams.entries self.new.streams.entries }
-        ensures left { Left self.old.streams.entries self.new.streams.entries }
-        ensures config { self.new.config ≡ self.old.config }
+        ensures keeps { Keeps [] self.old self.new }
     {
         if status > 199 && status < 300 {
             self.connect(id);
@@ -404,11 +390,8 @@ impl Connection {
     }
 
     // A request to a tunnel was granted.
-    #[tactic(auto, using(crate::proofs::OwnLemmas::untouched_set, crate::proofs::TheirsLemmas::left_set))]
-    fn connect(&mut self, id: u64)
-        ensures own { Untouched self.old.streams.entries self.new.streams.entries }
-        ensures left { Left self.old.streams.entries self.new.streams.entries }
-        ensures config { self.new.config ≡ self.old.config }
+    pub(super) fn connect(&mut self, id: u64)
+        ensures keeps { Keeps [] self.old self.new }
     {
         if let Some(entry) = self.streams.get_mut(&id) {
             entry.writing.connect();
@@ -423,12 +406,9 @@ impl Connection {
     }
 
     // The peer's half ended.
-    #[tactic(auto, using(crate::proofs::OwnLemmas::untouched_set, crate::proofs::TheirsLemmas::left_set))]
     fn end_came(&mut self, id: u64) -> Result<Step<'static>, Stop>
-        ensures own { Untouched self.old.streams.entries self.new.streams.entries }
-        ensures left { Left self.old.streams.entries self.new.streams.entries }
+        ensures keeps { Keeps (said_by result) self.old self.new }
         ensures silent { IfOk result IsSilent }
-        ensures config { self.new.config ≡ self.old.config }
     {
         let step = self.tell(id, EventKind::End);
         self.forget_cancel(id);
@@ -437,11 +417,8 @@ impl Connection {
     }
 
     // All sections of a stream were read.
-    #[tactic(auto, using(crate::proofs::TheirsLemmas::left_set, crate::proofs::OwnLemmas::untouched_set))]
     fn forget_cancel(&mut self, id: u64)
-        ensures own { Untouched self.old.streams.entries self.new.streams.entries }
-        ensures left { Left self.old.streams.entries self.new.streams.entries }
-        ensures config { self.new.config ≡ self.old.config }
+        ensures keeps { Keeps [] self.old self.new }
     {
         if let Some(entry) = self.streams.get_mut(&id) {
             entry.may_cancel = false;
@@ -451,10 +428,8 @@ impl Connection {
     // The peer closed a session, on its own stream. The stream is read to its end: more content is an error
     // (draft-ietf-webtrans-http3-02, section 5).
     fn session_closed(&mut self, id: u64, close: Close) -> Result<Step<'static>, Stop>
-        ensures own { Untouched self.old.streams.entries self.new.streams.entries }
-        ensures left { Left self.old.streams.entries self.new.streams.entries }
+        ensures keeps { Keeps (said_by result) self.old self.new }
         ensures silent { IfOk result IsSilent }
-        ensures config { self.new.config ≡ self.old.config }
     {
         self.end_own(id);
         self.end_session(id)?;
@@ -465,10 +440,8 @@ impl Connection {
 
     // A session ended otherwise.
     fn session_lost(&mut self, id: u64) -> Result<Step<'static>, Stop>
-        ensures own { Untouched self.old.streams.entries self.new.streams.entries }
-        ensures left { Left self.old.streams.entries self.new.streams.entries }
+        ensures keeps { Keeps (said_by result) self.old self.new }
         ensures silent { IfOk result IsSilent }
-        ensures config { self.new.config ≡ self.old.config }
     {
         self.shut(id, Code::H3_REQUEST_CANCELLED, Why::SessionGone)?;
         Ok(Step::More)

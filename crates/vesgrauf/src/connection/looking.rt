@@ -1,6 +1,6 @@
 //! What is found next in the bytes of a stream.
 ghost use Rattle.std.specs.Prelude.{◌≡◌, ℕ, false, true, [], Ok, None, IfOk};
-ghost use Rattle.vesgrauf.specs.Bounds.{Fits};
+ghost use Rattle.vesgrauf.specs.Bounds.{KeepsFit};
 ghost use Rattle.vesgrauf.specs.Theirs.{IsRead, with_chunk, theirs_of, content_found, content_if};
 ghost use Rattle.vesgrauf.specs.declared.entry.Peer.TheVariants as peer;
 
@@ -17,7 +17,7 @@ use wtp_webtransport::fields::Fields;
 impl Entry {
     // Returns what is found next in the bytes that are kept and those of the input. Of a stream that is not read nothing
     // is.
-    #[tactic(auto, using(crate::proofs::ReadsLemmas::looked, crate::proofs::ReadsLemmas::not_looked, crate::proofs::BoundLemmas::shrunk_fits))]
+    #[tactic(auto, using(crate::proofs::ReadsLemmas::looked, crate::proofs::ReadsLemmas::not_looked, crate::proofs::BoundLemmas::shrunk_keeps))]
     pub(super) fn look<'a>(
         &mut self,
         alloc: Global,
@@ -29,7 +29,7 @@ impl Entry {
         ensures reads { IfOk result (λ found. IsRead (with_chunk (theirs_of self.old) chunk.old) (content_found found)
             (with_chunk (theirs_of self.new) chunk.new)) }
         ensures told { self.new.told ≡ self.old.told }
-        ensures fits { (most : ℕ) → Fits most (theirs_of self.old) → Fits most (theirs_of self.new) }
+        ensures fits { KeepsFit (theirs_of self.old) (theirs_of self.new) }
     {
         if !self.is_read() {
             return Ok(Found::Again);
@@ -40,7 +40,7 @@ impl Entry {
 
     // Returns what is found in the bytes of the input, if the stream is read, nothing of it is kept, its end did not come,
     // and it waits for nothing.
-    #[tactic(auto, using(crate::proofs::ReadsLemmas::looked_plain, crate::proofs::ReadsLemmas::not_looked, crate::proofs::BoundLemmas::shrunk_fits))]
+    #[tactic(auto, using(crate::proofs::ReadsLemmas::looked_plain, crate::proofs::ReadsLemmas::not_looked, crate::proofs::BoundLemmas::shrunk_keeps))]
     pub(super) fn look_plain<'a>(
         &mut self,
         alloc: Global,
@@ -56,7 +56,7 @@ impl Entry {
         ensures fields { result ≡ Ok None → fields.new ≡ fields.old }
         ensures none { result ≡ Ok None → chunk.new ≡ chunk.old }
         ensures told { self.new.told ≡ self.old.told }
-        ensures fits { (most : ℕ) → Fits most (theirs_of self.old) → Fits most (theirs_of self.new) }
+        ensures fits { KeepsFit (theirs_of self.old) (theirs_of self.new) }
     {
         if !self.is_plain() {
             return Ok(None);

@@ -1,143 +1,34 @@
 //! Messages that are sent.
 ghost use Rattle.std.specs.Prelude.{◌≡◌, ◌⊎◌, false, true, is_some, is_ok, None, Some, OnOk, OnErr, IfOk, IfErr, length, []};
 ghost use Rattle.vesgrauf_stream.specs.Writing.{Sends};
-ghost use Rattle.vesgrauf_stream.specs.Headers.{SendsTrailers, RefusesTrailers};
-ghost use Rattle.vesgrauf.specs.Own.{entry_at, Untouched, UntouchedBut};
+ghost use Rattle.vesgrauf_stream.specs.Headers.{response_at, SendsHeaders, SendsTrailers, RefusesTrailers};
+ghost use Rattle.vesgrauf_stream.specs.declared.tools.Tools.{Tools as ToolsOf};
+ghost use Rattle.vesgrauf.specs.Messages.{allowed, IsSameBut, ChangesBy, ChangesThen};
+ghost use Rattle.vesgrauf.specs.Keeps.{Keeps};
+ghost use Rattle.vesgrauf.specs.Own.{UntouchedBut};
 ghost use Rattle.vesgrauf.specs.Theirs.{Left};
-ghost use Rattle.vesgrauf.specs.State.{stream_at, Changes, IsFor, IsStill, IsStillBut, IsRefused, SaysOrWaits, StaysFor, IsWhy, IsWhyOf, RefusesBytes, RefusesEnd, FinishesUnless, was_finished, was_told_full, is_over, open_session, knows_of, may_wait};
-ghost use Rattle.vesgrauf.specs.declared.output.StreamKind.TheVariants as kinds;
+ghost use Rattle.vesgrauf.specs.Told.{GoesOn};
+ghost use Rattle.vesgrauf.specs.State.{stream_at, Changes, IsFor, IsStill, IsStillBut, IsRefused, SaysOrWaits, StaysFor, IsWhy, IsWhyOf, RefusesBytes, RefusesEnd, FinishesUnless, was_finished, was_told_full, is_over, open_session};
 ghost use Rattle.vesgrauf.specs.declared.refused.Refused.TheVariants as refused;
 
 use crate::connection::{Connection, Stop};
-use crate::entry::{Entry, Peer, SHARED, Told};
-use crate::output::StreamKind;
+use crate::entry::Peer;
 use crate::refused::{NotSent, Refused};
 use std::alloc::AllocError;
-use vesgrauf_stream::reading::Reading;
-use vesgrauf_stream::writing::Writing;
 use wtp_connection::connection::Known;
 use wtp_core::error::Code;
 use wtp_core::ids::SessionId;
 use wtp_core::varint::VarInt;
 use wtp_fields::fields::{FieldList, three_digits};
 use wtp_messages::response::Asked;
-use wtp_sending::error::SendError;
 use wtp_sending::peer::Peer as Allows;
 
+#[tactic(auto, using(crate::proofs::KeepsLemmas::keep))]
 impl Connection {
-    /// Sends a request, at a client: its HEADERS, and with `fin` its end. Returns the ID of its stream. A request for a
-    /// session has no end, which would close the session.
-    ///
-    /// # Errors
-    ///
-    /// Nothing changes. `Closed`; `WrongSide` at a server; `GoAway`; for an extended CONNECT, such as a request for a
-    /// session, `NotReady` until SETTINGS of the peer came; `TooManySessions` if as many sessions are open as the peer
-    /// allows; `Full` if as many requests wait for QUIC as [`max_unopened`](crate::config::Config) says: an event
-    /// [`Openable`](crate::event::EventKind) follows; `NoMoreIds`; `Send` if it would be malformed or the peer does not
-    /// support it; and `Memory`.
-    pub fn request(&mut self, list: &FieldList, fin: bool) -> Result<u64, Refused>
-        ensures id { IfOk result (λ id. id ≡ self.old.ids.bidirectional) }
-        ensures room { IfOk result (λ id. may_wait self.old kinds.Bidirectional ≡ true) }
-        ensures own { IfOk result (λ id. UntouchedBut id self.old.streams.entries self.new.streams.entries) }
-    {
-        if self.ended.is_some() {
-            return Err(Refused::Closed);
-        }
-        if self.is_server() {
-            return Err(Refused::WrongSide);
-        }
-        if self.shared.is_unprocessed(u64::MAX) {
-            return Err(Refused::GoAway);
-        }
-        let asked = asked_of(list);
-        self.check_asked(asked, list)?;
-        self.check_room(StreamKind::Bidirectional)?;
-        let Some(id) = self.ids.next(StreamKind::Bidirectional) else {
-            return Err(Refused::NoMoreIds);
-        };
-        self.reserve()?;
-        self.choose_policy();
-        self.open_request(id, asked, list, fin)?;
-        self.ids.take(StreamKind::Bidirectional);
-        self.queue_due();
-        self.count_session(asked);
-        Ok(id)
-    }
-
-    // Counts a session, if it is one that is asked for.
-    fn count_session(&mut self, asked: Asked)
-        ensures streams { self.new.streams ≡ self.old.streams }
-        ensures ids { self.new.ids ≡ self.old.ids }
-        ensures events { self.new.events ≡ self.old.events }
-    {
-        if asked == Asked::Session {
-            self.sessions = self.sessions.saturating_add(1);
-        }
-    }
-
-    // Checks that what a request asks for is supported.
-    fn check_asked(&self, asked: Asked, list: &FieldList) -> Result<(), Refused> {
-        if !is_extended(list) {
-            return Ok(());
-        }
-        if !self.is_configured {
-            return Err(Refused::NotReady);
-        }
-        let peer = self.shared.peer_settings();
-        if !peer.enable_connect_protocol {
-            return Err(Refused::Send(SendError::Unsupported));
-        }
-        if asked != Asked::Session {
-            return Ok(());
-        }
-        if !self.shared.allows_sessions() {
-            return Err(Refused::Send(SendError::Unsupported));
-        }
-        let most = peer.webtransport_max_sessions.max(peer.wt_max_sessions);
-        if most > 0 && u64::from(self.sessions) >= most {
-            return Err(Refused::TooManySessions);
-        }
-        Ok(())
-    }
-
-    // Opens the stream of a request.
-    fn open_request(
-        &mut self,
-        id: u64,
-        asked: Asked,
-        list: &FieldList,
-        fin: bool,
-    ) -> Result<(), Refused>
-        ensures own { OnOk result (UntouchedBut id self.old.streams.entries self.new.streams.entries) }
-        ensures known { OnOk result (knows_of (entry_at self.new.streams.entries id) ≡ true) }
-        ensures events { self.new.events ≡ self.old.events }
-        ensures ids { self.new.ids ≡ self.old.ids }
-    {
-        let session = session_id(id)?;
-        let allows = self.allows();
-        let place = match self.streams.entry(id) {
-            Ok(place) => place,
-            Err(_) => return Err(Refused::Memory),
-        };
-        let mut writing = Writing::idle(self.alloc, self.config.queue());
-        writing.request(&mut self.tools, session, allows, list, fin)?;
-        let stream = self.shared.open(asked);
-        let mut entry = Entry::new(Reading::new(self.alloc, stream), Peer::Reads, writing);
-        entry.told = Told::Known;
-        entry.is_opened = false;
-        entry.may_cancel = true;
-        entry.is_session = asked == Asked::Session;
-        entry.has_session = asked == Asked::Session;
-        entry.has_tunnel = asked == Asked::Connect;
-        if asked == Asked::Session || asked == Asked::Connect {
-            entry.priority = SHARED;
-        }
-        place.insert_entry(entry);
-        Ok(())
-    }
-
     // Returns what the peer allows to be sent.
-    fn allows(&self) -> Allows {
+    pub(super) fn allows(&self) -> Allows
+        ensures { result ≡ allowed self.now }
+    {
         let settings = self.shared.peer_settings();
         Allows {
             extended_connect: settings.enable_connect_protocol,
@@ -153,11 +44,15 @@ impl Connection {
     ///
     /// Nothing changes. `Closed`; `NoStream` if no request came on the stream; `Over`; `Send` if it would be malformed;
     /// and `Memory`.
+    #[tactic(auto, using(crate::proofs::KeepsLemmas::kept))]
     pub fn respond(&mut self, id: u64, list: &FieldList, fin: bool) -> Result<(), Refused>
         ensures refused { IfErr result (λ e. (e ≡ refused.Memory) ⊎ IsStillBut self.old self.new) }
         ensures own { UntouchedBut id self.old.streams.entries self.new.streams.entries }
         ensures left { Left self.old.streams.entries self.new.streams.entries }
         ensures config { self.new.config ≡ self.old.config }
+        ensures goes { GoesOn [] self.old self.new }
+        ensures responds { OnOk result ((s : ToolsOf) × (t : ToolsOf) × IsSameBut self.old.tools s × ChangesThen id
+            (λ v w. SendsHeaders (response_at v id (allowed self.old)) list.now fin s t v w) self.old self.new) }
     {
         self.begin_send(id)?;
         self.choose_policy();
@@ -168,12 +63,15 @@ impl Connection {
     }
 
     // Queues the HEADERS of a response, and maybe the end.
-    #[tactic(auto, using(crate::proofs::TheirsLemmas::left_set, std::proofs::lemmas::Map::Steps::set_value_same))]
+    #[tactic(auto, using(crate::proofs::KeepsLemmas::kept, crate::proofs::TheirsLemmas::left_set, std::proofs::lemmas::Map::Steps::set_value_same, crate::proofs::GoesLemmas::goes_set))]
     fn put_response(&mut self, id: u64, list: &FieldList, fin: bool) -> Result<(), Refused>
+        ensures ok { OnOk result (Changes id (λ v w. SendsHeaders (response_at v id (allowed self.old)) list.now fin
+            self.old.tools self.new.tools v w) self.old self.new) }
         ensures kept { OnErr result (IsStill self.old self.new) }
         ensures own { UntouchedBut id self.old.streams.entries self.new.streams.entries }
         ensures left { Left self.old.streams.entries self.new.streams.entries }
         ensures config { self.new.config ≡ self.old.config }
+        ensures goes { GoesOn [] self.old self.new }
     {
         let result = match session_id(id) {
             Ok(session) => self.respond_half(id, session, list, fin),
@@ -184,7 +82,7 @@ impl Connection {
     }
 
     // Queues the HEADERS of a response, and maybe the end, on the own half of a stream.
-    #[tactic(auto, using(crate::proofs::TheirsLemmas::left_set, std::proofs::lemmas::Map::Steps::set_value_same))]
+    #[tactic(auto, using(crate::proofs::KeepsLemmas::kept, crate::proofs::TheirsLemmas::left_set, std::proofs::lemmas::Map::Steps::set_value_same, crate::proofs::GoesLemmas::goes_set))]
     fn respond_half(
         &mut self,
         id: u64,
@@ -192,10 +90,13 @@ impl Connection {
         list: &FieldList,
         fin: bool,
     ) -> Result<(), Refused>
+        ensures ok { OnOk result (Changes id (λ v w. SendsHeaders (response_at v session (allowed self.old)) list.now fin
+            self.old.tools self.new.tools v w) self.old self.new) }
         ensures kept { OnErr result (IsStill self.old self.new) }
         ensures own { UntouchedBut id self.old.streams.entries self.new.streams.entries }
         ensures left { Left self.old.streams.entries self.new.streams.entries }
         ensures config { self.new.config ≡ self.old.config }
+        ensures goes { GoesOn [] self.old self.new }
     {
         let allows = self.allows();
         let Some(entry) = self.streams.get_mut(&id) else {
@@ -209,9 +110,7 @@ impl Connection {
 
     // A response was sent: what follows for its stream, and for a session.
     fn responded(&mut self, id: u64, list: &FieldList, fin: bool) -> Result<(), AllocError>
-        ensures own { Untouched self.old.streams.entries self.new.streams.entries }
-        ensures left { Left self.old.streams.entries self.new.streams.entries }
-        ensures config { self.new.config ≡ self.old.config }
+        ensures keeps { Keeps [] self.old self.new }
     {
         if let Some(status) = status_of(list) {
             self.answered(id, status);
@@ -238,9 +137,7 @@ impl Connection {
 
     // Reads no further on the stream of a CONNECT that was refused: nothing that follows has a meaning.
     pub(super) fn stop_refused(&mut self, id: u64) -> Result<(), AllocError>
-        ensures own { Untouched self.old.streams.entries self.new.streams.entries }
-        ensures left { Left self.old.streams.entries self.new.streams.entries }
-        ensures config { self.new.config ≡ self.old.config }
+        ensures keeps { Keeps [] self.old self.new }
     {
         let code = Code::H3_NO_ERROR.number().into_inner();
         self.stop_peer(id, code)?;
@@ -250,9 +147,7 @@ impl Connection {
 
     // A response with this status was sent.
     fn answered(&mut self, id: u64, status: u32)
-        ensures own { Untouched self.old.streams.entries self.new.streams.entries }
-        ensures left { Left self.old.streams.entries self.new.streams.entries }
-        ensures config { self.new.config ≡ self.old.config }
+        ensures keeps { Keeps [] self.old self.new }
     {
         if status < 200 {
             return;
@@ -284,12 +179,13 @@ impl Connection {
     ///
     /// Nothing is queued. `Full` if a call returned false, and as many bytes are queued still: the `Writable` is to come.
     /// `Closed`; `NoStream`; `Over`; `Send`; and `Memory`.
-    #[tactic(auto, using(std::proofs::lemmas::Map::Steps::set_value_same))]
+    #[tactic(auto, using(crate::proofs::KeepsLemmas::kept, std::proofs::lemmas::Map::Steps::set_value_same, crate::proofs::GoesLemmas::goes_set))]
     pub fn send(&mut self, id: u64, bytes: &[u8], fin: bool) -> Result<bool, Refused>
         ensures ok { IfOk result (λ room. Changes id (Sends bytes.now fin room) self.old self.new) }
         ensures why { IfErr result (λ e. IsWhy (RefusesBytes (length bytes.now) fin) self.old id e) }
         ensures told { IfErr result (λ e. e ≡ refused.Full → was_told_full self.old id ≡ true) }
         ensures kept { IfErr result (λ e. StaysFor e id self.old self.new) }
+        ensures goes { GoesOn [] self.old self.new }
     {
         let was_full = self.full.contains(&id);
         self.begin_send(id)?;
@@ -311,13 +207,14 @@ impl Connection {
     /// # Errors
     ///
     /// Those of [`send`](Self::send), with the bytes.
-    #[tactic(auto, using(std::proofs::lemmas::Map::Steps::set_value_same))]
+    #[tactic(auto, using(crate::proofs::KeepsLemmas::kept, std::proofs::lemmas::Map::Steps::set_value_same, crate::proofs::GoesLemmas::goes_set))]
     pub fn send_owned(&mut self, id: u64, bytes: Vec<u8>, fin: bool) -> Result<bool, NotSent>
         ensures ok { IfOk result (λ room. Changes id (Sends bytes.items fin room) self.old self.new) }
         ensures why { IfErr result (λ e. IsWhy (RefusesBytes (length bytes.items) fin) self.old id e.why) }
         ensures told { IfErr result (λ e. e.why ≡ refused.Full → was_told_full self.old id ≡ true) }
         ensures kept { IfErr result (λ e. StaysFor e.why id self.old self.new) }
         ensures bytes { IfErr result (λ e. e.bytes ≡ bytes) }
+        ensures goes { GoesOn [] self.old self.new }
     {
         let was_full = self.full.contains(&id);
         if let Err(why) = self.begin_send(id) {
@@ -361,9 +258,12 @@ impl Connection {
     /// # Errors
     ///
     /// Nothing changes. `Closed`; `NoStream`; `Over`; `Send` if they would be malformed; and `Memory`.
+    #[tactic(auto, using(crate::proofs::KeepsLemmas::kept))]
     pub fn send_trailers(&mut self, id: u64, list: &FieldList) -> Result<(), Refused>
         ensures kept { OnErr result (IsStillBut self.old self.new) }
         ensures decoder { SaysOrWaits self.old.told.items self.new.told.items self.old.decoder self.new.decoder }
+        ensures goes { GoesOn [] self.old self.new }
+        ensures ok { OnOk result (ChangesBy id (SendsTrailers list.now) self.old self.new) }
     {
         self.begin_send(id)?;
         self.choose_policy();
@@ -373,13 +273,14 @@ impl Connection {
     }
 
     // Queues trailers and the end on a stream.
-    #[tactic(auto, using(std::proofs::lemmas::Map::Steps::set_value_same))]
+    #[tactic(auto, using(crate::proofs::KeepsLemmas::kept, std::proofs::lemmas::Map::Steps::set_value_same, crate::proofs::GoesLemmas::goes_set))]
     fn put_trailers(&mut self, id: u64, list: &FieldList) -> Result<(), Refused>
         ensures ok { OnOk result (Changes id (SendsTrailers list.now self.old.tools self.new.tools)
             self.old self.new) }
         ensures kept { OnErr result (IsStill self.old self.new) }
         ensures why { IfErr result (λ e. IsWhyOf (stream_at self.old id)
             (IsFor (RefusesTrailers list.now self.old.tools self.new.tools)) e) }
+        ensures goes { GoesOn [] self.old self.new }
     {
         let Some(entry) = self.streams.get_mut(&id) else {
             return Err(Refused::NoStream);
@@ -397,10 +298,12 @@ impl Connection {
     ///
     /// Nothing changes. `Closed`; `NoStream` if there never was such a stream; `Over` if it was reset; `Send` if the message
     /// may not end here; and `Memory`.
+    #[tactic(auto, using(crate::proofs::KeepsLemmas::kept))]
     pub fn finish(&mut self, id: u64) -> Result<(), Refused>
         ensures refused { IfErr result (λ e. IsRefused e self.old self.new) }
         ensures half { is_ok (open_session self.old id) ≡ false
             → OnOk result (FinishesUnless (was_finished self.old id) id self.old self.new) }
+        ensures goes { GoesOn [] self.old self.new }
     {
         if self.check_session(id).is_ok() {
             return self.close_session(id, 0, "");
@@ -409,11 +312,12 @@ impl Connection {
     }
 
     // Ends the own half of a stream that is not that of a session.
-    #[tactic(auto, using(std::proofs::lemmas::Map::Steps::set_value_same))]
+    #[tactic(auto, using(crate::proofs::KeepsLemmas::kept, std::proofs::lemmas::Map::Steps::set_value_same, crate::proofs::GoesLemmas::goes_set))]
     fn finish_half(&mut self, id: u64) -> Result<(), Refused>
         ensures ok { OnOk result (FinishesUnless (was_finished self.old id) id self.old self.new) }
         ensures why { IfErr result (λ e. IsWhy RefusesEnd self.old id e) }
         ensures kept { OnErr result (IsStill self.old self.new) }
+        ensures goes { GoesOn [] self.old self.new }
     {
         if self.ended.is_some() {
             return Err(Refused::Closed);
@@ -476,7 +380,9 @@ impl Connection {
 }
 
 // Returns the ID of a request's stream.
-fn session_id(id: u64) -> Result<SessionId, Refused> {
+pub(super) fn session_id(id: u64) -> Result<SessionId, Refused>
+    ensures { IfOk result (λ session. session ≡ id) }
+{
     let Ok(number) = VarInt::try_from_u64(id) else {
         return Err(Refused::NoStream);
     };
@@ -502,7 +408,7 @@ pub(super) fn asked_of(list: &FieldList) -> Asked {
 }
 
 // Returns whether a request is an extended CONNECT.
-fn is_extended(list: &FieldList) -> bool {
+pub(super) fn is_extended(list: &FieldList) -> bool {
     list.first(b":method") == Some(b"CONNECT") && list.first(b":protocol").is_some()
 }
 

@@ -1,12 +1,15 @@
 //! Streams that are opened.
-ghost use Rattle.std.specs.Prelude.{◌≡◌, ◌⊎◌, [], true, false, Some, MatchBool, OnOk, OnErr, IfOk, IfErr};
+ghost use Rattle.std.specs.Prelude.{◌≡◌, ◌⊎◌, ◌<◌, ◌^◌, ℕ, List, [], true, false, min, nat_lt, Some, MatchBool, OnOk, OnErr, IfOk, IfErr, if◌then◌else◌};
 ghost use Rattle.wtp_frames.specs.declared.endpoint.Side.TheVariants as side;
+ghost use Rattle.vesgrauf.specs.Keeps.{Keeps, KeepsOwn};
 ghost use Rattle.vesgrauf.specs.declared.refused.Refused.TheVariants as refused;
-ghost use Rattle.vesgrauf.specs.State.{open_session, room_for, may_wait, IsStill, IsRefused};
+ghost use Rattle.vesgrauf.specs.State.{open_session, room_for, may_wait, IsStill, IsRefused, is_opened_at, opened_by, stream_at, view_of, Of};
 ghost use Rattle.vesgrauf.specs.Own.{Sends, own_of, entry_at, Untouched, UntouchedBut};
 ghost use Rattle.vesgrauf.specs.Theirs.{Left, Accepts, Unread, content_of, theirs_of};
+ghost use Rattle.vesgrauf.specs.Told.{GoesOn, AreOthers, knows};
 ghost use Rattle.wtp_webtransport.specs.Events.{told_of};
-ghost use Rattle.vesgrauf.specs.Ids.{next_own, opens};
+ghost use Rattle.vesgrauf.specs.Ids.{next_own, opens, kind_of, unopened, opened as opened_ids, taken};
+ghost use Rattle.vesgrauf.specs.Messages.{IsMember, IsStreamHead};
 
 use crate::connection::{Connection, Stop, internal};
 use crate::entry::{Entry, Member, Peer, SHARED, Told};
@@ -23,12 +26,13 @@ use wtp_frames::endpoint::Side;
 use wtp_webtransport::event::Event as Said;
 use wtp_webtransport::stream::Stream;
 
+#[tactic(auto, using(crate::proofs::KeepsLemmas::keep))]
 impl Connection {
     // Registers the streams of the peer up to that of a report.
+    #[tactic(auto, using(crate::proofs::KeepsLemmas::hold))]
     pub(super) fn accept_for(&mut self, report: Report) -> Result<(), Stop>
-        ensures own { Untouched self.old.streams.entries self.new.streams.entries }
+        ensures keeps { KeepsOwn [] self.old self.new }
         ensures accepts { Accepts self.old.ids self.old.streams.entries self.new.ids self.new.streams.entries }
-        ensures config { self.new.config ≡ self.old.config }
     {
         match report {
             Report::Stream(id) | Report::Reset(id, _) | Report::Stopped(id, _) => self.accept(id),
@@ -37,10 +41,10 @@ impl Connection {
     }
 
     // Registers the streams of the peer up to this one. An ID that cannot be is an error of QUIC.
+    #[tactic(auto, using(crate::proofs::KeepsLemmas::hold, crate::proofs::KeepsLemmas::holds_of, crate::proofs::TellsLemmas::accepts_steps))]
     fn accept(&mut self, id: u64) -> Result<(), Stop>
-        ensures own { Untouched self.old.streams.entries self.new.streams.entries }
+        ensures keeps { KeepsOwn [] self.old self.new }
         ensures accepts { Accepts self.old.ids self.old.streams.entries self.new.ids self.new.streams.entries }
-        ensures config { self.new.config ≡ self.old.config }
     {
         if self.ids.is_own(id) {
             return if self.ids.was_taken(id) {
@@ -64,11 +68,12 @@ impl Connection {
     }
 
     // Registers the next stream of the peer, of the kind of this one.
-    #[tactic(auto, using(crate::proofs::ReadsLemmas::accepts_insert))]
+    #[tactic(auto, using(crate::proofs::TellsLemmas::accepts_insert))]
     fn accept_next(&mut self, id: u64) -> Result<(), Stop>
         ensures own { Untouched self.old.streams.entries self.new.streams.entries }
         ensures accepts { Accepts self.old.ids self.old.streams.entries self.new.ids self.new.streams.entries }
         ensures config { self.new.config ≡ self.old.config }
+        ensures goes { GoesOn [] self.old self.new }
     {
         let next = self.ids.next_of_peer(id);
         if next >= 1 << 62 {
@@ -100,11 +105,9 @@ impl Connection {
     }
 
     // Joins a stream with its session, by what is known of that.
-    #[tactic(auto, using(crate::proofs::OwnLemmas::untouched_set, crate::proofs::TheirsLemmas::left_set, crate::proofs::ReadsLemmas::joins_silent))]
+    #[tactic(auto, using(crate::proofs::KeepsLemmas::keep, crate::proofs::TellsLemmas::joins_silent))]
     pub(super) fn join(&mut self, id: u64, session: u64) -> Result<Said<'static>, Stop>
-        ensures own { Untouched self.old.streams.entries self.new.streams.entries }
-        ensures left { Left self.old.streams.entries self.new.streams.entries }
-        ensures config { self.new.config ≡ self.old.config }
+        ensures keeps { Keeps [] self.old self.new }
         ensures silent { IfOk result (λ e. content_of (told_of e) ≡ []) }
     {
         let known = self.known_to(id, session);
@@ -130,11 +133,9 @@ impl Connection {
     }
 
     // A stream of the peer joined its session.
-    #[tactic(auto, using(crate::proofs::OwnLemmas::untouched_set, crate::proofs::TheirsLemmas::left_set))]
+    #[tactic(auto, using(crate::proofs::KeepsLemmas::keep, crate::proofs::GoesLemmas::goes_known))]
     pub(super) fn joined(&mut self, id: u64, session: u64)
-        ensures own { Untouched self.old.streams.entries self.new.streams.entries }
-        ensures left { Left self.old.streams.entries self.new.streams.entries }
-        ensures config { self.new.config ≡ self.old.config }
+        ensures keeps { Keeps [] self.old self.new }
     {
         if let Some(entry) = self.streams.get_mut(&id) {
             entry.session = Some(session);
@@ -153,44 +154,71 @@ impl Connection {
     /// Nothing changes. `Closed`; `SessionGone`; `NotOpen`; `Full` if as many own streams of this
     /// kind wait for QUIC as [`max_unopened`](crate::config::Config) says: an event
     /// [`Openable`](crate::event::EventKind) follows; `NoMoreIds`; and `Memory`.
+    #[tactic(auto, using(crate::proofs::KeepsLemmas::kept, crate::proofs::IdLemmas::goes_opens, crate::proofs::IdLemmas::knows_here, crate::proofs::GoesLemmas::goes_still))]
     pub fn open_stream(&mut self, session: u64, kind: StreamKind) -> Result<u64, Refused>
         ensures refused { IfErr result (λ e. IsRefused e self.old self.new) }
         ensures id { IfOk result (λ id. id ≡ next_own self.old.ids kind) }
         ensures room { IfOk result (λ id. may_wait self.old kind ≡ true) }
         ensures own { IfOk result (λ id. UntouchedBut id self.old.streams.entries self.new.streams.entries) }
+        ensures goes { IfOk result (λ id. GoesOn [] self.old self.new × (knows self.new id ≡ true)) }
+        ensures kept { OnErr result (GoesOn [] self.old self.new) }
+        ensures begins { IfOk result (λ id. (head : List ℕ) × Of (stream_at self.old session) (IsStreamHead kind head)
+            × Of (stream_at self.new id) (IsMember self.old.config session kind head)) }
+        ensures others { IfOk result (λ id. view_of self.new ≡ record (view_of self.old) {
+          streams = self.new.streams.entries;
+          ids = taken self.old.ids kind;
+        }) }
     {
         self.check_session(session)?;
         self.check_room(kind)?;
         let Some(id) = self.ids.next(kind) else {
             return Err(Refused::NoMoreIds);
         };
+        let head = self.stream_head(session, kind)?;
+        let entry = self.new_member(session, kind, head.as_slice())?;
+        self.add_member(session, id, entry)?;
+        self.ids.take(kind);
+        Ok(id)
+    }
+
+    // Returns the first bytes of a stream of a session.
+    fn stream_head(&self, session: u64, kind: StreamKind) -> Result<Vec<u8>, Refused>
+        ensures { IfOk result (λ head. Of (stream_at self.now session) (IsStreamHead kind head.items)) }
+    {
+        let Some(entry) = self.streams.get(&session) else {
+            return Err(Refused::NoStream);
+        };
         let both = kind == StreamKind::Bidirectional;
         let mut head = Vec::new(self.alloc);
-        match self.streams.get(&session) {
-            Some(entry) => match entry.writing.stream_head(both, &mut head) {
-                Ok(()) => {}
-                Err(error) => return Err(Refused::from(error)),
-            },
-            None => return Err(Refused::NoStream),
-        }
+        entry.writing.stream_head(both, &mut head)?;
+        Ok(head)
+    }
+
+    // Returns the entry of an own stream of a session, on which these bytes are queued.
+    fn new_member(&mut self, session: u64, kind: StreamKind, head: &[u8]) -> Result<Entry, Refused>
+        ensures entry { IfOk result (IsMember self.old.config session kind head.now) }
+        ensures others { self.new ≡ record self.old { tools = self.new.tools } }
+    {
         let mut writing = Writing::raw(self.alloc, self.config.queue());
-        writing.push(&mut self.tools.spares, head.as_slice())?;
+        writing.push(&mut self.tools.spares, head)?;
+        let peer = match kind {
+            StreamKind::Bidirectional => Peer::Reads,
+            StreamKind::Unidirectional => Peer::Over,
+        };
         let stream = Stream::of_session(session);
-        let peer = if both { Peer::Reads } else { Peer::Over };
         let mut entry = Entry::new(Reading::new(self.alloc, stream), peer, writing);
         entry.session = Some(session);
         entry.priority = SHARED;
         entry.told = Told::Known;
         entry.is_opened = false;
-        self.add_member(session, id, entry)?;
-        self.ids.take(kind);
-        Ok(id)
+        Ok(entry)
     }
 
     // Refuses one more own stream of a kind while as many wait for QUIC as may: an `Openable` is owed then.
     pub(super) fn check_room(&mut self, kind: StreamKind) -> Result<(), Refused>
         ensures room { result ≡ room_for self.old kind }
         ensures still { IsStill self.old self.new }
+        ensures tools { self.new.tools ≡ self.old.tools }
     {
         if self.has_place(kind) {
             return Ok(());
@@ -207,10 +235,10 @@ impl Connection {
     }
 
     // Tells that there is room again for own streams of a kind, if that is owed.
+    #[tactic(auto, using(crate::proofs::KeepsLemmas::keep, crate::proofs::GoesLemmas::goes_general))]
     fn tell_openable(&mut self, kind: StreamKind) -> Result<(), AllocError>
-        ensures own { Untouched self.old.streams.entries self.new.streams.entries }
-        ensures left { Left self.old.streams.entries self.new.streams.entries }
-        ensures config { self.new.config ≡ self.old.config }
+        ensures keeps { Keeps [] self.old self.new }
+        ensures others { self.new ≡ record self.old { events = self.new.events; pending = self.new.pending } }
     {
         let is_owed = match kind {
             StreamKind::Bidirectional => self.pending.owes_bidirectional,
@@ -226,7 +254,8 @@ impl Connection {
 
     // Notes whether an `Openable` is owed.
     fn owe_openable(&mut self, kind: StreamKind, is_owed: bool)
-        ensures { IsStill self.old self.new }
+        ensures still { IsStill self.old self.new }
+        ensures others { self.new ≡ record self.old { pending = self.new.pending } }
     {
         match kind {
             StreamKind::Bidirectional => self.pending.owes_bidirectional = is_owed,
@@ -235,10 +264,13 @@ impl Connection {
     }
 
     // Adds an own stream of a session.
+    #[tactic(auto, using(crate::proofs::KeepsLemmas::kept))]
     fn add_member(&mut self, session: u64, id: u64, entry: Entry) -> Result<(), AllocError>
         ensures own { OnOk result (UntouchedBut id self.old.streams.entries self.new.streams.entries) }
         ensures here { OnOk result (entry_at self.new.streams.entries id ≡ Some entry) }
+        ensures others { OnOk result (AreOthers id self.old.streams.entries self.new.streams.entries) }
         ensures same { OnErr result (self.new.streams.entries ≡ self.old.streams.entries) }
+        ensures view { view_of self.new ≡ record (view_of self.old) { streams = self.new.streams.entries } }
         ensures events { self.new.events ≡ self.old.events }
         ensures ids { self.new.ids ≡ self.old.ids }
     {
@@ -279,13 +311,17 @@ impl Connection {
     ///
     /// `NotAsked` if another stream was to be opened: nothing changes, and QUIC's connection has streams that are not of
     /// this one. `Memory`: nothing changes, and the call is to be made again.
+    #[tactic(auto, using(crate::proofs::KeepsLemmas::kept))]
     pub fn opened(&mut self, id: u64) -> Result<(), Refused>
         ensures asked { OnOk result (opens self.old.ids id ≡ true) }
+        ensures counted { OnOk result (id < 2 ^ 62 → self.new.ids ≡ opened_ids self.old.ids (kind_of id)) }
+        ensures here { OnOk result (is_opened_at self.new id ≡ true) }
         ensures refused { IfErr result (λ e. (e ≡ refused.Memory)
             ⊎ ((opens self.old.ids id ≡ false) × (e ≡ refused.NotAsked) × (self.new ≡ self.old))) }
         ensures own { Untouched self.old.streams.entries self.new.streams.entries }
         ensures left { Left self.old.streams.entries self.new.streams.entries }
         ensures config { self.new.config ≡ self.old.config }
+        ensures goes { GoesOn [] self.old self.new }
     {
         if !self.ids.opens(id) {
             return Err(Refused::NotAsked);
@@ -298,19 +334,22 @@ impl Connection {
     }
 
     // QUIC has opened the next stream of a kind.
+    #[tactic(auto, using(crate::proofs::KeepsLemmas::keep, crate::proofs::IdLemmas::goes_unopened))]
     fn count_opened(&mut self, kind: StreamKind)
-        ensures own { Untouched self.old.streams.entries self.new.streams.entries }
-        ensures left { Left self.old.streams.entries self.new.streams.entries }
-        ensures config { self.new.config ≡ self.old.config }
+        ensures keeps { Keeps [] self.old self.new }
+        ensures counted { self.new ≡ record self.old {
+          ids = if nat_lt (unopened self.old.ids kind) (min (next_own self.old.ids kind) (2 ^ 62))
+              then opened_ids self.old.ids kind else self.old.ids;
+        } }
     {
         self.ids.was_opened(kind);
     }
 
     // QUIC has opened an own stream.
     fn note_opened(&mut self, id: u64) -> Result<(), AllocError>
-        ensures own { Untouched self.old.streams.entries self.new.streams.entries }
-        ensures left { Left self.old.streams.entries self.new.streams.entries }
-        ensures config { self.new.config ≡ self.old.config }
+        ensures keeps { Keeps [] self.old self.new }
+        ensures ids { self.new.ids ≡ self.old.ids }
+        ensures here { OnOk result (is_opened_at self.new id ≡ true) }
     {
         if self.control.is(id) {
             self.control.is_opened = true;
@@ -328,11 +367,13 @@ impl Connection {
     }
 
     // QUIC has opened an own stream that is not critical.
-    #[tactic(auto, using(crate::proofs::OwnLemmas::untouched_set, crate::proofs::TheirsLemmas::left_set))]
     fn opened_message(&mut self, id: u64) -> Result<(), AllocError>
-        ensures own { Untouched self.old.streams.entries self.new.streams.entries }
-        ensures left { Left self.old.streams.entries self.new.streams.entries }
-        ensures config { self.new.config ≡ self.old.config }
+        ensures keeps { Keeps [] self.old self.new }
+        ensures ids { self.new.ids ≡ self.old.ids }
+        ensures here { OnOk result (opened_by (stream_at self.new id) ≡ true) }
+        ensures control { self.new.control ≡ self.old.control }
+        ensures decoder { self.new.decoder ≡ self.old.decoder }
+        ensures encoder { self.new.encoder ≡ self.old.encoder }
     {
         let Some(entry) = self.streams.get_mut(&id) else {
             return Ok(());

@@ -1,13 +1,13 @@
 //! What is told at once: a piece of content, by one look-up and without memory.
 ghost use Rattle.std.specs.Prelude.{◌≡◌, ℕ, true, false, [], Ok, ◌∷◌, None, IfOk, IfSome, OnOk, MatchOption};
-ghost use Rattle.vesgrauf.specs.Bounds.{Fits};
+ghost use Rattle.vesgrauf.specs.Keeps.{KeepsOwn};
+ghost use Rattle.vesgrauf.specs.Bounds.{KeepsBound, KeepsFit};
 ghost use Rattle.vesgrauf.specs.Progress.{IsSettled};
+ghost use Rattle.vesgrauf.specs.Told.{told_by_call, word_of, ends};
 ghost use Rattle.vesgrauf.specs.Streams.{is_known};
 ghost use Rattle.vesgrauf.specs.declared.event.Event.{Event as EventOf};
-ghost use Rattle.vesgrauf.specs.Own.{Untouched};
 ghost use Rattle.vesgrauf.specs.State.{is_over, is_last, IsAfterEnd, IsSomeOk, IsStill};
 ghost use Rattle.vesgrauf.specs.Theirs.{IsRead, ReadsOn, Tells, TellsAll, content_on, told_by, with_chunk, theirs_of};
-ghost use Rattle.vesgrauf.specs.declared.config.OnMalformed.TheVariants as chosen;
 ghost use Rattle.vesgrauf.specs.declared.entry.Peer.TheVariants as peer;
 ghost use Rattle.vesgrauf.specs.declared.input.Report.TheVariants as report;
 
@@ -33,18 +33,18 @@ struct Piece<'a> {
 impl Connection {
     // Returns the next event, as `next_event` does: a piece of content at once.
     #[inline(never)]
+    #[tactic(auto, using(crate::proofs::KeepsLemmas::hold, crate::proofs::BoundLemmas::bound))]
     pub(super) fn next_due<'a>(
         &mut self,
         input: &mut Input<'a>,
     ) -> Result<Option<Event<'a>>, AllocError>
         ensures last { IsAfterEnd self.old → IsSomeOk result (λ e. is_last e.kind ≡ true) }
         ensures over { IsAfterEnd self.old → IsAfterEnd self.new }
-        ensures own { self.old.config.on_malformed ≡ chosen.Reset
-            → Untouched self.old.streams.entries self.new.streams.entries }
+        ensures keeps { KeepsOwn (told_by_call result) self.old self.new }
         ensures told { is_over self.new ≡ false → IfOk result (λ e. TellsAll self.old.ids (told_by e)
             self.old.streams.entries input.old self.new.streams.entries input.new) }
-        ensures config { self.new.config ≡ self.old.config }
         ensures settled { result ≡ Ok None → IsSettled self.new input.new }
+        ensures bounded { is_over self.new ≡ false → OnOk result (KeepsBound self.old self.new) }
     {
         match self.piece_due(input) {
             Some(piece) => return Ok(Some(Event {
@@ -60,30 +60,30 @@ impl Connection {
     // Returns the next event, where it is no piece of content that is told at once. (In place, so that the event of a piece
     // is written where it is returned.)
     #[inline(always)]
+    #[tactic(auto, using(crate::proofs::KeepsLemmas::hold, crate::proofs::BoundLemmas::bound))]
     fn next_else<'a>(&mut self, input: &mut Input<'a>) -> Result<Option<Event<'a>>, AllocError>
         ensures last { IsAfterEnd self.old → IsSomeOk result (λ e. is_last e.kind ≡ true) }
         ensures over { IsAfterEnd self.old → IsAfterEnd self.new }
-        ensures own { self.old.config.on_malformed ≡ chosen.Reset
-            → Untouched self.old.streams.entries self.new.streams.entries }
+        ensures keeps { KeepsOwn (told_by_call result) self.old self.new }
         ensures told { is_over self.new ≡ false → IfOk result (λ e. TellsAll self.old.ids (told_by e)
             self.old.streams.entries input.old self.new.streams.entries input.new) }
-        ensures config { self.new.config ≡ self.old.config }
         ensures settled { result ≡ Ok None → IsSettled self.new input.new }
+        ensures bounded { is_over self.new ≡ false → OnOk result (KeepsBound self.old self.new) }
     {
         self.next_no_piece(input)
     }
 
     // Returns the next event: that of bytes of a stream at once, where nothing is due before them.
     #[inline(never)]
+    #[tactic(auto, using(crate::proofs::KeepsLemmas::hold, crate::proofs::BoundLemmas::bound))]
     fn next_no_piece<'a>(&mut self, input: &mut Input<'a>) -> Result<Option<Event<'a>>, AllocError>
         ensures last { IsAfterEnd self.old → IsSomeOk result (λ e. is_last e.kind ≡ true) }
         ensures over { IsAfterEnd self.old → IsAfterEnd self.new }
-        ensures own { self.old.config.on_malformed ≡ chosen.Reset
-            → Untouched self.old.streams.entries self.new.streams.entries }
+        ensures keeps { KeepsOwn (told_by_call result) self.old self.new }
         ensures told { is_over self.new ≡ false → IfOk result (λ e. TellsAll self.old.ids (told_by e)
             self.old.streams.entries input.old self.new.streams.entries input.new) }
-        ensures config { self.new.config ≡ self.old.config }
         ensures settled { result ≡ Ok None → IsSettled self.new input.new }
+        ensures bounded { is_over self.new ≡ false → OnOk result (KeepsBound self.old self.new) }
     {
         if self.is_quiet() {
             match input.report {
@@ -96,14 +96,16 @@ impl Connection {
 
     // Returns the piece of content that is next in bytes of a stream, where nothing is due before them.
     #[inline(always)]
+    #[tactic(auto, using(crate::proofs::KeepsLemmas::hold, crate::proofs::BoundLemmas::bound))]
     fn piece_due<'a>(&mut self, input: &mut Input<'a>) -> Option<Piece<'a>>
-        ensures own { Untouched self.old.streams.entries self.new.streams.entries }
         ensures tells { IfSome result (λ p. Tells (content_on p.stream p.bytes.now)
             self.old.streams.entries input.old self.new.streams.entries input.new) }
         ensures before { IfSome result (λ p. is_over self.old ≡ false) }
         ensures still { result ≡ None → IsStill self.old self.new }
         ensures none { result ≡ None → input.new ≡ input.old }
-        ensures config { self.new.config ≡ self.old.config }
+        ensures keeps { IfSome result (λ p. (e : EventOf) → e.stream ≡ p.stream → ends (word_of e.kind) ≡ false
+            → KeepsOwn (e ∷ []) self.old self.new) }
+        ensures bounded { KeepsBound self.old self.new }
     {
         if !self.is_quiet() {
             return None;
@@ -117,14 +119,15 @@ impl Connection {
     // Returns the piece of content that is next in bytes of a stream, if the stream does not end after them. Nothing
     // follows it but more bytes, or the end.
     #[inline(always)]
-    #[tactic(auto, using(crate::proofs::OwnLemmas::untouched_refl, crate::proofs::PieceLemmas::piece_tells))]
+    #[tactic(auto, using(crate::proofs::PieceLemmas::piece_tells, crate::proofs::BoundLemmas::bound))]
     fn piece_at_once<'a>(&mut self, id: u64, input: &mut Input<'a>) -> Option<Piece<'a>>
-        ensures own { Untouched self.old.streams.entries self.new.streams.entries }
         ensures tells { input.old.report ≡ report.Stream id → IfSome result (λ p. Tells (content_on p.stream p.bytes.now)
             self.old.streams.entries input.old self.new.streams.entries input.new) }
         ensures still { result ≡ None → IsStill self.old self.new }
         ensures none { result ≡ None → input.new ≡ input.old }
-        ensures config { self.new.config ≡ self.old.config }
+        ensures keeps { IfSome result (λ p. (e : EventOf) → e.stream ≡ p.stream → ends (word_of e.kind) ≡ false
+            → KeepsOwn (e ∷ []) self.old self.new) }
+        ensures bounded { KeepsBound self.old self.new }
     {
         if input.chunk.is_last() {
             return None;
@@ -137,15 +140,16 @@ impl Connection {
 
     // Returns the piece of content that is next in bytes of a stream.
     #[inline(always)]
-    #[tactic(auto, using(crate::proofs::OwnLemmas::untouched_set, crate::proofs::ReadsLemmas::reads_set, std::proofs::lemmas::Map::Steps::set_value_same))]
+    #[tactic(auto, using(crate::proofs::ReadsLemmas::reads_set, crate::proofs::PieceLemmas::piece_keeps, std::proofs::lemmas::Map::Steps::set_value_same, crate::proofs::BoundLemmas::bound))]
     fn piece_in<'a>(&mut self, id: u64, chunk: &mut Chunk<'a>) -> Option<Piece<'a>>
-        ensures own { Untouched self.old.streams.entries self.new.streams.entries }
         ensures stream { IfSome result (λ p. p.stream ≡ id) }
         ensures reads { IfSome result (λ p. ReadsOn id p.bytes.now self.old.streams.entries chunk.old
             self.new.streams.entries chunk.new) }
         ensures still { result ≡ None → IsStill self.old self.new }
         ensures none { result ≡ None → chunk.new ≡ chunk.old }
-        ensures config { self.new.config ≡ self.old.config }
+        ensures keeps { IfSome result (λ p. (e : EventOf) → e.stream ≡ p.stream → ends (word_of e.kind) ≡ false
+            → KeepsOwn (e ∷ []) self.old self.new) }
+        ensures bounded { KeepsBound self.old self.new }
     {
         let Some(entry) = self.streams.get_mut(&id) else {
             return None;
@@ -165,7 +169,7 @@ impl Entry {
     // Returns the piece of content that is next in the input, if pieces of the stream are told as they come, and how many
     // bytes are read.
     #[inline(always)]
-    #[tactic(auto, using(crate::proofs::PieceLemmas::looked_piece, crate::proofs::BoundLemmas::same_kept_fits))]
+    #[tactic(auto, using(crate::proofs::PieceLemmas::looked_piece, crate::proofs::BoundLemmas::same_keeps))]
     fn next_piece<'a>(
         &mut self,
         shared: &mut Shared,
@@ -178,7 +182,7 @@ impl Entry {
             (with_chunk (theirs_of self.new) chunk.new)) }
         ensures known { IfSome result (λ p. is_known self.old.told ≡ true) }
         ensures told { self.new.told ≡ self.old.told }
-        ensures fits { (most : ℕ) → Fits most (theirs_of self.old) → Fits most (theirs_of self.new) }
+        ensures fits { KeepsFit (theirs_of self.old) (theirs_of self.new) }
     {
         if !self.gives_pieces() {
             return None;

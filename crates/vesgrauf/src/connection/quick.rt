@@ -1,12 +1,13 @@
 //! What is read at once, where nothing else is due.
 ghost use Rattle.std.specs.Prelude.{◌≡◌, true, false, [], Ok, None, IfOk, OnOk};
+ghost use Rattle.vesgrauf.specs.Bounds.{KeepsBound};
+ghost use Rattle.vesgrauf.specs.Keeps.{KeepsOwn};
 ghost use Rattle.vesgrauf.specs.Progress.{IsSettled, IsQuiet, IsStill};
 ghost use Rattle.vesgrauf.specs.State.{is_over};
-ghost use Rattle.vesgrauf.specs.Own.{Untouched};
 ghost use Rattle.vesgrauf.specs.Theirs.{ReadsOn, Passes, Tells, TellsAll, told_in, told_if, told_by, content_if, content_in, content_found};
+ghost use Rattle.vesgrauf.specs.Told.{said_by, said_if_ok, told_by_call};
 ghost use Rattle.vesgrauf.specs.declared.input.Report.TheVariants as report;
 ghost use Rattle.vesgrauf_stream.specs.Reading.{bytes_of};
-ghost use Rattle.vesgrauf.specs.declared.config.OnMalformed.TheVariants as chosen;
 
 use crate::connection::{Connection, Step, Stop, internal};
 use crate::event::Event;
@@ -56,18 +57,18 @@ impl Connection {
     }
 
     // Returns the next event of bytes of a stream, as `next_by_steps` does, where nothing is due before them.
+    #[tactic(auto, using(crate::proofs::KeepsLemmas::hold, crate::proofs::BoundLemmas::bound, crate::proofs::BoundLemmas::bound_left))]
     pub(super) fn read_at_once<'a>(
         &mut self,
         id: u64,
         input: &mut Input<'a>,
     ) -> Result<Option<Event<'a>>, AllocError>
-        ensures own { self.old.config.on_malformed ≡ chosen.Reset
-            → Untouched self.old.streams.entries self.new.streams.entries }
+        ensures keeps { KeepsOwn (told_by_call result) self.old self.new }
         ensures told { input.old.report ≡ report.Stream id → is_over self.new ≡ false
             → IfOk result (λ e. TellsAll self.old.ids (told_by e)
             self.old.streams.entries input.old self.new.streams.entries input.new) }
-        ensures config { self.new.config ≡ self.old.config }
         ensures settled { result ≡ Ok None → IsSettled self.new input.new }
+        ensures bounded { is_over self.new ≡ false → OnOk result (KeepsBound self.old self.new) }
     {
         if input.chunk.is_last() {
             return self.next_by_steps(input);
@@ -79,18 +80,18 @@ impl Connection {
     }
 
     // Returns the next event of bytes of a stream that is not said to end.
+    #[tactic(auto, using(crate::proofs::KeepsLemmas::hold, crate::proofs::BoundLemmas::bound, crate::proofs::BoundLemmas::bound_left))]
     fn read_now<'a>(
         &mut self,
         id: u64,
         input: &mut Input<'a>,
     ) -> Result<Option<Event<'a>>, AllocError>
-        ensures own { self.old.config.on_malformed ≡ chosen.Reset
-            → Untouched self.old.streams.entries self.new.streams.entries }
+        ensures keeps { KeepsOwn (told_by_call result) self.old self.new }
         ensures told { input.old.report ≡ report.Stream id → is_over self.new ≡ false
             → IfOk result (λ e. TellsAll self.old.ids (told_by e)
             self.old.streams.entries input.old self.new.streams.entries input.new) }
-        ensures config { self.new.config ≡ self.old.config }
         ensures settled { result ≡ Ok None → IsSettled self.new input.new }
+        ensures bounded { is_over self.new ≡ false → OnOk result (KeepsBound self.old self.new) }
     {
         match self.step_at_once(id, input) {
             Ok(None) => self.next_by_steps(input),
@@ -106,13 +107,13 @@ impl Connection {
     }
 
     // Takes a step by bytes of a stream that is read, of which nothing is kept and that waits for nothing.
+    #[tactic(auto, using(crate::proofs::KeepsLemmas::hold, crate::proofs::BoundLemmas::bound, crate::proofs::BoundLemmas::bound_left))]
     fn step_at_once<'a>(&mut self, id: u64, input: &mut Input<'a>) -> Result<Option<Step<'a>>, Stop>
-        ensures own { self.old.config.on_malformed ≡ chosen.Reset
-            → Untouched self.old.streams.entries self.new.streams.entries }
+        ensures keeps { KeepsOwn (said_if_ok result) self.old self.new }
         ensures tells { input.old.report ≡ report.Stream id → IfOk result (λ s. Tells (told_if s)
             self.old.streams.entries input.old self.new.streams.entries input.new) }
         ensures none { result ≡ Ok None → (input.new ≡ input.old) × (self.new.ids ≡ self.old.ids) }
-        ensures config { self.new.config ≡ self.old.config }
+        ensures bounded { OnOk result (KeepsBound self.old self.new) }
     {
         let len = input.chunk.len();
         match self.read_plain(id, &mut input.chunk)? {
@@ -125,14 +126,14 @@ impl Connection {
     }
 
     // Returns what is found in bytes of a stream that is read, of which nothing is kept and that waits for nothing.
-    #[tactic(auto, using(crate::proofs::OwnLemmas::untouched_set, crate::proofs::ReadsLemmas::reads_set, crate::proofs::ReadsLemmas::left_reads, crate::proofs::StepLemmas::left_itself))]
+    #[tactic(auto, using(crate::proofs::KeepsLemmas::hold, crate::proofs::ReadsLemmas::reads_set, crate::proofs::TellsLemmas::left_reads, crate::proofs::StepLemmas::left_itself, crate::proofs::BoundLemmas::bound, crate::proofs::BoundLemmas::bound_left))]
     fn read_plain<'a>(&mut self, id: u64, chunk: &mut Chunk<'a>) -> Result<Option<Found<'a>>, Stop>
-        ensures own { Untouched self.old.streams.entries self.new.streams.entries }
+        ensures keeps { KeepsOwn [] self.old self.new }
         ensures reads { IfOk result (λ found. ReadsOn id (content_if found) self.old.streams.entries chunk.old
             self.new.streams.entries chunk.new) }
         ensures none { result ≡ Ok None → chunk.new ≡ chunk.old }
         ensures ids { self.new.ids ≡ self.old.ids }
-        ensures config { self.new.config ≡ self.old.config }
+        ensures bounded { OnOk result (KeepsBound self.old self.new) }
     {
         let Some(entry) = self.streams.get_mut(&id) else {
             return Ok(None);
@@ -141,19 +142,18 @@ impl Connection {
     }
 
     // Handles what was found in bytes of a stream.
-    #[tactic(auto, using(crate::proofs::ReadsLemmas::more_passes))]
+    #[tactic(auto, using(crate::proofs::KeepsLemmas::hold, crate::proofs::TellsLemmas::more_passes, crate::proofs::BoundLemmas::bound, crate::proofs::BoundLemmas::bound_left))]
     fn found_in_input<'a>(
         &mut self,
         id: u64,
         found: Found<'a>,
         input: &mut Input<'a>,
     ) -> Result<Step<'a>, Stop>
-        ensures own { self.old.config.on_malformed ≡ chosen.Reset
-            → Untouched self.old.streams.entries self.new.streams.entries }
+        ensures keeps { KeepsOwn (said_by result) self.old self.new }
         ensures passes { input.old.report ≡ report.Stream id
             → IfOk result (λ s. Passes id (content_found found.entry) (told_in s)
             self.old.streams.entries input.old self.new.streams.entries input.new) }
-        ensures config { self.new.config ≡ self.old.config }
+        ensures bounded { OnOk result (KeepsBound self.old self.new) }
     {
         match found {
             Found::Heard(heard) => self.heard_at_once(id, heard, input),
@@ -162,18 +162,18 @@ impl Connection {
     }
 
     // Handles what was heard in bytes of a stream: a piece of content at once.
+    #[tactic(auto, using(crate::proofs::KeepsLemmas::hold, crate::proofs::BoundLemmas::bound, crate::proofs::BoundLemmas::bound_left))]
     fn heard_at_once<'a>(
         &mut self,
         id: u64,
         heard: Heard<'a>,
         input: &mut Input<'a>,
     ) -> Result<Step<'a>, Stop>
-        ensures own { self.old.config.on_malformed ≡ chosen.Reset
-            → Untouched self.old.streams.entries self.new.streams.entries }
+        ensures keeps { KeepsOwn (said_by result) self.old self.new }
         ensures passes { input.old.report ≡ report.Stream id
             → IfOk result (λ s. Passes id (content_in heard.entry) (told_in s)
             self.old.streams.entries input.old self.new.streams.entries input.new) }
-        ensures config { self.new.config ≡ self.old.config }
+        ensures bounded { OnOk result (KeepsBound self.old self.new) }
     {
         match heard {
             Heard::Data(bytes) => self.piece_came(id, bytes, input),
@@ -183,35 +183,35 @@ impl Connection {
     }
 
     // Tells a piece of content. Nothing follows it but more bytes, or the end.
-    #[tactic(auto, using(crate::proofs::ReadsLemmas::taken_passes))]
+    #[tactic(auto, using(crate::proofs::KeepsLemmas::hold, crate::proofs::TellsLemmas::taken_passes, crate::proofs::BoundLemmas::bound, crate::proofs::BoundLemmas::bound_left))]
     fn piece_came<'a>(
         &mut self,
         id: u64,
         bytes: Bytes<'a>,
         input: &mut Input<'a>,
     ) -> Result<Step<'a>, Stop>
-        ensures own { Untouched self.old.streams.entries self.new.streams.entries }
+        ensures keeps { KeepsOwn (said_by result) self.old self.new }
         ensures passes { IfOk result (λ s. Passes id (bytes_of bytes.entry) (told_in s)
             self.old.streams.entries input.old self.new.streams.entries input.new) }
-        ensures config { self.new.config ≡ self.old.config }
+        ensures bounded { OnOk result (KeepsBound self.old self.new) }
     {
         input.end_if_read(self.held <= self.config.receive_buffer_all);
         self.content_came(id, bytes)
     }
 
     // Handles what was heard in bytes of a stream: anything but a piece of content.
+    #[tactic(auto, using(crate::proofs::KeepsLemmas::hold, crate::proofs::BoundLemmas::bound, crate::proofs::BoundLemmas::bound_left))]
     fn heard_else<'a>(
         &mut self,
         id: u64,
         heard: Heard<'a>,
         input: &mut Input<'a>,
     ) -> Result<Step<'a>, Stop>
-        ensures own { self.old.config.on_malformed ≡ chosen.Reset
-            → Untouched self.old.streams.entries self.new.streams.entries }
+        ensures keeps { KeepsOwn (said_by result) self.old self.new }
         ensures passes { input.old.report ≡ report.Stream id
             → IfOk result (λ s. Passes id (content_in heard.entry) (told_in s)
             self.old.streams.entries input.old self.new.streams.entries input.new) }
-        ensures config { self.new.config ≡ self.old.config }
+        ensures bounded { OnOk result (KeepsBound self.old self.new) }
     {
         // (without memory for it, what the section says would be lost)
         if self.shared.acknowledge(id, &mut self.told).is_err() {

@@ -1,12 +1,14 @@
 //! Bytes of streams that came, and those that wait.
 ghost use Rattle.std.specs.Prelude.{◌≡◌, ◌≤◌, false, true, [], length, IfOk, OnOk};
+ghost use Rattle.vesgrauf.specs.Bounds.{Fits, KeepsBound, most_kept};
+ghost use Rattle.vesgrauf.specs.Keeps.{Keeps, KeepsOwn};
 ghost use Rattle.vesgrauf.specs.State.{IsStill};
-ghost use Rattle.vesgrauf.specs.Own.{Untouched};
-ghost use Rattle.vesgrauf.specs.Theirs.{Left, Same, ReadsOn, ReadsKept, Hands, Passes, TellsKept, Tells, Gone, theirs_at, told_in, content_in, content_by, content_found};
+ghost use Rattle.vesgrauf.specs.Theirs.{Left, OnlyAt, Same, ReadsOn, ReadsKept, Hands, Passes, TellsKept, Tells, Gone, theirs_at, told_in, content_in, content_by, content_found};
+ghost use Rattle.vesgrauf.specs.Told.{said_by};
 ghost use Rattle.vesgrauf.specs.declared.input.Report.TheVariants as report;
-ghost use Rattle.vesgrauf.specs.declared.config.OnMalformed.TheVariants as chosen;
 
 use crate::connection::failing::EXCESSIVE_LOAD;
+use crate::connection::heard::{Joining, joining_of};
 use crate::connection::{Connection, Step, Stop, internal};
 use crate::entry::Peer;
 use crate::event::Why;
@@ -20,18 +22,19 @@ use wtp_connection::fault::Fault as StreamsFault;
 use wtp_webtransport::event::Event as Said;
 use wtp_webtransport::fault::Fault;
 
+#[tactic(auto, using(crate::proofs::KeepsLemmas::keep))]
 impl Connection {
     // Takes in bytes of a stream.
+    #[tactic(auto, using(crate::proofs::KeepsLemmas::hold, crate::proofs::BoundLemmas::bound, crate::proofs::BoundLemmas::bound_left))]
     pub(super) fn stream_came<'a>(
         &mut self,
         id: u64,
         input: &mut Input<'a>,
     ) -> Result<Step<'a>, Stop>
-        ensures own { self.old.config.on_malformed ≡ chosen.Reset
-            → Untouched self.old.streams.entries self.new.streams.entries }
+        ensures keeps { KeepsOwn (said_by result) self.old self.new }
         ensures tells { input.old.report ≡ report.Stream id → IfOk result (λ s. Tells (told_in s)
             self.old.streams.entries input.old self.new.streams.entries input.new) }
-        ensures config { self.new.config ≡ self.old.config }
+        ensures bounded { OnOk result (KeepsBound self.old self.new) }
     {
         self.instruct(id, input)?;
         self.note_end(id, input.chunk.is_last());
@@ -39,14 +42,12 @@ impl Connection {
     }
 
     // Passes bytes to the own encoder that are instructions for it.
-    #[tactic(auto, using(crate::proofs::ReadsLemmas::left_same, crate::proofs::StepLemmas::left_itself))]
+    #[tactic(auto, using(crate::proofs::KeepsLemmas::keep, crate::proofs::ReadsLemmas::left_same, crate::proofs::StepLemmas::left_itself))]
     fn instruct(&mut self, id: u64, input: &mut Input<'_>) -> Result<(), Stop>
-        ensures own { Untouched self.old.streams.entries self.new.streams.entries }
-        ensures left { Left self.old.streams.entries self.new.streams.entries }
+        ensures keeps { Keeps [] self.old self.new }
         ensures same { input.old.report ≡ report.Stream id
             → OnOk result (Same self.old.streams.entries input.old self.new.streams.entries input.new) }
         ensures report { input.new.report ≡ input.old.report }
-        ensures config { self.new.config ≡ self.old.config }
     {
         if self.is_decoder(id) {
             self.read_decoder_stream(id, input)?;
@@ -55,13 +56,12 @@ impl Connection {
     }
 
     // Takes in bytes of a stream that are not for the own encoder.
-    #[tactic(auto, using(crate::proofs::ReadsLemmas::more_tells, crate::proofs::ReadsLemmas::left_more_tells))]
+    #[tactic(auto, using(crate::proofs::KeepsLemmas::hold, crate::proofs::TellsLemmas::more_tells, crate::proofs::TellsLemmas::left_more_tells, crate::proofs::BoundLemmas::bound, crate::proofs::BoundLemmas::bound_left))]
     fn bytes_came<'a>(&mut self, id: u64, input: &mut Input<'a>) -> Result<Step<'a>, Stop>
-        ensures own { self.old.config.on_malformed ≡ chosen.Reset
-            → Untouched self.old.streams.entries self.new.streams.entries }
+        ensures keeps { KeepsOwn (said_by result) self.old self.new }
         ensures tells { input.old.report ≡ report.Stream id → IfOk result (λ s. Tells (told_in s)
             self.old.streams.entries input.old self.new.streams.entries input.new) }
-        ensures config { self.new.config ≡ self.old.config }
+        ensures bounded { OnOk result (KeepsBound self.old self.new) }
     {
         if !self.is_read(id) {
             self.drop_input(id, input)?;
@@ -76,11 +76,8 @@ impl Connection {
     }
 
     // Notes whether the end of the peer's half of a stream came.
-    #[tactic(auto, using(crate::proofs::OwnLemmas::untouched_set, crate::proofs::TheirsLemmas::left_set))]
     fn note_end(&mut self, id: u64, is_last: bool)
-        ensures own { Untouched self.old.streams.entries self.new.streams.entries }
-        ensures left { Left self.old.streams.entries self.new.streams.entries }
-        ensures config { self.new.config ≡ self.old.config }
+        ensures keeps { Keeps [] self.old self.new }
     {
         if !is_last {
             return;
@@ -91,32 +88,39 @@ impl Connection {
     }
 
     // Drops bytes of a stream that is not read.
-    #[tactic(auto, using(crate::proofs::ReadsLemmas::dropped_same))]
+    #[tactic(auto, using(crate::proofs::KeepsLemmas::keep, crate::proofs::KeepsLemmas::keeps_left, crate::proofs::TellsLemmas::dropped_same))]
     fn drop_input<'a>(&mut self, id: u64, input: &mut Input<'a>) -> Result<(), AllocError>
-        ensures own { Untouched self.old.streams.entries self.new.streams.entries }
-        ensures left { Left self.old.streams.entries self.new.streams.entries }
+        ensures keeps { Keeps [] self.old self.new }
         ensures same { input.old.report ≡ report.Stream id → theirs_at self.old.streams.entries id ≡ Gone
             → OnOk result (Same self.old.streams.entries input.old self.new.streams.entries input.new) }
-        ensures config { self.new.config ≡ self.old.config }
     {
-        if input.chunk.is_last() {
-            self.forget_stop(id);
-            if self.peer_of(id) == Peer::Drops {
-                self.peer_is_over(id)?;
-            }
-        }
+        self.end_dropped(id, input.chunk.is_last())?;
         input.drop_rest();
         input.report = Report::Nothing;
         Ok(())
     }
 
+    // The end of a half of the peer that is not read may have come: then the half is over.
+    fn end_dropped(&mut self, id: u64, is_last: bool) -> Result<(), AllocError>
+        ensures keeps { Keeps [] self.old self.new }
+    {
+        if !is_last {
+            return Ok(());
+        }
+        self.forget_stop(id);
+        if self.peer_of(id) == Peer::Drops {
+            return self.peer_is_over(id);
+        }
+        Ok(())
+    }
+
     // Reads what is next in bytes of a stream.
+    #[tactic(auto, using(crate::proofs::KeepsLemmas::hold, crate::proofs::BoundLemmas::bound, crate::proofs::BoundLemmas::bound_left))]
     fn read_input<'a>(&mut self, id: u64, input: &mut Input<'a>) -> Result<Step<'a>, Stop>
-        ensures own { self.old.config.on_malformed ≡ chosen.Reset
-            → Untouched self.old.streams.entries self.new.streams.entries }
+        ensures keeps { KeepsOwn (said_by result) self.old self.new }
         ensures tells { input.old.report ≡ report.Stream id → IfOk result (λ s. Tells (told_in s)
             self.old.streams.entries input.old self.new.streams.entries input.new) }
-        ensures config { self.new.config ≡ self.old.config }
+        ensures bounded { OnOk result (KeepsBound self.old self.new) }
     {
         let len = input.chunk.len();
         let heard = self.read(id, &mut input.chunk)?;
@@ -128,19 +132,18 @@ impl Connection {
     }
 
     // Handles what was heard in bytes of a stream.
-    #[tactic(auto, using(crate::proofs::ReadsLemmas::same_more_passes, crate::proofs::ReadsLemmas::left_more_passes, crate::proofs::ReadsLemmas::hands_passes))]
+    #[tactic(auto, using(crate::proofs::KeepsLemmas::hold, crate::proofs::TellsLemmas::same_more_passes, crate::proofs::TellsLemmas::left_more_passes, crate::proofs::ReadsLemmas::hands_passes, crate::proofs::BoundLemmas::bound, crate::proofs::BoundLemmas::bound_left))]
     pub(super) fn heard_in_input<'a>(
         &mut self,
         id: u64,
         heard: Heard<'a>,
         input: &mut Input<'a>,
     ) -> Result<Step<'a>, Stop>
-        ensures own { self.old.config.on_malformed ≡ chosen.Reset
-            → Untouched self.old.streams.entries self.new.streams.entries }
+        ensures keeps { KeepsOwn (said_by result) self.old self.new }
         ensures passes { input.old.report ≡ report.Stream id
             → IfOk result (λ s. Passes id (content_in heard.entry) (told_in s)
             self.old.streams.entries input.old self.new.streams.entries input.new) }
-        ensures config { self.new.config ≡ self.old.config }
+        ensures bounded { OnOk result (KeepsBound self.old self.new) }
     {
         match heard {
             Heard::Event(Said::More) => {
@@ -159,11 +162,10 @@ impl Connection {
     }
 
     // Reads what is kept of a stream.
+    #[tactic(auto, using(crate::proofs::KeepsLemmas::hold))]
     pub(super) fn read_kept<'a>(&mut self, id: u64) -> Result<Step<'a>, Stop>
-        ensures own { self.old.config.on_malformed ≡ chosen.Reset
-            → Untouched self.old.streams.entries self.new.streams.entries }
+        ensures keeps { KeepsOwn (said_by result) self.old self.new }
         ensures tells { IfOk result (λ s. TellsKept (told_in s) self.old.streams.entries self.new.streams.entries) }
-        ensures config { self.new.config ≡ self.old.config }
     {
         if !self.is_read(id) || self.is_paused(id) {
             self.pending.resumed = None;
@@ -176,13 +178,11 @@ impl Connection {
     }
 
     // Handles what was heard in what is kept of a stream.
-    #[tactic(auto, using(crate::proofs::ReadsLemmas::more_hands))]
+    #[tactic(auto, using(crate::proofs::KeepsLemmas::hold, crate::proofs::TellsLemmas::more_hands))]
     fn heard_in_kept<'a>(&mut self, id: u64, heard: Heard<'a>) -> Result<Step<'a>, Stop>
-        ensures own { self.old.config.on_malformed ≡ chosen.Reset
-            → Untouched self.old.streams.entries self.new.streams.entries }
+        ensures keeps { KeepsOwn (said_by result) self.old self.new }
         ensures hands { IfOk result (λ s. Hands id (content_in heard.entry) (told_in s)
             self.old.streams.entries self.new.streams.entries) }
-        ensures config { self.new.config ≡ self.old.config }
     {
         match heard {
             Heard::Event(Said::More) => {
@@ -201,11 +201,11 @@ impl Connection {
     }
 
     // Returns what is heard next in what is kept of a stream.
+    #[tactic(auto, using(crate::proofs::KeepsLemmas::hold))]
     fn read_rest<'a>(&mut self, id: u64) -> Result<Option<Heard<'a>>, Stop>
-        ensures own { Untouched self.old.streams.entries self.new.streams.entries }
+        ensures keeps { KeepsOwn [] self.old self.new }
         ensures reads { IfOk result (λ heard. ReadsKept id (content_by heard)
             self.old.streams.entries self.new.streams.entries) }
-        ensures config { self.new.config ≡ self.old.config }
     {
         let mut nothing = Chunk::new(&[], false);
         let heard = self.read(id, &mut nothing)?;
@@ -217,12 +217,12 @@ impl Connection {
     }
 
     // Returns what is heard next on a stream: nothing yet, if more of its bytes are to be looked at.
-    #[tactic(auto, using(crate::proofs::ReadsLemmas::reads_left, crate::proofs::ReadsLemmas::left_reads, crate::proofs::OwnLemmas::untouched_set))]
+    #[tactic(auto, using(crate::proofs::KeepsLemmas::hold, crate::proofs::TellsLemmas::reads_left, crate::proofs::TellsLemmas::left_reads, crate::proofs::BoundLemmas::bound, crate::proofs::BoundLemmas::bound_left))]
     fn read<'a>(&mut self, id: u64, chunk: &mut Chunk<'a>) -> Result<Option<Heard<'a>>, Stop>
-        ensures own { Untouched self.old.streams.entries self.new.streams.entries }
+        ensures keeps { KeepsOwn [] self.old self.new }
         ensures reads { IfOk result (λ heard. ReadsOn id (content_by heard) self.old.streams.entries chunk.old
             self.new.streams.entries chunk.new) }
-        ensures config { self.new.config ≡ self.old.config }
+        ensures bounded { OnOk result (KeepsBound self.old self.new) }
     {
         if let Some(session) = self.session_awaited(id) {
             let event = self.join(id, session)?;
@@ -241,12 +241,12 @@ impl Connection {
     }
 
     // Returns what is found next on a stream, and by how many bytes QUIC's windows are then to be extended.
-    #[tactic(auto, using(crate::proofs::OwnLemmas::untouched_set, crate::proofs::ReadsLemmas::reads_set, crate::proofs::ReadsLemmas::left_reads, crate::proofs::StepLemmas::left_itself))]
+    #[tactic(auto, using(crate::proofs::KeepsLemmas::hold, crate::proofs::ReadsLemmas::reads_set, crate::proofs::TellsLemmas::left_reads, crate::proofs::StepLemmas::left_itself, crate::proofs::BoundLemmas::bound))]
     fn look<'a>(&mut self, id: u64, chunk: &mut Chunk<'a>) -> Result<(Found<'a>, usize), Stop>
-        ensures own { Untouched self.old.streams.entries self.new.streams.entries }
+        ensures keeps { KeepsOwn [] self.old self.new }
         ensures reads { IfOk result (λ r. ReadsOn id (content_found r.0) self.old.streams.entries chunk.old
             self.new.streams.entries chunk.new) }
-        ensures config { self.new.config ≡ self.old.config }
+        ensures bounded { OnOk result (KeepsBound self.old self.new) }
     {
         let Some(entry) = self.streams.get_mut(&id) else {
             return Ok((Found::Again, 0));
@@ -263,9 +263,7 @@ impl Connection {
 
     // Extends QUIC's windows by bytes that had waited.
     pub(super) fn credit(&mut self, id: u64, len: usize) -> Result<(), AllocError>
-        ensures own { Untouched self.old.streams.entries self.new.streams.entries }
-        ensures left { Left self.old.streams.entries self.new.streams.entries }
-        ensures config { self.new.config ≡ self.old.config }
+        ensures keeps { Keeps [] self.old self.new }
     {
         if len > 0 {
             self.outputs.push_back(Output::Credit(id, len))?;
@@ -289,13 +287,24 @@ impl Connection {
 
     // Keeps the bytes of the input, whose stream needs more, waits or is paused. QUIC's windows are extended by at most
     // `most` of them.
-    #[tactic(auto, using(crate::proofs::OwnLemmas::untouched_set, crate::proofs::TheirsLemmas::left_set, crate::proofs::ReadsLemmas::keep_set, crate::proofs::ReadsLemmas::same_left))]
+    #[tactic(auto, using(crate::proofs::TellsLemmas::same_left, crate::proofs::BoundLemmas::bound_only))]
     fn keep<'a>(&mut self, id: u64, input: &mut Input<'a>, most: usize) -> Result<(), Stop>
-        ensures own { self.old.config.on_malformed ≡ chosen.Reset
-            → Untouched self.old.streams.entries self.new.streams.entries }
+        ensures keeps { KeepsOwn [] self.old self.new }
         ensures same { input.old.report ≡ report.Stream id
             → OnOk result (Same self.old.streams.entries input.old self.new.streams.entries input.new) }
-        ensures config { self.new.config ≡ self.old.config }
+        ensures bounded { OnOk result (KeepsBound self.old self.new) }
+    {
+        self.keep_input(id, input, most)?;
+        self.check_kept(id)
+    }
+
+    // Keeps the bytes of the input, however many are kept already.
+    #[tactic(auto, using(crate::proofs::KeepsLemmas::hold, crate::proofs::ReadsLemmas::keep_set, crate::proofs::TellsLemmas::only_set, crate::proofs::TellsLemmas::only_none))]
+    fn keep_input<'a>(&mut self, id: u64, input: &mut Input<'a>, most: usize) -> Result<(), Stop>
+        ensures keeps { KeepsOwn [] self.old self.new }
+        ensures same { input.old.report ≡ report.Stream id
+            → OnOk result (Same self.old.streams.entries input.old self.new.streams.entries input.new) }
+        ensures only { OnlyAt id self.old.streams.entries self.new.streams.entries }
     {
         let Some(entry) = self.streams.get_mut(&id) else {
             input.report = Report::Nothing;
@@ -310,56 +319,93 @@ impl Connection {
         let after = entry.credited();
         input.credit = input.credit.saturating_add(credit);
         self.held = counted(self.held, before, after);
-        self.check_kept(id)
+        Ok(())
     }
 
     // Extends QUIC's windows by all that is kept of a stream: it is a frame that is cut, and the rest is to come.
-    #[tactic(auto, using(crate::proofs::OwnLemmas::untouched_set, crate::proofs::TheirsLemmas::left_set))]
+    #[tactic(auto, using(crate::proofs::KeepsLemmas::hold))]
     fn credit_kept(&mut self, id: u64) -> Result<(), Stop>
-        ensures own { self.old.config.on_malformed ≡ chosen.Reset
-            → Untouched self.old.streams.entries self.new.streams.entries }
+        ensures keeps { KeepsOwn [] self.old self.new }
         ensures left { Left self.old.streams.entries self.new.streams.entries }
-        ensures config { self.new.config ≡ self.old.config }
     {
-        let Some(entry) = self.streams.get_mut(&id) else {
-            return Ok(());
-        };
-        let owed = entry.withheld;
+        let owed = self.take_withheld(id);
         if owed == 0 {
             return Ok(());
         }
-        entry.withheld = 0;
-        self.count_held(0, owed);
-        self.credit(id, owed)?;
+        self.credit_held(id, owed)?;
         self.check_kept(id)
     }
 
+    // Holds nothing of a stream back any more. Returns how many bytes were.
+    fn take_withheld(&mut self, id: u64) -> usize
+        ensures keeps { Keeps [] self.old self.new }
+    {
+        let Some(entry) = self.streams.get_mut(&id) else {
+            return 0;
+        };
+        let owed = entry.withheld;
+        entry.withheld = 0;
+        owed
+    }
+
+    // Extends QUIC's windows by bytes of a stream that were held back, and counts them as kept.
+    fn credit_held(&mut self, id: u64, owed: usize) -> Result<(), AllocError>
+        ensures keeps { Keeps [] self.old self.new }
+    {
+        self.held = counted(self.held, 0, owed);
+        self.credit(id, owed)
+    }
+
     // Checks the bounds of what is kept of a stream, and of all.
-    #[tactic(auto, using(crate::proofs::OwnLemmas::untouched_set, crate::proofs::TheirsLemmas::left_set))]
+    #[tactic(auto, using(crate::proofs::KeepsLemmas::hold, crate::proofs::BoundLemmas::gone_fits))]
     fn check_kept(&mut self, id: u64) -> Result<(), Stop>
-        ensures own { self.old.config.on_malformed ≡ chosen.Reset
-            → Untouched self.old.streams.entries self.new.streams.entries }
+        ensures keeps { KeepsOwn [] self.old self.new }
         ensures left { Left self.old.streams.entries self.new.streams.entries }
-        ensures config { self.new.config ≡ self.old.config }
+        ensures fits { OnOk result (Fits (most_kept self.old.config) (theirs_at self.new.streams.entries id)) }
     {
         if self.held > self.config.receive_buffer_all {
             return Err(Stop::from(EXCESSIVE_LOAD));
         }
-        let Some(entry) = self.streams.get_mut(&id) else {
+        if self.has_room_for_kept(id) {
             return Ok(());
+        }
+        let fault = self.overflow(id);
+        self.overflowed(id, fault)
+    }
+
+    // Returns whether no more of a stream is kept than may be.
+    #[tactic(auto, using(crate::proofs::BoundLemmas::kept_fits))]
+    fn has_room_for_kept(&self, id: u64) -> bool
+        ensures { result ≡ true → Fits (most_kept self.now.config) (theirs_at self.now.streams.entries id) }
+    {
+        let Some(entry) = self.streams.get(&id) else {
+            return true;
         };
         let fits = entry.credited() <= self.config.receive_buffer;
-        if fits && entry.withheld <= self.config.max_paused {
-            return Ok(());
+        fits && entry.withheld <= self.config.max_paused
+    }
+
+    // More of a stream is kept than may be. Returns the fault.
+    fn overflow(&mut self, id: u64) -> Joining
+        ensures keeps { Keeps [] self.old self.new }
+    {
+        let Some(entry) = self.streams.get_mut(&id) else {
+            return Joining::Nothing;
+        };
+        joining_of(&entry.reading.overflow(&mut self.shared))
+    }
+
+    // Handles what is said of a stream of which more is kept than may. It is read no further.
+    fn overflowed(&mut self, id: u64, fault: Joining) -> Result<(), Stop>
+        ensures keeps { Keeps [] self.old self.new }
+        ensures gone { OnOk result (theirs_at self.new.streams.entries id ≡ Gone) }
+    {
+        match fault {
+            Joining::Refused(fault) => self.shut(id, fault.code(), Why::Fault(fault))?,
+            Joining::Broken(fault) => return Err(Stop::from(fault)),
+            _ => {}
         }
-        let event = entry.reading.overflow(&mut self.shared);
-        match self.said(id, event)? {
-            Step::Told(event) => {
-                self.events.push_back(event)?;
-                Ok(())
-            }
-            _ => Ok(()),
-        }
+        Ok(self.drop_peer(id)?)
     }
 
     // Counts the bytes that are kept of a stream and that QUIC's windows were extended by, which were so many before.
@@ -370,14 +416,12 @@ impl Connection {
     }
 
     // Passes what came on the decoder stream of the peer to the own encoder.
-    #[tactic(auto, using(crate::proofs::ReadsLemmas::dropped_same))]
+    #[tactic(auto, using(crate::proofs::KeepsLemmas::keep, crate::proofs::TellsLemmas::dropped_same))]
     fn read_decoder_stream<'a>(&mut self, id: u64, input: &mut Input<'a>) -> Result<(), Stop>
-        ensures own { Untouched self.old.streams.entries self.new.streams.entries }
-        ensures left { Left self.old.streams.entries self.new.streams.entries }
+        ensures keeps { Keeps [] self.old self.new }
         ensures same { input.old.report ≡ report.Stream id → theirs_at self.old.streams.entries id ≡ Gone
             → OnOk result (Same self.old.streams.entries input.old self.new.streams.entries input.new) }
         ensures report { input.new.report ≡ input.old.report }
-        ensures config { self.new.config ≡ self.old.config }
     {
         match self
             .tools

@@ -1,12 +1,15 @@
 //! What QUIC is to send and to do.
-ghost use Rattle.std.specs.Prelude.{◌≡◌, ◌⊎◌, false, true, None, IfErr, IfSome, OnOk, OnErr, []};
+ghost use Rattle.std.specs.Prelude.{◌≡◌, ◌⊎◌, false, true, is_some, None, Ok, IfErr, IfSome, OnOk, OnErr, []};
+ghost use Rattle.vesgrauf.specs.Order.{TakesFirst, IsNoneOrOpen};
+ghost use Rattle.vesgrauf.specs.Keeps.{Keeps};
 ghost use Rattle.vesgrauf.specs.State.{next_output, IsStill, IsRefused, ShowsNext, view_of, blocked_at, blocked_in, is_over, is_own, Of, stream_at};
 ghost use Rattle.vesgrauf.specs.Progress.{IsSent, NoneIsReady};
-ghost use Rattle.vesgrauf.specs.Streams.{IsNotDue, ShowsOwn};
+ghost use Rattle.vesgrauf.specs.Streams.{IsNotDue, ShowsOwn, TookOwn, is_it};
 ghost use Rattle.vesgrauf_queue.specs.State.{Shows};
 ghost use Rattle.vesgrauf.specs.declared.refused.Refused.TheVariants as refused;
 ghost use Rattle.vesgrauf.specs.Own.{own_at, Took, TookAlone, Untouched, UntouchedBut};
 ghost use Rattle.vesgrauf.specs.Theirs.{Left, IsSilent};
+ghost use Rattle.vesgrauf.specs.Told.{GoesOn, said_in};
 
 use crate::connection::{Connection, Step};
 use crate::event::EventKind;
@@ -14,6 +17,7 @@ use crate::output::{Next, Output, Scope, StreamKind};
 use crate::refused::Refused;
 use std::alloc::AllocError;
 
+#[tactic(auto, using(crate::proofs::KeepsLemmas::keep))]
 impl Connection {
     /// Returns what QUIC is to do next, or `None`. It is the same until it is taken.
     pub fn output(&self) -> Option<Output>
@@ -40,12 +44,18 @@ impl Connection {
     /// # Errors
     ///
     /// `NotAsked` if there is none. `Memory`: nothing changes, and the call is to be made again.
-    #[tactic(auto, using(crate::proofs::OwnLemmas::untouched_set, crate::proofs::TheirsLemmas::left_set))]
+    #[tactic(auto, using(crate::proofs::KeepsLemmas::kept, crate::proofs::OwnLemmas::untouched_set, crate::proofs::TheirsLemmas::left_set, crate::proofs::GoesLemmas::goes_set))]
     pub fn output_taken(&mut self) -> Result<(), Refused>
+        ensures taken { OnOk result (self.old.closes ≡ None
+            → TakesFirst self.old.outputs.items self.new.outputs.items) }
+        ensures closed { is_some self.old.closes ≡ true → (result ≡ Ok tt) × (self.new ≡ record self.old { closes = None }) }
+        ensures asked { IfErr result (λ e. (e ≡ refused.Memory)
+            ⊎ ((e ≡ refused.NotAsked) × IsNoneOrOpen (next_output self.old))) }
         ensures refused { IfErr result (λ e. IsRefused e self.old self.new) }
         ensures own { Untouched self.old.streams.entries self.new.streams.entries }
         ensures left { Left self.old.streams.entries self.new.streams.entries }
         ensures config { self.new.config ≡ self.old.config }
+        ensures goes { GoesOn [] self.old self.new }
     {
         if self.closes.is_some() {
             self.closes = None;
@@ -58,10 +68,8 @@ impl Connection {
         match self.outputs.pop_front() {
             None => Err(Refused::NotAsked),
             Some(Output::Reset(id, _)) => {
-                if let Some(entry) = self.streams.get_mut(&id) {
-                    let _taken = entry.writing.reset_sent();
-                }
-                Ok(self.remove_if_done(id)?)
+                self.reset_taken(id)?;
+                Ok(())
             }
             Some(_) => Ok(()),
         }
@@ -144,11 +152,19 @@ impl Connection {
     ///
     /// `NoStream`; `NotAsked` if so many bytes were not returned; `Memory`: nothing changes, and the call is to be made
     /// again.
+    #[tactic(auto, using(crate::proofs::KeepsLemmas::kept))]
     pub fn sent(&mut self, id: u64, len: usize) -> Result<(), Refused>
         ensures refused { IfErr result (λ e. IsRefused e self.old self.new) }
         ensures own { UntouchedBut id self.old.streams.entries self.new.streams.entries }
         ensures took { OnOk result (is_own self.old id ≡ false
             → TookAlone len (own_at self.old.streams.entries id) (own_at self.new.streams.entries id)) }
+        ensures goes { GoesOn [] self.old self.new }
+        ensures control { OnOk result (is_it id self.old.control.id ≡ true
+            → TookOwn len self.old.control self.new.control) }
+        ensures decoder { OnOk result (is_it id self.old.control.id ≡ false → is_it id self.old.decoder.id ≡ true
+            → TookOwn len self.old.decoder self.new.decoder) }
+        ensures encoder { OnOk result (is_it id self.old.control.id ≡ false → is_it id self.old.decoder.id ≡ false
+            → is_it id self.old.encoder.id ≡ true → TookOwn len self.old.encoder self.new.encoder) }
     {
         self.reserve()?;
         let spares = &mut self.tools.spares;
@@ -165,12 +181,13 @@ impl Connection {
     }
 
     // QUIC took bytes of a stream that is not critical.
-    #[tactic(auto, using(crate::proofs::OwnLemmas::took_alone))]
+    #[tactic(auto, using(crate::proofs::KeepsLemmas::kept, crate::proofs::OwnLemmas::took_alone))]
     fn sent_on(&mut self, id: u64, len: usize) -> Result<(), Refused>
         ensures refused { IfErr result (λ e. IsRefused e self.old self.new) }
         ensures own { UntouchedBut id self.old.streams.entries self.new.streams.entries }
         ensures took { OnOk result (TookAlone len (own_at self.old.streams.entries id)
             (own_at self.new.streams.entries id)) }
+        ensures goes { GoesOn [] self.old self.new }
     {
         let is_done = self.message_sent(id, len)?;
         Ok(self.after_sent(id, is_done)?)
@@ -178,9 +195,7 @@ impl Connection {
 
     // QUIC took bytes of a stream: there may be room again, or nothing is to be done for its own half any more.
     fn after_sent(&mut self, id: u64, is_done: bool) -> Result<(), AllocError>
-        ensures own { Untouched self.old.streams.entries self.new.streams.entries }
-        ensures left { Left self.old.streams.entries self.new.streams.entries }
-        ensures config { self.new.config ≡ self.old.config }
+        ensures keeps { Keeps [] self.old self.new }
     {
         self.note_room(id);
         if is_done {
@@ -190,12 +205,13 @@ impl Connection {
     }
 
     // QUIC took bytes of a stream that is not critical. Returns whether nothing is to be done for its own half any more.
-    #[tactic(auto, using(crate::proofs::OwnLemmas::took_set, std::proofs::lemmas::Map::Steps::set_value_same))]
+    #[tactic(auto, using(crate::proofs::KeepsLemmas::kept, crate::proofs::OwnLemmas::took_set, crate::proofs::GoesLemmas::goes_set, std::proofs::lemmas::Map::Steps::set_value_same))]
     fn message_sent(&mut self, id: u64, len: usize) -> Result<bool, Refused>
         ensures refused { OnErr result (IsStill self.old self.new) }
         ensures own { UntouchedBut id self.old.streams.entries self.new.streams.entries }
         ensures took { OnOk result (Took len (own_at self.old.streams.entries id)
             (own_at self.new.streams.entries id)) }
+        ensures goes { GoesOn [] self.old self.new }
     {
         let Some(entry) = self.streams.get_mut(&id) else {
             return Err(Refused::NoStream);
@@ -212,9 +228,7 @@ impl Connection {
 
     // Notes that there may be room on a stream.
     fn note_room(&mut self, id: u64)
-        ensures own { Untouched self.old.streams.entries self.new.streams.entries }
-        ensures left { Left self.old.streams.entries self.new.streams.entries }
-        ensures config { self.new.config ≡ self.old.config }
+        ensures keeps { Keeps [] self.old self.new }
     {
         // (one that is passed over is looked at once more)
         let is_passed = id < self.pending.cursor;
@@ -227,12 +241,9 @@ impl Connection {
     }
 
     // Tells of the next stream that has room again.
-    #[tactic(auto, using(crate::proofs::OwnLemmas::untouched_set, crate::proofs::TheirsLemmas::left_set))]
     pub(super) fn next_writable<'a>(&mut self) -> Step<'a>
-        ensures own { Untouched self.old.streams.entries self.new.streams.entries }
-        ensures left { Left self.old.streams.entries self.new.streams.entries }
+        ensures keeps { Keeps (said_in result) self.old self.new }
         ensures silent { IsSilent result }
-        ensures config { self.new.config ≡ self.old.config }
     {
         for _stream in 0..self.full.len() {
             let Some(id) = self.next_full() else {
@@ -250,11 +261,8 @@ impl Connection {
     }
 
     // Returns whether a `Writable` is owed on a stream, which is then told.
-    #[tactic(auto, using(crate::proofs::OwnLemmas::untouched_set, crate::proofs::TheirsLemmas::left_set))]
     fn take_writable(&mut self, id: u64) -> bool
-        ensures own { Untouched self.old.streams.entries self.new.streams.entries }
-        ensures left { Left self.old.streams.entries self.new.streams.entries }
-        ensures config { self.new.config ≡ self.old.config }
+        ensures keeps { Keeps [] self.old self.new }
     {
         match self.streams.get_mut(&id) {
             Some(entry) => entry.writing.take_writable(),
@@ -274,12 +282,13 @@ impl Connection {
     ///
     /// `NotAsked` if QUIC did not take so many. `Memory`: nothing changes, and the call is to be made again. There is
     /// none if the stream is forgotten.
-    #[tactic(auto, using(crate::proofs::OwnLemmas::untouched_set, crate::proofs::TheirsLemmas::left_set, std::proofs::lemmas::Map::Steps::set_value_same))]
+    #[tactic(auto, using(crate::proofs::KeepsLemmas::kept, crate::proofs::OwnLemmas::untouched_set, crate::proofs::TheirsLemmas::left_set, crate::proofs::GoesLemmas::goes_set, std::proofs::lemmas::Map::Steps::set_value_same))]
     pub fn acked(&mut self, id: u64, len: u64) -> Result<(), Refused>
         ensures refused { IfErr result (λ e. IsRefused e self.old self.new) }
         ensures own { Untouched self.old.streams.entries self.new.streams.entries }
         ensures left { Left self.old.streams.entries self.new.streams.entries }
         ensures config { self.new.config ≡ self.old.config }
+        ensures goes { GoesOn [] self.old self.new }
     {
         self.reserve()?;
         let spares = &mut self.tools.spares;
@@ -292,12 +301,42 @@ impl Connection {
         if self.encoder.is(id) {
             return Ok(self.encoder.queue.acked(spares, len)?);
         }
-        let Some(entry) = self.streams.get_mut(&id) else {
-            return Ok(());
-        };
-        entry.writing.acked(spares, len)?;
-        let is_done = entry.writing.is_done();
+        let is_done = self.acked_on(id, len)?;
         Ok(self.after_sent(id, is_done)?)
+    }
+
+    // The peer has more of the bytes of a stream that is not critical. Returns whether nothing is to be done for its own half
+    // any more.
+    #[tactic(auto, using(crate::proofs::KeepsLemmas::keep, std::proofs::lemmas::Map::Steps::set_value_same))]
+    fn acked_on(&mut self, id: u64, len: u64) -> Result<bool, Refused>
+        ensures refused { IfErr result (λ e. IsRefused e self.old self.new) }
+        ensures keeps { Keeps [] self.old self.new }
+    {
+        let Some(entry) = self.streams.get_mut(&id) else {
+            return Ok(false);
+        };
+        entry.writing.acked(&mut self.tools.spares, len)?;
+        Ok(entry.writing.is_done())
+    }
+
+    // QUIC took the reset of a stream: nothing is to be done for its own half any more.
+    fn reset_taken(&mut self, id: u64) -> Result<(), AllocError>
+        ensures keeps { Keeps [] self.old self.new }
+        ensures outputs { self.new.outputs ≡ self.old.outputs }
+        ensures closes { self.new.closes ≡ self.old.closes }
+    {
+        self.note_reset_sent(id);
+        self.remove_if_done(id)
+    }
+
+    // QUIC took the reset of a stream.
+    fn note_reset_sent(&mut self, id: u64)
+        ensures keeps { Keeps [] self.old self.new }
+        ensures others { self.new ≡ record self.old { streams = self.new.streams } }
+    {
+        if let Some(entry) = self.streams.get_mut(&id) {
+            let _taken = entry.writing.reset_sent();
+        }
     }
 
     /// QUIC takes nothing of this for now, or does again. What is said of one scope does not change another: a stream
@@ -306,10 +345,12 @@ impl Connection {
     /// # Errors
     ///
     /// `Memory`: nothing changes, and the call is to be made again.
+    #[tactic(auto, using(crate::proofs::KeepsLemmas::kept, crate::proofs::IdLemmas::goes_blocked))]
     pub fn set_blocked(&mut self, scope: Scope, blocked: bool) -> Result<(), Refused>
         ensures ok { OnOk result (view_of self.new ≡ blocked_at scope self.old blocked) }
         ensures err { IfErr result (λ e. e ≡ refused.Memory) }
         ensures kept { OnErr result (IsStill self.old self.new) }
+        ensures goes { GoesOn [] self.old self.new }
     {
         match scope {
             Scope::Kind(kind) => {
@@ -325,11 +366,12 @@ impl Connection {
     }
 
     // QUIC takes nothing of a stream for now, or does again.
-    #[tactic(auto, using(std::proofs::lemmas::Map::Steps::set_value_same))]
+    #[tactic(auto, using(crate::proofs::KeepsLemmas::kept, std::proofs::lemmas::Map::Steps::set_value_same, crate::proofs::GoesLemmas::goes_set))]
     fn block_stream(&mut self, id: u64, blocked: bool) -> Result<(), Refused>
         ensures ok { OnOk result (view_of self.new ≡ blocked_in self.old id blocked) }
         ensures err { IfErr result (λ e. e ≡ refused.Memory) }
         ensures kept { OnErr result (IsStill self.old self.new) }
+        ensures goes { GoesOn [] self.old self.new }
     {
         if self.control.is(id) {
             self.control.is_blocked = blocked;

@@ -1,9 +1,13 @@
 //! Sessions.
-ghost use Rattle.std.specs.Prelude.{◌≡◌, ◌⊎◌, true, Ok, Err, OnOk, OnErr, IfErr, IfOk, []};
+ghost use Rattle.std.specs.Prelude.{◌≡◌, ◌⊎◌, ◌+◌, ◌-◌, ◌^◌, min, true, false, Ok, Err, OnOk, OnErr, IfErr, IfOk, []};
+ghost use Rattle.vesgrauf.specs.Order.{LooksAtAll};
+ghost use Rattle.vesgrauf.specs.Messages.{ClosesSession, ChangesThen};
 ghost use Rattle.vesgrauf_stream.specs.Writing.{Drains};
+ghost use Rattle.vesgrauf.specs.Keeps.{Keeps};
 ghost use Rattle.vesgrauf.specs.State.{IsStill, IsRefused, Changes, IsWhy, RefusesDrain, is_over, open_session};
-ghost use Rattle.vesgrauf.specs.Own.{Untouched, UntouchedBut};
+ghost use Rattle.vesgrauf.specs.Own.{UntouchedBut};
 ghost use Rattle.vesgrauf.specs.Theirs.{Left, IsSilent};
+ghost use Rattle.vesgrauf.specs.Told.{GoesOn, said_by, said_in};
 
 use crate::connection::{Connection, Step, Stop};
 use crate::entry::SHARED;
@@ -15,14 +19,12 @@ use wtp_core::error::Code;
 use wtp_fields::fields::FieldList;
 use wtp_messages::response::Asked;
 
+#[tactic(auto, using(crate::proofs::KeepsLemmas::keep))]
 impl Connection {
     // A request for a session came. One above the limit is rejected.
-    #[tactic(auto, using(crate::proofs::OwnLemmas::untouched_set, crate::proofs::TheirsLemmas::left_set))]
     pub(super) fn session_came(&mut self, id: u64, list: FieldList) -> Result<Step<'static>, Stop>
-        ensures own { Untouched self.old.streams.entries self.new.streams.entries }
-        ensures left { Left self.old.streams.entries self.new.streams.entries }
+        ensures keeps { Keeps (said_by result) self.old self.new }
         ensures silent { IfOk result IsSilent }
-        ensures config { self.new.config ≡ self.old.config }
     {
         if self.sessions >= self.config.max_sessions {
             return self.reject(id, Some(id));
@@ -34,11 +36,8 @@ impl Connection {
     }
 
     // The request on a stream asks for a session.
-    #[tactic(auto, using(crate::proofs::TheirsLemmas::left_set, crate::proofs::OwnLemmas::untouched_set))]
     fn begin_session(&mut self, id: u64)
-        ensures own { Untouched self.old.streams.entries self.new.streams.entries }
-        ensures left { Left self.old.streams.entries self.new.streams.entries }
-        ensures config { self.new.config ≡ self.old.config }
+        ensures keeps { Keeps [] self.old self.new }
     {
         self.note_request(id, Asked::Session);
         self.sessions = self.sessions.saturating_add(1);
@@ -50,27 +49,25 @@ impl Connection {
     }
 
     // The server accepted a session. It is lost if the server stopped the own half before.
-    #[tactic(auto, using(crate::proofs::OwnLemmas::untouched_set, crate::proofs::TheirsLemmas::left_set))]
     pub(super) fn session_ready(
         &mut self,
         id: u64,
         status: u32,
         list: FieldList,
     ) -> Result<Step<'static>, Stop>
-        ensures own { Untouched self.old.streams.entries self.new.streams.entries }
-        ensures left { Left self.old.streams.entries self.new.streams.entries }
+        ensures keeps { Keeps (said_by result) self.old self.new }
         ensures silent { IfOk result IsSilent }
-        ensures config { self.new.config ≡ self.old.config }
     {
-        let Some(entry) = self.streams.get_mut(&id) else {
-            return Ok(Step::More);
+        let is_stopped = match self.streams.get(&id) {
+            Some(entry) => entry.writing.is_ended(),
+            None => return Ok(Step::More),
         };
-        if entry.writing.is_ended() {
+        if is_stopped {
             let step = self.tell(id, EventKind::Response(status, list));
             self.shut(id, Code::H3_REQUEST_CANCELLED, Why::SessionGone)?;
             return Ok(step);
         }
-        entry.writing.connect();
+        self.connect(id);
         self.datagrams.opened.push_back(id)?;
         self.wake();
         Ok(self.tell(id, EventKind::Response(status, list)))
@@ -83,10 +80,8 @@ impl Connection {
         status: u32,
         list: FieldList,
     ) -> Result<Step<'static>, Stop>
-        ensures own { Untouched self.old.streams.entries self.new.streams.entries }
-        ensures left { Left self.old.streams.entries self.new.streams.entries }
+        ensures keeps { Keeps (said_by result) self.old self.new }
         ensures silent { IfOk result IsSilent }
-        ensures config { self.new.config ≡ self.old.config }
     {
         self.end_own(id);
         self.end_session(id)?;
@@ -116,9 +111,7 @@ impl Connection {
     // Returns a session that opened, if what came before it is to be told now: no stream of a session is being read. The
     // sessions' own streams wait until then, since they may say that a session is over.
     pub(super) fn session_opened(&mut self) -> Option<u64>
-        ensures own { Untouched self.old.streams.entries self.new.streams.entries }
-        ensures left { Left self.old.streams.entries self.new.streams.entries }
-        ensures config { self.new.config ≡ self.old.config }
+        ensures keeps { Keeps [] self.old self.new }
     {
         let session = self.datagrams.opened.front().copied()?;
         if let Some(id) = self.pending.resumed {
@@ -131,7 +124,7 @@ impl Connection {
     }
 
     // Returns whether this is the own stream of a session.
-    fn is_session(&self, id: u64) -> bool {
+    pub(super) fn is_session(&self, id: u64) -> bool {
         match self.streams.get(&id) {
             Some(entry) => entry.is_session,
             None => false,
@@ -144,9 +137,15 @@ impl Connection {
     /// last call of this, and whose session is not open, is dropped (draft-ietf-webtrans-http3-02, section 4.5; RFC 9297,
     /// section 2.1). So what comes too early waits for one to two of these times, and does not keep the place of another
     /// for ever. After the end of the connection nothing changes.
+    #[tactic(auto, using(crate::proofs::KeepsLemmas::kept))]
     pub fn tick(&mut self)
         ensures over { is_over self.old ≡ true → self.new ≡ self.old }
         ensures still { IsStill self.old self.new }
+        ensures goes { GoesOn [] self.old self.new }
+        ensures counts { is_over self.old ≡ false → self.new.ticks ≡ min (self.old.ticks + 1) (2 ^ 64 - 1) }
+        ensures wakes { is_over self.old ≡ false → LooksAtAll self.new }
+        ensures ages { is_over self.old ≡ false → self.old.datagrams.opened.items ≡ []
+            → (self.new.datagrams.aged ≡ self.old.datagrams.early) × (self.new.datagrams.early ≡ []) }
     {
         if self.ended.is_some() {
             return;
@@ -158,10 +157,8 @@ impl Connection {
 
     // Tells what came before a session was open.
     pub(super) fn step_opened<'a>(&mut self, session: u64) -> Step<'a>
-        ensures own { Untouched self.old.streams.entries self.new.streams.entries }
-        ensures left { Left self.old.streams.entries self.new.streams.entries }
+        ensures keeps { Keeps (said_in result) self.old self.new }
         ensures silent { IsSilent result }
-        ensures config { self.new.config ≡ self.old.config }
     {
         if let Some(step) = self.early_of(session) {
             return step;
@@ -183,13 +180,14 @@ impl Connection {
     /// # Errors
     ///
     /// Nothing changes. `Closed`; `SessionGone`; `NotOpen`; and `Memory`.
-    #[tactic(auto, using(std::proofs::lemmas::Map::Steps::set_value_same))]
+    #[tactic(auto, using(crate::proofs::KeepsLemmas::kept, std::proofs::lemmas::Map::Steps::set_value_same, crate::proofs::GoesLemmas::goes_set))]
     pub fn drain_session(&mut self, session: u64) -> Result<(), Refused>
         ensures open { OnOk result (open_session self.old session ≡ Ok tt) }
         ensures ok { OnOk result (Changes session Drains self.old self.new) }
         ensures why { IfErr result (λ e. (open_session self.old session ≡ Err e)
             ⊎ IsWhy RefusesDrain self.old session e) }
         ensures kept { OnErr result (IsStill self.old self.new) }
+        ensures goes { GoesOn [] self.old self.new }
     {
         self.check_session(session)?;
         self.begin_send(session)?;
@@ -209,11 +207,14 @@ impl Connection {
     /// # Errors
     ///
     /// Nothing changes. `Closed`; `SessionGone`; `NotOpen`; `Send` if the reason has more than 1,024 bytes; and `Memory`.
+    #[tactic(auto, using(crate::proofs::KeepsLemmas::kept))]
     pub fn close_session(&mut self, session: u64, code: u32, reason: &str) -> Result<(), Refused>
         ensures open { OnOk result (open_session self.old session ≡ Ok tt) }
         ensures refused { IfErr result (λ e. IsRefused e self.old self.new) }
         ensures own { UntouchedBut session self.old.streams.entries self.new.streams.entries }
         ensures left { Left self.old.streams.entries self.new.streams.entries }
+        ensures goes { GoesOn [] self.old self.new }
+        ensures closes { OnOk result (ChangesThen session (ClosesSession code reason.now) self.old self.new) }
     {
         self.check_session(session)?;
         self.put_close(session, code, reason)?;
@@ -221,12 +222,14 @@ impl Connection {
     }
 
     // Queues the end of a session.
-    #[tactic(auto, using(crate::proofs::TheirsLemmas::left_set, std::proofs::lemmas::Map::Steps::set_value_same))]
+    #[tactic(auto, using(crate::proofs::KeepsLemmas::kept, crate::proofs::TheirsLemmas::left_set, std::proofs::lemmas::Map::Steps::set_value_same, crate::proofs::GoesLemmas::goes_set))]
     fn put_close(&mut self, session: u64, code: u32, reason: &str) -> Result<(), Refused>
+        ensures closes { OnOk result (Changes session (ClosesSession code reason.now) self.old self.new) }
         ensures kept { OnErr result (IsStill self.old self.new) }
         ensures own { UntouchedBut session self.old.streams.entries self.new.streams.entries }
         ensures left { Left self.old.streams.entries self.new.streams.entries }
         ensures config { self.new.config ≡ self.old.config }
+        ensures goes { GoesOn [] self.old self.new }
     {
         self.begin_send(session)?;
         let result = self.close_half(session, code, reason);
@@ -235,12 +238,14 @@ impl Connection {
     }
 
     // Ends the own half of a session, by its end or by a code and a reason.
-    #[tactic(auto, using(crate::proofs::TheirsLemmas::left_set, std::proofs::lemmas::Map::Steps::set_value_same))]
+    #[tactic(auto, using(crate::proofs::KeepsLemmas::kept, crate::proofs::TheirsLemmas::left_set, std::proofs::lemmas::Map::Steps::set_value_same, crate::proofs::GoesLemmas::goes_set))]
     fn close_half(&mut self, session: u64, code: u32, reason: &str) -> Result<(), Refused>
+        ensures closes { OnOk result (Changes session (ClosesSession code reason.now) self.old self.new) }
         ensures kept { OnErr result (IsStill self.old self.new) }
         ensures own { UntouchedBut session self.old.streams.entries self.new.streams.entries }
         ensures left { Left self.old.streams.entries self.new.streams.entries }
         ensures config { self.new.config ≡ self.old.config }
+        ensures goes { GoesOn [] self.old self.new }
     {
         let Some(entry) = self.streams.get_mut(&session) else {
             return Err(Refused::NotOpen);
@@ -257,9 +262,7 @@ impl Connection {
 
     // The end of a session is queued: what follows for its streams.
     fn session_ended(&mut self, session: u64) -> Result<(), AllocError>
-        ensures own { Untouched self.old.streams.entries self.new.streams.entries }
-        ensures left { Left self.old.streams.entries self.new.streams.entries }
-        ensures config { self.new.config ≡ self.old.config }
+        ensures keeps { Keeps [] self.old self.new }
     {
         self.end_session(session)?;
         self.drop_peer(session)?;

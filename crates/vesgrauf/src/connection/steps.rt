@@ -1,10 +1,11 @@
 //! Steps, until one of them tells an event.
 ghost use Rattle.std.specs.Prelude.{◌≡◌, [], Ok, None, true, false, IfOk, IfSome, OnOk};
-ghost use Rattle.vesgrauf.specs.Own.{Untouched};
+ghost use Rattle.vesgrauf.specs.Bounds.{KeepsBound};
+ghost use Rattle.vesgrauf.specs.Keeps.{Keeps, KeepsOwn};
 ghost use Rattle.vesgrauf.specs.Progress.{IsSettled};
 ghost use Rattle.vesgrauf.specs.State.{is_over, is_last, go_on, IsAfterEnd, IsSomeOk, IsTold};
+ghost use Rattle.vesgrauf.specs.Told.{ends, word_of, said_by, told_now, told_by_call};
 ghost use Rattle.vesgrauf.specs.Theirs.{Accepts, Tells, TellsAll, told_by, told_in, piece_of};
-ghost use Rattle.vesgrauf.specs.declared.config.OnMalformed.TheVariants as chosen;
 
 use crate::connection::{Connection, Step, Stop};
 use crate::event::{Event, EventKind};
@@ -13,19 +14,18 @@ use std::alloc::AllocError;
 
 impl Connection {
     // Returns the next event, as `next_event` does: the first that is queued, or that of as many steps as it takes.
-    #[tactic(auto, using(crate::proofs::StepLemmas::queued_all))]
+    #[tactic(auto, using(crate::proofs::KeepsLemmas::hold, crate::proofs::StepLemmas::queued_all, crate::proofs::BoundLemmas::bound))]
     pub(super) fn next_by_steps<'a>(
         &mut self,
         input: &mut Input<'a>,
     ) -> Result<Option<Event<'a>>, AllocError>
         ensures last { IsAfterEnd self.old → IsSomeOk result (λ e. is_last e.kind ≡ true) }
         ensures over { IsAfterEnd self.old → IsAfterEnd self.new }
-        ensures own { self.old.config.on_malformed ≡ chosen.Reset
-            → Untouched self.old.streams.entries self.new.streams.entries }
+        ensures keeps { KeepsOwn (told_by_call result) self.old self.new }
         ensures told { is_over self.new ≡ false → IfOk result (λ e. TellsAll self.old.ids (told_by e)
             self.old.streams.entries input.old self.new.streams.entries input.new) }
-        ensures config { self.new.config ≡ self.old.config }
         ensures settled { result ≡ Ok None → IsSettled self.new input.new }
+        ensures bounded { is_over self.new ≡ false → OnOk result (KeepsBound self.old self.new) }
     {
         if let Some(event) = self.first_queued() {
             return Ok(Some(event));
@@ -34,30 +34,30 @@ impl Connection {
     }
 
     // Returns the next event, after the streams up to that of the input are registered.
+    #[tactic(auto, using(crate::proofs::KeepsLemmas::hold, crate::proofs::BoundLemmas::bound, crate::proofs::BoundLemmas::bound_start))]
     fn accept_and_step<'a>(
         &mut self,
         input: &mut Input<'a>,
     ) -> Result<Option<Event<'a>>, AllocError>
         ensures last { IsAfterEnd self.old → IsSomeOk result (λ e. is_last e.kind ≡ true) }
         ensures over { IsAfterEnd self.old → IsAfterEnd self.new }
-        ensures own { self.old.config.on_malformed ≡ chosen.Reset
-            → Untouched self.old.streams.entries self.new.streams.entries }
+        ensures keeps { KeepsOwn (told_by_call result) self.old self.new }
         ensures told { is_over self.new ≡ false → IfOk result (λ e. TellsAll self.old.ids (told_by e)
             self.old.streams.entries input.old self.new.streams.entries input.new) }
-        ensures config { self.new.config ≡ self.old.config }
         ensures settled { result ≡ Ok None → IsSettled self.new input.new }
+        ensures bounded { is_over self.new ≡ false → OnOk result (KeepsBound self.old self.new) }
     {
         self.accept_or_fail(input.report)?;
         self.take_steps(input)
     }
 
     // Registers the streams of the peer up to that of a report. An error ends the connection.
+    #[tactic(auto, using(crate::proofs::KeepsLemmas::hold))]
     fn accept_or_fail(&mut self, report: Report) -> Result<(), AllocError>
         ensures still { is_over self.old ≡ true → (self.new ≡ self.old) × (result ≡ Ok tt) }
-        ensures own { Untouched self.old.streams.entries self.new.streams.entries }
+        ensures keeps { KeepsOwn [] self.old self.new }
         ensures accepts { is_over self.new ≡ false
             → Accepts self.old.ids self.old.streams.entries self.new.ids self.new.streams.entries }
-        ensures config { self.new.config ≡ self.old.config }
     {
         if self.ended.is_some() {
             return Ok(());
@@ -73,7 +73,7 @@ impl Connection {
     }
 
     // Returns the next event, by as many steps as it takes.
-    #[tactic(auto, using(crate::proofs::StepLemmas::quiet_then, crate::proofs::StepLemmas::queued_tells, crate::proofs::StepLemmas::nothing_tells))]
+    #[tactic(auto, using(crate::proofs::KeepsLemmas::hold, crate::proofs::StepLemmas::quiet_then, crate::proofs::StepLemmas::queued_tells, crate::proofs::StepLemmas::nothing_tells, crate::proofs::BoundLemmas::bound))]
     pub(super) fn take_steps<'a>(
         &mut self,
         input: &mut Input<'a>,
@@ -81,12 +81,11 @@ impl Connection {
         ensures last { IsAfterEnd self.old → IsSomeOk result (λ e. is_last e.kind ≡ true) }
         ensures over { IsAfterEnd self.old → IsAfterEnd self.new }
         ensures ends { is_over self.old ≡ true → is_over self.new ≡ true }
-        ensures own { self.old.config.on_malformed ≡ chosen.Reset
-            → Untouched self.old.streams.entries self.new.streams.entries }
+        ensures keeps { KeepsOwn (told_by_call result) self.old self.new }
         ensures told { is_over self.new ≡ false → IfOk result (λ e. Tells (told_by e)
             self.old.streams.entries input.old self.new.streams.entries input.new) }
-        ensures config { self.new.config ≡ self.old.config }
         ensures settled { result ≡ Ok None → IsSettled self.new input.new }
+        ensures bounded { is_over self.new ≡ false → OnOk result (KeepsBound self.old self.new) }
     {
         for _step in 0..u64::MAX {
             if let Some(event) = self.first_queued() {
@@ -106,15 +105,15 @@ impl Connection {
     }
 
     // Takes a step, before the end of the connection or after it.
+    #[tactic(auto, using(crate::proofs::KeepsLemmas::hold, crate::proofs::BoundLemmas::bound))]
     fn try_step<'a>(&mut self, input: &mut Input<'a>) -> Result<Step<'a>, AllocError>
         ensures last { IsAfterEnd self.old → IfOk result (λ s. IsTold s (λ e. is_last e.kind ≡ true)) }
         ensures over { IsAfterEnd self.old → IsAfterEnd self.new }
         ensures ends { is_over self.old ≡ true → is_over self.new ≡ true }
-        ensures own { self.old.config.on_malformed ≡ chosen.Reset
-            → Untouched self.old.streams.entries self.new.streams.entries }
+        ensures keeps { KeepsOwn (said_by result) self.old self.new }
         ensures told { is_over self.new ≡ false → IfOk result (λ s. Tells (told_in s)
             self.old.streams.entries input.old self.new.streams.entries input.new) }
-        ensures config { self.new.config ≡ self.old.config }
+        ensures bounded { is_over self.new ≡ false → OnOk result (KeepsBound self.old self.new) }
     {
         match self.ended {
             Some(ended) => Ok(self.step_after_end(ended, input)),
@@ -123,12 +122,12 @@ impl Connection {
     }
 
     // Takes a step. An error ends the connection.
+    #[tactic(auto, using(crate::proofs::KeepsLemmas::hold, crate::proofs::BoundLemmas::bound))]
     fn step_or_fail<'a>(&mut self, input: &mut Input<'a>) -> Result<Step<'a>, AllocError>
-        ensures own { self.old.config.on_malformed ≡ chosen.Reset
-            → Untouched self.old.streams.entries self.new.streams.entries }
+        ensures keeps { KeepsOwn (said_by result) self.old self.new }
         ensures told { is_over self.new ≡ false → IfOk result (λ s. Tells (told_in s)
             self.old.streams.entries input.old self.new.streams.entries input.new) }
-        ensures config { self.new.config ≡ self.old.config }
+        ensures bounded { is_over self.new ≡ false → OnOk result (KeepsBound self.old self.new) }
     {
         let stream = self.stream_at_hand(input);
         match self.step(input) {
@@ -142,6 +141,7 @@ impl Connection {
     }
 
     // Takes the first event that is queued. Content never is.
+    #[tactic(auto, using(crate::proofs::KeepsLemmas::keep, crate::proofs::GoesSteps::goes_told_first, crate::proofs::GoesSteps::goes_dropped))]
     fn first_queued<'a>(&mut self) -> Option<Event<'a>>
         ensures silent { IfSome result (λ e. piece_of e.kind ≡ []) }
         ensures last { go_on self.old.events.items ≡ false → IfSome result (λ e. is_last e.kind ≡ true) }
@@ -149,7 +149,7 @@ impl Connection {
         ensures streams { self.new.streams ≡ self.old.streams }
         ensures ended { self.new.ended ≡ self.old.ended }
         ensures ids { self.new.ids ≡ self.old.ids }
-        ensures config { self.new.config ≡ self.old.config }
+        ensures keeps { Keeps (told_now result) self.old self.new }
     {
         let event = self.events.pop_front()?;
         if is_content(&event) {
@@ -177,6 +177,7 @@ impl Connection {
 // Returns whether an event tells content.
 fn is_content(event: &Event<'_>) -> bool
     ensures silent { result ≡ false → piece_of event.now.kind ≡ [] }
+    ensures goes_on { result ≡ true → ends (word_of event.now.kind) ≡ false }
 {
     matches!(event.kind, EventKind::Data(_))
 }

@@ -1,10 +1,10 @@
 //! The own streams of QPACK (RFC 9204, sections 4.2 to 4.4).
 ghost use Rattle.std.specs.Prelude.{◌≡◌, OnOk, IfErr, []};
+ghost use Rattle.vesgrauf.specs.Keeps.{Keeps};
 ghost use Rattle.vesgrauf.specs.State.{IsStill, Instructs, SaysAll, SaysOrWaits, view_of, with_begun};
 ghost use Rattle.vesgrauf.specs.declared.connection.Stop.TheVariants as stop;
 ghost use Rattle.vesgrauf.specs.Bounds.{InstructionsFit};
-ghost use Rattle.vesgrauf.specs.Own.{Untouched};
-ghost use Rattle.vesgrauf.specs.Theirs.{Left};
+ghost use Rattle.vesgrauf.specs.Told.{GoesOn};
 
 use crate::connection::failing::EXCESSIVE_LOAD;
 use crate::connection::{Connection, Stop};
@@ -21,11 +21,14 @@ const ENCODER_TYPE: u8 = 0x02;
 
 const DECODER_TYPE: u8 = 0x03;
 
+#[tactic(auto, using(crate::proofs::KeepsLemmas::keep))]
 impl Connection {
     // Opens the own decoder stream, if the peer may use a dynamic table.
+    #[tactic(auto, using(crate::proofs::KeepsLemmas::kept))]
     pub(super) fn begin_decoder(&mut self) -> Result<(), AllocError>
         ensures others { view_of self.new ≡ with_begun self.new (view_of self.old) }
         ensures control { self.new.control ≡ self.old.control }
+        ensures goes { GoesOn [] self.old self.new }
     {
         if self.config.qpack_max_table_capacity == 0 {
             return Ok(());
@@ -36,8 +39,10 @@ impl Connection {
     }
 
     // Takes the ID of an own critical stream, if there is one left.
+    #[tactic(auto, using(crate::proofs::KeepsLemmas::kept))]
     pub(super) fn take_critical(&mut self) -> Option<u64>
         ensures others { self.new ≡ record self.old { ids = self.new.ids } }
+        ensures goes { GoesOn [] self.old self.new }
     {
         let id = self.ids.next(StreamKind::Unidirectional);
         self.ids.take(StreamKind::Unidirectional);
@@ -46,9 +51,7 @@ impl Connection {
 
     // Begins the own dynamic table, if the peer's SETTINGS came and allow one.
     pub(super) fn begin_table(&mut self) -> Result<(), Stop>
-        ensures own { Untouched self.old.streams.entries self.new.streams.entries }
-        ensures left { Left self.old.streams.entries self.new.streams.entries }
-        ensures config { self.new.config ≡ self.old.config }
+        ensures keeps { Keeps [] self.old self.new }
     {
         if !self.pending.begins_table {
             return Ok(());
@@ -60,9 +63,7 @@ impl Connection {
 
     // Opens the own encoder stream, if the peer allows a table.
     fn open_encoder(&mut self) -> Result<(), Stop>
-        ensures own { Untouched self.old.streams.entries self.new.streams.entries }
-        ensures left { Left self.old.streams.entries self.new.streams.entries }
-        ensures config { self.new.config ≡ self.old.config }
+        ensures keeps { Keeps [] self.old self.new }
     {
         let peer = self.shared.peer_settings();
         let capacity = peer
@@ -86,10 +87,12 @@ impl Connection {
     }
 
     // Queues the instructions that are due on the own streams of QPACK.
+    #[tactic(auto, using(crate::proofs::KeepsLemmas::kept))]
     pub(super) fn queue_instructions(&mut self) -> Result<(), Stop>
         ensures ok { OnOk result (Instructs SaysAll self.old self.new) }
         ensures any { Instructs SaysOrWaits self.old self.new }
         ensures err { IfErr result (λ e. e ≡ stop.Memory) }
+        ensures goes { GoesOn [] self.old self.new }
     {
         if self.decoder.id.is_some() {
             if self
@@ -125,8 +128,10 @@ impl Connection {
     }
 
     // Queues the instructions that a section has made due. Without memory they are queued later.
+    #[tactic(auto, using(crate::proofs::KeepsLemmas::kept))]
     pub(super) fn queue_due(&mut self)
         ensures due { Instructs SaysOrWaits self.old self.new }
+        ensures goes { GoesOn [] self.old self.new }
     {
         let _later = self.queue_instructions();
     }
@@ -148,11 +153,8 @@ impl Connection {
     }
 
     // Tells the peer's encoder that a stream is left, once (RFC 9204, section 2.2.2.2).
-    #[tactic(auto, using(crate::proofs::OwnLemmas::untouched_set, crate::proofs::TheirsLemmas::left_set))]
     pub(super) fn cancel(&mut self, id: u64) -> Result<(), AllocError>
-        ensures own { Untouched self.old.streams.entries self.new.streams.entries }
-        ensures left { Left self.old.streams.entries self.new.streams.entries }
-        ensures config { self.new.config ≡ self.old.config }
+        ensures keeps { Keeps [] self.old self.new }
     {
         let Some(entry) = self.streams.get_mut(&id) else {
             return Ok(());
@@ -168,9 +170,7 @@ impl Connection {
     // Tells the peer's encoder so of a stream that is left already. Without memory for it the connection ends: nothing would
     // tell it later.
     pub(super) fn cancel_left(&mut self, id: u64)
-        ensures own { Untouched self.old.streams.entries self.new.streams.entries }
-        ensures left { Left self.old.streams.entries self.new.streams.entries }
-        ensures config { self.new.config ≡ self.old.config }
+        ensures keeps { Keeps [] self.old self.new }
     {
         if self.cancel(id).is_err() {
             self.fail(None, Code::H3_INTERNAL_ERROR.number().into_inner(), None);

@@ -1,8 +1,10 @@
 //! Streams that wait.
 ghost use Rattle.std.specs.Prelude.{◌≡◌, []};
+ghost use Rattle.vesgrauf.specs.Keeps.{Keeps};
 ghost use Rattle.vesgrauf.specs.State.{IsStill, known_in};
-ghost use Rattle.vesgrauf.specs.Own.{Untouched};
-ghost use Rattle.vesgrauf.specs.Theirs.{Left, IsSilent};
+ghost use Rattle.vesgrauf.specs.Order.{LooksAtAll};
+ghost use Rattle.vesgrauf.specs.Theirs.{IsSilent};
+ghost use Rattle.vesgrauf.specs.Told.{said_in};
 
 use crate::connection::{Connection, Step, Stop};
 use std::alloc::AllocError;
@@ -10,6 +12,7 @@ use wtp_connection::connection::Known;
 use wtp_frames::endpoint::Side;
 use wtp_webtransport::event::{Event as Said, Waits};
 
+#[tactic(auto, using(crate::proofs::KeepsLemmas::keep))]
 impl Connection {
     // Returns the session that a stream waits for, or is to join.
     pub(super) fn session_awaited(&self, id: u64) -> Option<u64> {
@@ -29,9 +32,7 @@ impl Connection {
 
     // Notes that a stream is read again later.
     pub(super) fn wait(&mut self, id: u64) -> Result<(), AllocError>
-        ensures own { Untouched self.old.streams.entries self.new.streams.entries }
-        ensures left { Left self.old.streams.entries self.new.streams.entries }
-        ensures config { self.new.config ≡ self.old.config }
+        ensures keeps { Keeps [] self.old self.new }
     {
         self.waiting.insert(id)?;
         Ok(())
@@ -40,9 +41,7 @@ impl Connection {
     // Notes that a stream waits for this. Too many that wait for the dynamic table are an error (RFC 9204, section
     // 2.1.2).
     pub(super) fn wait_for(&mut self, id: u64, wait: Waits) -> Result<(), Stop>
-        ensures own { Untouched self.old.streams.entries self.new.streams.entries }
-        ensures left { Left self.old.streams.entries self.new.streams.entries }
-        ensures config { self.new.config ≡ self.old.config }
+        ensures keeps { Keeps [] self.old self.new }
     {
         self.wait(id)?;
         if matches!(wait, Waits::Table(_)) && self.has_too_many_blocked() {
@@ -80,10 +79,8 @@ impl Connection {
 
     // Looks at the next of the streams that wait.
     pub(super) fn wake_next<'a>(&mut self) -> Step<'a>
-        ensures own { Untouched self.old.streams.entries self.new.streams.entries }
-        ensures left { Left self.old.streams.entries self.new.streams.entries }
+        ensures keeps { Keeps (said_in result) self.old self.new }
         ensures silent { IsSilent result }
-        ensures config { self.new.config ≡ self.old.config }
     {
         let Some(id) = self.next_waiting() else {
             self.pending.is_woken = false;
@@ -121,7 +118,11 @@ impl Connection {
 
     // Looks at the streams that wait once more.
     pub(super) fn wake(&mut self)
-        ensures { IsStill self.old self.new }
+        ensures still { IsStill self.old self.new }
+        ensures wakes { LooksAtAll self.new }
+        ensures ticks { self.new.ticks ≡ self.old.ticks }
+        ensures waiting { self.new.waiting ≡ self.old.waiting }
+        ensures datagrams { self.new.datagrams ≡ self.old.datagrams }
     {
         self.pending.is_woken = true;
         self.pending.cursor = 0;

@@ -1,7 +1,10 @@
 use Rattle.vesgrauf.specs.Theirs.{Tells, TellsAll, content_on, told_by}
-use Rattle.vesgrauf.proofs.ReadsLemmas.{all_of}
+use Rattle.vesgrauf.proofs.TellsLemmas.{all_of}
 use Rattle.vesgrauf.proofs.StepLemmas.{ok_map}
 use Rattle.vesgrauf.proofs.PieceLemmas.{no_piece_all}
+use Rattle.vesgrauf.specs.Told.{told_by_call}
+use Rattle.vesgrauf.proofs.BoundLemmas.{bound_still, on_ok}
+use Rattle.vesgrauf.proofs.KeepsLemmas.{holds_still}
 use Rattle.vesgrauf.proofs.connection.Connection.next_due.Goals as goal
 
 pub returns-in-Some-clause-told : goal.returns-in-Some-clause-told
@@ -21,3 +24,12 @@ returns-clause-told c = λ h. ok_map c.next_else.result
     (λ e p. no_piece_all (told_by e) c.args.self.now c.piece_due.new.self (c.piece_due.ensures.still c.in-None.is)
     (c.piece_due.ensures.none c.in-None.is) p)
     (c.next_else.ensures.told h)
+
+pub returns-clause-keeps : goal.returns-clause-keeps
+returns-clause-keeps c = holds_still (told_by_call c.next_else.result) c.args.self.now c.piece_due.new.self
+    c.next_else.new.self (c.piece_due.ensures.still c.in-None.is) c.next_else.ensures.keeps
+
+pub returns-clause-bounded : goal.returns-clause-bounded
+returns-clause-bounded c = λ h. on_ok c.next_else.result
+    (λ p. bound_still c.args.self.now c.piece_due.new.self c.next_else.new.self (c.piece_due.ensures.still c.in-None.is) p)
+    (c.next_else.ensures.bounded h)

@@ -1,6 +1,7 @@
-use Rattle.std.proofs.Common.{◌≡◌, ◌∙◌}
+use Rattle.std.proofs.Common.{◌∙◌}
 use Rattle.vesgrauf.specs.Theirs.{Tells, Passes, told_in, content_in}
-use Rattle.vesgrauf.proofs.ReadsLemmas.{reads_pass, reads_more_tells}
+use Rattle.vesgrauf.proofs.ReadsLemmas.{reads_pass}
+use Rattle.vesgrauf.proofs.TellsLemmas.{reads_more_tells}
 use Rattle.vesgrauf.proofs.StepLemmas.{ok_map}
 use Rattle.vesgrauf.proofs.connection.Connection.read_input.Goals as goal
 

@@ -1,6 +1,6 @@
-use Rattle.std.proofs.Common.{◌≡◌}
 use Rattle.vesgrauf.specs.Theirs.{Hands, TellsKept, content_in, told_in}
-use Rattle.vesgrauf.proofs.ReadsLemmas.{kept_hands, more_kept, none_kept}
+use Rattle.vesgrauf.proofs.ReadsLemmas.{kept_hands}
+use Rattle.vesgrauf.proofs.TellsLemmas.{more_kept, none_kept}
 use Rattle.vesgrauf.proofs.StepLemmas.{ok_map}
 use Rattle.vesgrauf.proofs.connection.Connection.read_kept.Goals as goal
 

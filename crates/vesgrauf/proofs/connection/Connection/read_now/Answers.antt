@@ -1,8 +1,9 @@
-use Rattle.std.proofs.Common.{◌≡◌, ◌∙◌, ap, Some, None}
+use Rattle.std.proofs.Common.{◌∙◌, ap, Some}
 use Rattle.std.specs.Prelude.{Ok}
 use Rattle.vesgrauf.specs.Theirs.{Tells, TellsAll, told_by}
-use Rattle.vesgrauf.proofs.ReadsLemmas.{all_of}
+use Rattle.vesgrauf.proofs.TellsLemmas.{all_of}
 use Rattle.vesgrauf.proofs.StepLemmas.{ok_map, told_none_all, quiet_then_all, told_none_if, told_told_if, told_more_if, told_nothing_if}
+use Rattle.vesgrauf.proofs.KeepsLemmas.{keeps_holds, holds_then}
 use Rattle.vesgrauf.proofs.connection.Connection.read_now.Goals as goal
 
 pub returns-in-Ok-None-clause-told : goal.returns-in-Ok-None-clause-told
@@ -45,3 +46,7 @@ returns-in-Ok-Some-Nothing-clause-told c = λ h g. ok_map c.take_steps-in-Ok-Som
     (rw (c.in-Ok-Some-Nothing.is ∙ ap (λ x. Ok x) (c.in-Ok-Some-Nothing.field-0-is
     ∙ ap (λ x. Some x) c.in-Ok-Some-Nothing.field-0-0-is)) at (c.step_at_once.ensures.tells h))) p)
     (c.take_steps-in-Ok-Some-Nothing.ensures.told g)
+
+pub returns-in-Err-Broken-clause-keeps : goal.returns-in-Err-Broken-clause-keeps
+returns-in-Err-Broken-clause-keeps c = holds_then (holds_then (rw c.in-Err-Broken.is at c.step_at_once.ensures.keeps)
+    (keeps_holds c.fail.ensures.keeps)) c.take_steps-in-Err-Broken.ensures.keeps

@@ -1,4 +1,3 @@
-use Rattle.std.proofs.Common.{◌≡◌}
 use Rattle.vesgrauf.specs.Theirs.{content_by}
 use Rattle.vesgrauf.proofs.ReadsLemmas.{reads_kept}
 use Rattle.vesgrauf.proofs.connection.Connection.read_rest.Goals as goal

@@ -1,7 +1,6 @@
-use Rattle.std.proofs.Common.{◌≡◌}
 use Rattle.wtp_webtransport.specs.Events.{told_of}
 use Rattle.vesgrauf.specs.Theirs.{Hands, IsSilent, content_of, told_in}
-use Rattle.vesgrauf.proofs.ReadsLemmas.{silent_hands}
+use Rattle.vesgrauf.proofs.TellsLemmas.{silent_hands}
 use Rattle.vesgrauf.proofs.StepLemmas.{ok_map}
 use Rattle.vesgrauf.proofs.connection.Connection.said.Goals as goal
 

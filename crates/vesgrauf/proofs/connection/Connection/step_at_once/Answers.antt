@@ -1,6 +1,7 @@
-use Rattle.std.proofs.Common.{◌≡◌, ◌∙◌, refl, None, Some}
+use Rattle.std.proofs.Common.{◌∙◌, refl, None, Some}
 use Rattle.vesgrauf.specs.Theirs.{content_found, told_if}
-use Rattle.vesgrauf.proofs.ReadsLemmas.{reads_pass, reads_tell}
+use Rattle.vesgrauf.proofs.ReadsLemmas.{reads_pass}
+use Rattle.vesgrauf.proofs.TellsLemmas.{reads_tell}
 use Rattle.vesgrauf.proofs.connection.Connection.step_at_once.Goals as goal
 
 pub returns-in-None-clause-tells : goal.returns-in-None-clause-tells

@@ -1,8 +1,11 @@
-use Rattle.std.proofs.Common.{◌≡◌, ◌∙◌, [], ap, Some, None}
+use Rattle.std.proofs.Common.{◌∙◌, [], ap, sym, Some, None, arith}
 use Rattle.std.specs.Prelude.{is_some}
+use Rattle.vesgrauf.specs.Keeps.{KeepsOwn}
 use Rattle.vesgrauf.specs.State.{is_over}
 use Rattle.vesgrauf.specs.Theirs.{told_by}
-use Rattle.vesgrauf.proofs.StepLemmas.{steps_on, own_on, not_before, popped_after}
+use Rattle.vesgrauf.proofs.BoundLemmas.{bound_popped}
+use Rattle.vesgrauf.proofs.KeepsLemmas.{holds_popped, holds_then, keeps_holds}
+use Rattle.vesgrauf.proofs.StepLemmas.{steps_on, not_before, popped_after}
 use Rattle.vesgrauf.proofs.connection.Connection.take_steps.Goals as goal
 
 pub returns-in-Told-clause-told : goal.returns-in-Told-clause-told
@@ -17,10 +20,44 @@ returns-in-Nothing-clause-told c = λ h. steps_on (told_by None) (is_over c.loop
     (ap is_some c.first_queued.ensures.ended) c.try_step.ensures.ends h
     (ap (λ m. m.entries) c.first_queued.ensures.streams) (rw c.in-Nothing.is at (c.in_ok-event.ensures.told h))
 
+pub returns-in-Told-clause-bounded : goal.returns-in-Told-clause-bounded
+returns-in-Told-clause-bounded c = λ h. bound_popped c.args.self.now c.loop-step.self c.first_queued.new.self
+    c.try_step.new.self (c.loop-step.invariant.bounded (sym (ap is_some c.first_queued.ensures.ended)
+    ∙ not_before (is_over c.first_queued.new.self) (is_over c.try_step.new.self) c.try_step.ensures.ends h))
+    c.first_queued.ensures.keeps (c.in_ok-event.ensures.bounded h)
+
+pub returns-in-Nothing-clause-bounded : goal.returns-in-Nothing-clause-bounded
+returns-in-Nothing-clause-bounded c = λ h. bound_popped c.args.self.now c.loop-step.self c.first_queued.new.self
+    c.try_step.new.self (c.loop-step.invariant.bounded (sym (ap is_some c.first_queued.ensures.ended)
+    ∙ not_before (is_over c.first_queued.new.self) (is_over c.try_step.new.self) c.try_step.ensures.ends h))
+    c.first_queued.ensures.keeps (c.in_ok-event.ensures.bounded h)
+
+pub returns-in-Told-clause-keeps : goal.returns-in-Told-clause-keeps
+returns-in-Told-clause-keeps c = holds_then (holds_then c.loop-step.invariant.keeps
+    (keeps_holds (rw c.in_default.is at c.first_queued.ensures.keeps)))
+    (rw c.in-Told.is at c.in_ok-event.ensures.keeps)
+
+pub returns-in-Nothing-clause-keeps : goal.returns-in-Nothing-clause-keeps
+returns-in-Nothing-clause-keeps c = holds_then (holds_then c.loop-step.invariant.keeps
+    (keeps_holds (rw c.in_default.is at c.first_queued.ensures.keeps)))
+    (rw c.in-Nothing.is at c.in_ok-event.ensures.keeps)
+
+pub returns-in_err-check_settled-in-Nothing-clause-keeps : goal.returns-in_err-check_settled-in-Nothing-clause-keeps
+returns-in_err-check_settled-in-Nothing-clause-keeps c =
+    let h : KeepsOwn [] c.args.self.now c.try_step.new.self = holds_then (holds_then c.loop-step.invariant.keeps
+    (keeps_holds (rw c.in_default.is at c.first_queued.ensures.keeps)))
+    (rw c.in-Nothing.is at c.in_ok-event.ensures.keeps) in
+    grind (arith, h)
+
+pub returns-in_err-event-clause-keeps : goal.returns-in_err-event-clause-keeps
+returns-in_err-event-clause-keeps c =
+    let h : KeepsOwn [] c.args.self.now c.try_step.new.self = holds_then (holds_then c.loop-step.invariant.keeps
+    (keeps_holds (rw c.in_default.is at c.first_queued.ensures.keeps)))
+    c.in_err-event.ensures.keeps in
+    grind (arith, h)
+
 pub loop-step-preserved : goal.loop-step-preserved
 loop-step-preserved c = record {
-  own = λ r. own_on (c.loop-step.invariant.own r) (ap (λ m. m.entries) c.first_queued.ensures.streams)
-      (c.try_step.ensures.own (ap (λ k. k.on_malformed) (c.first_queued.ensures.config ∙ c.loop-step.invariant.config) ∙ r));
   told = λ h. steps_on (told_by None) (is_over c.loop-step.self)
       (is_over c.first_queued.new.self) (is_over c.try_step.new.self) c.loop-step.invariant.told
       (ap is_some c.first_queued.ensures.ended) c.try_step.ensures.ends h
@@ -28,5 +65,10 @@ loop-step-preserved c = record {
   ends = λ h. c.try_step.ensures.ends (ap is_some c.first_queued.ensures.ended ∙ c.loop-step.invariant.ends h);
   over = λ h. c.try_step.ensures.over (popped_after c.first_queued.ensures.ended c.first_queued.ensures.events
       (c.loop-step.invariant.over h));
-  config = c.try_step.ensures.config ∙ c.first_queued.ensures.config ∙ c.loop-step.invariant.config;
+  bounded = λ h. bound_popped c.args.self.now c.loop-step.self c.first_queued.new.self c.try_step.new.self
+      (c.loop-step.invariant.bounded (sym (ap is_some c.first_queued.ensures.ended)
+      ∙ not_before (is_over c.first_queued.new.self) (is_over c.try_step.new.self) c.try_step.ensures.ends h))
+      c.first_queued.ensures.keeps (c.in_ok-event.ensures.bounded h);
+  keeps = holds_popped c.args.self.now c.loop-step.self c.first_queued.new.self c.try_step.new.self
+      c.loop-step.invariant.keeps (rw c.in_default.is at c.first_queued.ensures.keeps) (rw c.in-More.is at c.in_ok-event.ensures.keeps);
 }

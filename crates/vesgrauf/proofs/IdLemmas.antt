@@ -1,0 +1,329 @@
+-- Streams that are opened, and their IDs.
+use Rattle.std.proofs.Common.{◌≡◌, ◌==◌, ◌+◌, ◌%◌, ◌<◌, ◌^◌, ℕ, List, [], Option, None, Some, Bool, true, false, cond, refl, arith, sym, ap, ◌∙◌, inl}
+use Rattle.std.specs.Prelude.{is_some, nat_lt, if◌then◌else◌}
+use Rattle.std.specs.Ordering.{nat_cmp}
+use Rattle.std.specs.BTreeMap.{is_at}
+use Rattle.wtp_frames.specs.declared.endpoint.Side.{Side}
+use Rattle.wtp_frames.specs.declared.endpoint.Side.TheVariants as side
+use Rattle.vesgrauf.specs.declared.output.StreamKind.{StreamKind}
+use Rattle.vesgrauf.specs.declared.output.StreamKind.TheVariants as kind
+use Rattle.vesgrauf.specs.declared.entry.Told.TheVariants as told
+use Rattle.vesgrauf.specs.declared.entry.Entry.{Entry}
+use Rattle.vesgrauf.specs.declared.event.Event.{Event}
+use Rattle.vesgrauf.specs.declared.connection.ids.Ids.{Ids}
+use Rattle.vesgrauf.specs.Ids.{was, own_bit, peer_bit, kind_by, kind_of, next_own, next_peer, taken, seen, opened, blocked}
+use Rattle.vesgrauf.specs.Own.{entry_at, own_in, UntouchedBut}
+use Rattle.vesgrauf.specs.State.{knows_of}
+use Rattle.vesgrauf.specs.Told.{Sets, AreOthers, AreIds, Stays, status_by, Goes}
+use Rattle.vesgrauf.proofs.GoesLemmas.{by_none, goes_refl, same_at, stays_refl}
+
+-- ---- IDs that are taken
+
+lt_more : (a n : ℕ) → nat_lt a n ≡ true → nat_lt a (n + 4) ≡ true
+lt_more a n h = grind (arith, h)
+
+mod_more : (n r : ℕ) → n % 4 ≡ r → (n + 4) % 4 ≡ r
+mod_more n r h = grind (arith, h)
+
+taken_is : (ids : Ids) (k j : StreamKind) (id : ℕ) (own : Bool)
+    → cond own (nat_lt id (next_own ids j)) (nat_lt id (next_peer ids j)) ≡ true
+    → cond own (nat_lt id (next_own (taken ids k) j)) (nat_lt id (next_peer (taken ids k) j)) ≡ true
+taken_is ids kind.Bidirectional kind.Bidirectional id true h = lt_more id ids.bidirectional h
+taken_is ids kind.Bidirectional kind.Unidirectional id true h = h
+taken_is ids kind.Unidirectional kind.Bidirectional id true h = h
+taken_is ids kind.Unidirectional kind.Unidirectional id true h = lt_more id ids.unidirectional h
+taken_is ids kind.Bidirectional kind.Bidirectional id false h = h
+taken_is ids kind.Bidirectional kind.Unidirectional id false h = h
+taken_is ids kind.Unidirectional kind.Bidirectional id false h = h
+taken_is ids kind.Unidirectional kind.Unidirectional id false h = h
+
+side_taken : (ids : Ids) (k : StreamKind) → (taken ids k).side ≡ ids.side
+side_taken ids kind.Bidirectional = refl
+side_taken ids kind.Unidirectional = refl
+
+was_taken : (ids : Ids) (k : StreamKind) (id : ℕ) → was ids id ≡ true → was (taken ids k) id ≡ true
+was_taken ids k id h = rw (side_taken ids k) (taken_is ids k (kind_of id) id (id % 2 == own_bit ids.side) h)
+
+are_taken : (ids : Ids) (k : StreamKind) → AreIds ids → AreIds (taken ids k)
+are_taken ids kind.Bidirectional s = record {
+  own_both = mod_more ids.bidirectional (own_bit ids.side) s.own_both;
+  own_one = s.own_one;
+  peer_both = s.peer_both;
+  peer_one = s.peer_one;
+}
+are_taken ids kind.Unidirectional s = record {
+  own_both = s.own_both;
+  own_one = mod_more ids.unidirectional (own_bit ids.side + 2) s.own_one;
+  peer_both = s.peer_both;
+  peer_one = s.peer_one;
+}
+
+seen_is : (ids : Ids) (k j : StreamKind) (id : ℕ) (own : Bool)
+    → cond own (nat_lt id (next_own ids j)) (nat_lt id (next_peer ids j)) ≡ true
+    → cond own (nat_lt id (next_own (seen ids k) j)) (nat_lt id (next_peer (seen ids k) j)) ≡ true
+seen_is ids kind.Bidirectional kind.Bidirectional id false h = lt_more id ids.peer_bidirectional h
+seen_is ids kind.Bidirectional kind.Unidirectional id false h = h
+seen_is ids kind.Unidirectional kind.Bidirectional id false h = h
+seen_is ids kind.Unidirectional kind.Unidirectional id false h = lt_more id ids.peer_unidirectional h
+seen_is ids kind.Bidirectional kind.Bidirectional id true h = h
+seen_is ids kind.Bidirectional kind.Unidirectional id true h = h
+seen_is ids kind.Unidirectional kind.Bidirectional id true h = h
+seen_is ids kind.Unidirectional kind.Unidirectional id true h = h
+
+side_seen : (ids : Ids) (k : StreamKind) → (seen ids k).side ≡ ids.side
+side_seen ids kind.Bidirectional = refl
+side_seen ids kind.Unidirectional = refl
+
+was_seen : (ids : Ids) (k : StreamKind) (id : ℕ) → was ids id ≡ true → was (seen ids k) id ≡ true
+was_seen ids k id h = rw (side_seen ids k) (seen_is ids k (kind_of id) id (id % 2 == own_bit ids.side) h)
+
+are_seen : (ids : Ids) (k : StreamKind) → AreIds ids → AreIds (seen ids k)
+are_seen ids kind.Bidirectional s = record {
+  own_both = s.own_both;
+  own_one = s.own_one;
+  peer_both = mod_more ids.peer_bidirectional (peer_bit ids.side) s.peer_both;
+  peer_one = s.peer_one;
+}
+are_seen ids kind.Unidirectional s = record {
+  own_both = s.own_both;
+  own_one = s.own_one;
+  peer_both = s.peer_both;
+  peer_one = mod_more ids.peer_unidirectional (peer_bit ids.side + 2) s.peer_one;
+}
+
+-- ---- what the program knows of them
+
+seen_stays : (o : Option Entry) (a b : Bool) → (a ≡ true → b ≡ true) → Stays (status_by o a) (status_by o b)
+seen_stays (Some e) a b h = stays_refl e.told
+seen_stays None true b h = rw (h refl) refl
+seen_stays None false b h = tt
+
+-- more IDs are taken or seen, and no stream changes
+ids_grow : (es : List (ℕ × Entry)) (ids jds : Ids) (q : List Event) → (AreIds ids → AreIds jds)
+    → ((id : ℕ) → was ids id ≡ true → was jds id ≡ true) → Goes [] es ids q es jds q
+ids_grow es ids jds q are grow = by_none es es ids jds q
+    (λ s. record { ids_are = are s.ids_are; were = λ id have. grow id (s.were id have) })
+    (λ s id. seen_stays (entry_at es id) (was ids id) (was jds id) (grow id))
+
+taken_if : (b : Bool) (es : List (ℕ × Entry)) (ids : Ids) (q : List Event) (k : StreamKind)
+    → Goes [] es ids q es (cond b (taken ids k) ids) q
+taken_if true es ids q k = ids_grow es ids (taken ids k) q (are_taken ids k) (was_taken ids k)
+taken_if false es ids q k = goes_refl es ids q
+
+-- an ID is taken: of a stream of which there are no events
+pub goes_taken : (es : List (ℕ × Entry)) (ids : Ids) (q : List Event) (k : StreamKind)
+    → Goes [] es ids q es (if nat_lt (next_own ids k) (2 ^ 62) then taken ids k else ids) q
+goes_taken es ids q k = taken_if (nat_lt (next_own ids k) (2 ^ 62)) es ids q k
+
+-- ---- streams that begin
+
+new_by : (b : Bool) (o : Option Entry) (e : Entry) (a c : Bool) → (b ≡ true → (is_some o ≡ true → a ≡ true) × (a ≡ false))
+    → (a ≡ true → c ≡ true) → Stays (status_by o a) (status_by (cond b (Some e) o) c)
+new_by false o e a c h g = seen_stays o a c g
+new_by true None e true c h g = absurd (let bad : true ≡ false = (h refl).1 in cc)
+new_by true None e false c h g = tt
+new_by true (Some x) e a c h g = absurd (let t : a ≡ true = (h refl).0 refl in let f : a ≡ false = (h refl).1 in cc)
+
+some_new : (b : Bool) (o : Option Entry) (e : Entry) (a : Bool) → (b ≡ true → a ≡ true) → (is_some o ≡ true → a ≡ true)
+    → is_some (cond b (Some e) o) ≡ true → a ≡ true
+some_new true o e a g h s = g refl
+some_new false o e a g h s = h s
+
+-- a stream begins that there was not
+begins : (es fs : List (ℕ × Entry)) (ids jds : Ids) (q : List Event) (id : ℕ) (e : Entry) → Sets id (Some e) es fs
+    → (AreIds ids → AreIds jds) → ((k : ℕ) → was ids k ≡ true → was jds k ≡ true)
+    → (AreIds ids → was ids id ≡ false) → (AreIds ids → was jds id ≡ true) → Goes [] es ids q fs jds q
+begins es fs ids jds q id e sets are grow before now = by_none es fs ids jds q
+    (λ s. record {
+      ids_are = are s.ids_are;
+      were = λ k have.
+          let h : is_some (entry_at fs k) ≡ true = have in
+          let g : is_some (cond (is_at (nat_cmp id) k) (Some e) (entry_at es k)) ≡ true = rw (sets k) at h in
+          some_new (is_at (nat_cmp id) k) (entry_at es k) e (was jds k)
+          (λ at. rw (same_at id k at) (now s.ids_are)) (λ x. grow k (s.were k x)) g;
+    })
+    (λ s k. rw (sets k) (new_by (is_at (nat_cmp id) k) (entry_at es k) e (was ids k) (was jds k)
+    (λ at. (s.were k, rw (same_at id k at) (before s.ids_are))) (grow k)))
+
+-- ---- the next IDs
+
+not_below : (n : ℕ) → nat_lt n n ≡ false
+not_below n = grind arith
+
+below_more : (n : ℕ) → nat_lt n (n + 4) ≡ true
+below_more n = grind arith
+
+half_0 : (n : ℕ) → n % 4 ≡ 0 → (n % 2 ≡ 0) × (nat_lt (n % 4) 2 ≡ true)
+half_0 n h = (grind (arith, h), rw h refl)
+
+half_1 : (n : ℕ) → n % 4 ≡ 1 → (n % 2 ≡ 1) × (nat_lt (n % 4) 2 ≡ true)
+half_1 n h = (grind (arith, h), rw h refl)
+
+half_2 : (n : ℕ) → n % 4 ≡ 2 → (n % 2 ≡ 0) × (nat_lt (n % 4) 2 ≡ false)
+half_2 n h = (grind (arith, h), rw h refl)
+
+half_3 : (n : ℕ) → n % 4 ≡ 3 → (n % 2 ≡ 1) × (nat_lt (n % 4) 2 ≡ false)
+half_3 n h = (grind (arith, h), rw h refl)
+
+-- the next ID of a kind is one of this side, of this kind
+own_next : (ids : Ids) (k : StreamKind) (s : Side) → ids.side ≡ s → AreIds ids
+    → (next_own ids k % 2 ≡ own_bit s) × (kind_of (next_own ids k) ≡ k)
+own_next ids kind.Bidirectional side.Client h a =
+    let x = half_0 ids.bidirectional (a.own_both ∙ ap own_bit h) in (x.0, ap kind_by x.1)
+own_next ids kind.Bidirectional side.Server h a =
+    let x = half_1 ids.bidirectional (a.own_both ∙ ap own_bit h) in (x.0, ap kind_by x.1)
+own_next ids kind.Unidirectional side.Client h a =
+    let x = half_2 ids.unidirectional (a.own_one ∙ ap (λ t. own_bit t + 2) h) in (x.0, ap kind_by x.1)
+own_next ids kind.Unidirectional side.Server h a =
+    let x = half_3 ids.unidirectional (a.own_one ∙ ap (λ t. own_bit t + 2) h) in (x.0, ap kind_by x.1)
+
+peer_next : (ids : Ids) (k : StreamKind) (s : Side) → ids.side ≡ s → AreIds ids
+    → ((next_peer ids k % 2 == own_bit s) ≡ false) × (kind_of (next_peer ids k) ≡ k)
+peer_next ids kind.Bidirectional side.Client h a =
+    let x = half_1 ids.peer_bidirectional (a.peer_both ∙ ap peer_bit h) in (rw x.0 refl, ap kind_by x.1)
+peer_next ids kind.Bidirectional side.Server h a =
+    let x = half_0 ids.peer_bidirectional (a.peer_both ∙ ap peer_bit h) in (rw x.0 refl, ap kind_by x.1)
+peer_next ids kind.Unidirectional side.Client h a =
+    let x = half_3 ids.peer_unidirectional (a.peer_one ∙ ap (λ t. peer_bit t + 2) h) in (rw x.0 refl, ap kind_by x.1)
+peer_next ids kind.Unidirectional side.Server h a =
+    let x = half_2 ids.peer_unidirectional (a.peer_one ∙ ap (λ t. peer_bit t + 2) h) in (rw x.0 refl, ap kind_by x.1)
+
+itself : (n : ℕ) → (n == n) ≡ true
+itself n = grind arith
+
+own_was : (ids : Ids) (k : StreamKind) → AreIds ids → was ids (next_own ids k) ≡ false
+own_was ids k a = let x = own_next ids k ids.side refl a in
+    rw (x.0, itself (own_bit ids.side), x.1) (not_below (next_own ids k))
+
+next_taken : (ids : Ids) (k : StreamKind) → next_own (taken ids k) k ≡ next_own ids k + 4
+next_taken ids kind.Bidirectional = refl
+next_taken ids kind.Unidirectional = refl
+
+own_is : (ids : Ids) (k : StreamKind) → AreIds ids → was (taken ids k) (next_own ids k) ≡ true
+own_is ids k a = let x = own_next ids k ids.side refl a in
+    rw (side_taken ids k, x.0, itself (own_bit ids.side), x.1, next_taken ids k) (below_more (next_own ids k))
+
+peer_was : (ids : Ids) (k : StreamKind) → AreIds ids → was ids (next_peer ids k) ≡ false
+peer_was ids k a = let x = peer_next ids k ids.side refl a in rw (x.0, x.1) (not_below (next_peer ids k))
+
+next_seen : (ids : Ids) (k : StreamKind) → next_peer (seen ids k) k ≡ next_peer ids k + 4
+next_seen ids kind.Bidirectional = refl
+next_seen ids kind.Unidirectional = refl
+
+peer_is : (ids : Ids) (k : StreamKind) → AreIds ids → was (seen ids k) (next_peer ids k) ≡ true
+peer_is ids k a = let x = peer_next ids k ids.side refl a in
+    rw (side_seen ids k, x.0, x.1, next_seen ids k) (below_more (next_peer ids k))
+
+-- an own stream is opened
+pub goes_opened : (es fs : List (ℕ × Entry)) (ids : Ids) (q : List Event) (k : StreamKind) (e : Entry)
+    → Sets (next_own ids k) (Some e) es fs → Goes [] es ids q fs (taken ids k) q
+goes_opened es fs ids q k e sets = begins es fs ids (taken ids k) q (next_own ids k) e sets
+    (are_taken ids k) (was_taken ids k) (own_was ids k) (own_is ids k)
+
+-- a stream of the peer is registered
+pub goes_accepted : (es fs : List (ℕ × Entry)) (ids : Ids) (q : List Event) (k : StreamKind) (e : Entry)
+    → Sets (next_peer ids k) (Some e) es fs → Goes [] es ids q fs (seen ids k) q
+goes_accepted es fs ids q k e sets = begins es fs ids (seen ids k) q (next_peer ids k) e sets
+    (are_seen ids k) (was_seen ids k) (peer_was ids k) (peer_is ids k)
+
+-- ---- by what the maps say
+
+sets_here : (b : Bool) (o p w : Option Entry) → (b ≡ true → o ≡ w) → (b ≡ false → o ≡ p) → o ≡ cond b w p
+sets_here true o p w h g = h refl
+sets_here false o p w h g = g refl
+
+sets_by : (es fs : List (ℕ × Entry)) (id : ℕ) (w : Option Entry) → entry_at fs id ≡ w → AreOthers id es fs → Sets id w es fs
+sets_by es fs id w here others k = sets_here (is_at (nat_cmp id) k) (entry_at fs k) (entry_at es k) w
+    (λ at. rw (same_at id k at) here) (others k)
+
+goes_seen : (b : Bool) (es fs : List (ℕ × Entry)) (ids jds : Ids) (q : List Event) (k : StreamKind) (e : Entry)
+    → b ≡ true → jds ≡ cond b (seen ids k) ids → Sets (next_peer ids k) (Some e) es fs → Goes [] es ids q fs jds q
+goes_seen true es fs ids jds q k e h i sets = rw i (goes_accepted es fs ids q k e sets)
+goes_seen false es fs ids jds q k e h i sets = absurd (let bad : false ≡ true = h in cc)
+
+-- a stream of the peer is registered, if there is one more
+pub goes_accepts : (es fs : List (ℕ × Entry)) (ids jds : Ids) (q : List Event) (k : StreamKind) (id : ℕ) (e : Entry)
+    → id ≡ next_peer ids k → id < 2 ^ 62 → jds ≡ (if nat_lt (next_peer ids k) (2 ^ 62) then seen ids k else ids)
+    → entry_at fs id ≡ Some e → AreOthers id es fs → Goes [] es ids q fs jds q
+goes_accepts es fs ids jds q k id e at below i here others =
+    let t : nat_lt (next_peer ids k) (2 ^ 62) ≡ true = grind (arith, at, below) in
+    goes_seen (nat_lt (next_peer ids k) (2 ^ 62)) es fs ids jds q k e t i
+    (rw (sym at) (sets_by es fs id (Some e) here others))
+
+goes_took : (b : Bool) (es fs : List (ℕ × Entry)) (ids jds : Ids) (q : List Event) (k : StreamKind) (e : Entry)
+    → b ≡ true → jds ≡ cond b (taken ids k) ids → Sets (next_own ids k) (Some e) es fs → Goes [] es ids q fs jds q
+goes_took true es fs ids jds q k e h i sets = rw i (goes_opened es fs ids q k e sets)
+goes_took false es fs ids jds q k e h i sets = absurd (let bad : false ≡ true = h in cc)
+
+opens_by : (o : Option Entry) (es fs : List (ℕ × Entry)) (ids jds : Ids) (q : List Event) (k : StreamKind) (id : ℕ)
+    → id ≡ next_own ids k → id < 2 ^ 62 → jds ≡ (if nat_lt (next_own ids k) (2 ^ 62) then taken ids k else ids)
+    → entry_at fs id ≡ o → knows_of o ≡ true → AreOthers id es fs → Goes [] es ids q fs jds q
+opens_by None es fs ids jds q k id at below i here known others = absurd (let bad : false ≡ true = known in cc)
+opens_by (Some e) es fs ids jds q k id at below i here known others =
+    let t : nat_lt (next_own ids k) (2 ^ 62) ≡ true = grind (arith, at, below) in
+    goes_took (nat_lt (next_own ids k) (2 ^ 62)) es fs ids jds q k e t i
+    (rw (sym at) (sets_by es fs id (Some e) here others))
+
+-- an own stream is opened, of which the program knows
+pub goes_opens : (es fs : List (ℕ × Entry)) (ids jds : Ids) (q : List Event) (k : StreamKind) (id : ℕ)
+    → id ≡ next_own ids k → id < 2 ^ 62 → jds ≡ (if nat_lt (next_own ids k) (2 ^ 62) then taken ids k else ids)
+    → knows_of (entry_at fs id) ≡ true → AreOthers id es fs → Goes [] es ids q fs jds q
+goes_opens es fs ids jds q k id at below i known others =
+    opens_by (entry_at fs id) es fs ids jds q k id at below i refl known others
+
+-- the program knows of a stream that it opened
+pub knows_here : (fs : List (ℕ × Entry)) (id : ℕ) (e : Entry) → entry_at fs id ≡ Some e → e.told ≡ told.Known
+    → knows_of (entry_at fs id) ≡ true
+knows_here fs id e here known = rw (here, known) refl
+
+was_blocked : (ids : Ids) (k : StreamKind) (b : Bool) (id : ℕ) → was (blocked ids k b) id ≡ was ids id
+was_blocked ids kind.Bidirectional b id = refl
+was_blocked ids kind.Unidirectional b id = refl
+
+are_blocked : (ids : Ids) (k : StreamKind) (b : Bool) → AreIds ids → AreIds (blocked ids k b)
+are_blocked ids kind.Bidirectional b s = record {
+  own_both = s.own_both;
+  own_one = s.own_one;
+  peer_both = s.peer_both;
+  peer_one = s.peer_one;
+}
+are_blocked ids kind.Unidirectional b s = record {
+  own_both = s.own_both;
+  own_one = s.own_one;
+  peer_both = s.peer_both;
+  peer_one = s.peer_one;
+}
+
+-- QUIC opens no stream of a kind, or does again
+pub goes_blocked : (es : List (ℕ × Entry)) (ids : Ids) (q : List Event) (k : StreamKind) (b : Bool)
+    → Goes [] es ids q es (blocked ids k b) q
+goes_blocked es ids q k b = ids_grow es ids (blocked ids k b) q (are_blocked ids k b)
+    (λ id h. was_blocked ids k b id ∙ h)
+
+was_open : (ids : Ids) (k : StreamKind) (id : ℕ) → was (opened ids k) id ≡ was ids id
+was_open ids kind.Bidirectional id = refl
+was_open ids kind.Unidirectional id = refl
+
+are_open : (ids : Ids) (k : StreamKind) → AreIds ids → AreIds (opened ids k)
+are_open ids kind.Bidirectional s = record {
+  own_both = s.own_both;
+  own_one = s.own_one;
+  peer_both = s.peer_both;
+  peer_one = s.peer_one;
+}
+are_open ids kind.Unidirectional s = record {
+  own_both = s.own_both;
+  own_one = s.own_one;
+  peer_both = s.peer_both;
+  peer_one = s.peer_one;
+}
+
+-- QUIC has opened a stream, if one was to be opened
+pub goes_unopened : (b : Bool) (es : List (ℕ × Entry)) (ids : Ids) (q : List Event) (k : StreamKind)
+    → Goes [] es ids q es (cond b (opened ids k) ids) q
+goes_unopened true es ids q k = ids_grow es ids (opened ids k) q (are_open ids k) (λ id h. was_open ids k id ∙ h)
+goes_unopened false es ids q k = goes_refl es ids q
+
+-- the entries of other streams are what they were
+pub others_untouched : (es fs : List (ℕ × Entry)) (id : ℕ) → AreOthers id es fs → UntouchedBut id es fs
+others_untouched es fs id h = record { each = λ k t. inl (ap own_in (h k t)) }

@@ -1,0 +1,14 @@
+use Rattle.std.proofs.Common.{◌≡◌, ◌∙◌, false, Some, sym}
+use Rattle.vesgrauf.specs.Own.{entry_at}
+use Rattle.vesgrauf.specs.State.{knows_of}
+use Rattle.vesgrauf.proofs.KeepsLemmas.{keeps_over}
+use Rattle.vesgrauf.proofs.connection.Connection.closed.Goals as goal
+
+pub returns-then-not-is_known-clause-keeps : goal.returns-then-not-is_known-clause-keeps
+returns-then-not-is_known-clause-keeps c =
+    let there : Some c.in-Some.entry.now ≡ entry_at c.args.self.now.streams.entries c.args.id
+    = rw c.in-Some.is at c.get.ensures.value in
+    let unknown : knows_of (entry_at c.args.self.now.streams.entries c.args.id) ≡ false
+    = rw (sym there) (sym c.is_known.ensures ∙ c.if-not-is_known.true) in
+    rw c.end_told.ensures.others (keeps_over c.args.self.now.streams.entries c.end_told.new.self.streams.entries
+    c.args.self.now.ids c.args.self.now.events.items c.args.self.now.config c.args.id unknown c.end_told.ensures.ends)

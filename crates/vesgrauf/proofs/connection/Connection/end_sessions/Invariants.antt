@@ -1,0 +1,6 @@
+use Rattle.std.proofs.Common.{[]}
+use Rattle.vesgrauf.specs.Told.{GoesOn}
+use Rattle.vesgrauf.proofs.connection.Connection.end_sessions.Given as goal
+
+abbrev pub invariant-loop-session : goal.invariant-loop-session
+invariant-loop-session l = record { goes : GoesOn [] l.initial.self l.self }

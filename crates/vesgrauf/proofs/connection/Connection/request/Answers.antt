@@ -1,0 +1,47 @@
+use Rattle.std.proofs.Common.{◌≡◌, true, [], refl, ap, sym, ◌∙◌}
+use Rattle.vesgrauf_stream.specs.Headers.{request_at, SendsHeaders}
+use Rattle.vesgrauf.specs.Ids.{next_own}
+use Rattle.vesgrauf.specs.Own.{entry_at}
+use Rattle.vesgrauf.specs.State.{IsStill, knows_of}
+use Rattle.vesgrauf.specs.declared.connection.Connection.{Connection}
+use Rattle.vesgrauf.specs.declared.output.StreamKind.TheVariants as kind
+use Rattle.vesgrauf.proofs.GoesLemmas.{goes_still, goes_same}
+use Rattle.vesgrauf.proofs.GoesSteps.{goes_on}
+use Rattle.vesgrauf.proofs.IdLemmas.{goes_opens}
+use Rattle.vesgrauf.proofs.MessageLemmas.{same_but, requests}
+use Rattle.vesgrauf.proofs.connection.Connection.request.Goals as goal
+
+pub returns-clause-goes : goal.returns-clause-goes
+returns-clause-goes c =
+    let later : IsStill c.check_room.new.self c.choose_policy.new.self
+    = c.choose_policy.ensures.still ∙ c.reserve.ensures.still in
+    let still : IsStill c.args.self.now c.choose_policy.new.self = later ∙ c.check_room.ensures.still in
+    let known : knows_of (entry_at c.open_request.new.self.streams.entries c.in-Some.id) ≡ true
+    = c.in_ok-open_request.ensures.known in
+    let opened : Connection = record c.open_request.new.self { ids = c.take.new.self } in (
+      goes_on [] c.args.self.now c.choose_policy.new.self c.count_session.new.self
+          (goes_still c.args.self.now c.choose_policy.new.self still)
+          (goes_on [] c.choose_policy.new.self opened c.count_session.new.self
+          (rw (ap (λ d. d.items) c.in_ok-open_request.ensures.events)
+          (goes_opens c.choose_policy.new.self.streams.entries c.open_request.new.self.streams.entries
+          c.choose_policy.new.self.ids c.take.new.self c.choose_policy.new.self.events.items kind.Bidirectional c.in-Some.id
+          (c.in-Some.ensures.0 ∙ ap (λ v. next_own v.ids kind.Bidirectional) (sym later)) c.in-Some.ensures.1
+          (rw c.in_ok-open_request.ensures.ids at c.take.ensures) known c.in_ok-open_request.ensures.others))
+          (goes_on [] opened c.queue_due.new.self c.count_session.new.self c.queue_due.ensures.goes
+          (goes_same c.queue_due.new.self.streams.entries c.count_session.new.self.streams.entries
+          c.queue_due.new.self.ids c.count_session.new.self.ids c.queue_due.new.self.events.items
+          c.count_session.new.self.events.items (ap (λ m. m.entries) c.count_session.ensures.streams)
+          c.count_session.ensures.ids (ap (λ m. m.items) c.count_session.ensures.events)))),
+      rw (ap (λ m. m.entries) c.count_session.ensures.streams, ap (λ v. v.streams) c.queue_due.ensures.due.others) known,
+    )
+
+pub returns-clause-begins : goal.returns-clause-begins
+returns-clause-begins c = requests c.args.self.now c.choose_policy.new.self c.open_request.new.self
+    (record c.open_request.new.self { ids = c.take.new.self }) c.queue_due.new.self c.count_session.new.self c.in-Some.id
+    (λ a s t v w. SendsHeaders (request_at v c.in-Some.id a) c.args.list.now c.args.fin s t v w)
+    ((c.choose_policy.ensures.still ∙ c.reserve.ensures.still) ∙ c.check_room.ensures.still)
+    (same_but c.args.self.now c.reserve.new.self c.choose_policy.new.self
+    (c.reserve.ensures.tools ∙ c.check_room.ensures.tools) c.choose_policy.ensures.policy
+    c.choose_policy.ensures.instructions)
+    c.in_ok-open_request.ensures.begins c.open_request.ensures.view refl c.queue_due.ensures.due
+    c.count_session.ensures.others
