@@ -33,6 +33,8 @@ CONTROLS = {(2, CLIENT): bytes.fromhex(OF_CLIENT), (3, SERVER): bytes.fromhex(OF
 # A request and its response, and a session that is accepted.
 ASKED = {(0, CLIENT): headers(*GET), (0, SERVER): headers(*OK)}
 OPEN = {**CONTROLS, (0, CLIENT): headers(*SESSION), (0, SERVER): headers(*OK)}
+# A close of a session with a code and a reason (webtrans, section 5).
+BYE = CLOSE + b"\7\0\0\0\5bye"
 # The setting of the largest capacity of a dynamic table (RFC 9204, section 5), with which a table
 # has at most 16 entries (section 4.5.1.1).
 TABLE = 512
@@ -212,7 +214,7 @@ NOTED = [
         "a-closed-session",
         {
             **OPEN,
-            (0, CLIENT): headers(*SESSION) + data(CLOSE + b"\7\0\0\0\5bye"),
+            (0, CLIENT): headers(*SESSION) + data(BYE),
             (6, CLIENT): member(0),
         },
         [("closed session", SERVER, 0, None)],
@@ -370,6 +372,30 @@ STREAM = [
             + data(capsule(0x78AE, b"")),
         },
         [reset(SERVER, 0, MESSAGE)],
+    ),
+    *(
+        Row(
+            f"a-byte-after-the-close-{name}",
+            {**OPEN, (0, end): OPEN[0, end] + content},
+            [("closed session", by, 0, None), reset(by, 0, MESSAGE)],
+            options=options,
+        )
+        for end, by in ((CLIENT, SERVER), (SERVER, CLIENT))
+        for options in ("--open", "")
+        for name, content in (
+            (f"of-the-{end}{options}", data(BYE + b"h")),
+            (f"of-the-{end}-in-another-frame{options}", data(BYE) + data(b"h")),
+        )
+    ),
+    Row(
+        "a-byte-after-the-closes-of-both-ends",
+        {**OPEN, **{(0, end): OPEN[0, end] + data(BYE + b"h") for end in (CLIENT, SERVER)}},
+        [
+            ("closed session", SERVER, 0, None),
+            reset(SERVER, 0, MESSAGE),
+            ("closed session", CLIENT, 0, None),
+            reset(CLIENT, 0, MESSAGE),
+        ],
     ),
     # (RFC 9297, section 2)
     Row(

@@ -1,5 +1,5 @@
 -- What an endpoint finds in what its peer sent.
-use Rattle.std.specs.Prelude.{◌≡◌, ℕ, ◌-◌, Bool, true, false, List, [], length, take, Option, Some, None}
+use Rattle.std.specs.Prelude.{◌≡◌, ℕ, ◌-◌, ◌==◌, ◌&&◌, if◌then◌else◌, Bool, true, false, List, [], length, take, Option, Some, None}
 use Rattle.std.specs.List.{list_any}
 use Rattle.wtp_connection.specs.declared.fault.Fault.TheVariants as streams
 use Rattle.wtp_webtransport.specs.Fault.{code_of}
@@ -61,6 +61,11 @@ Says (ConnectionClosed code by_peer) is_open failure said = said ≡ found_in_fa
 Says (Failed f) is_open failure said = said ≡ Some (found_on_stream f.rule)
 Says (Closed w) is_open failure said = SaysEndIf is_open w said
 Says _ is_open failure said = said ≡ None
+
+-- what it says of the peer that a stream is reset with this code, whose session it had closed or not: bytes followed the
+-- close (draft-ietf-webtrans-http3-02, section 5)
+abbrev pub found_by_reset : ℕ → Bool → Option Finding
+found_by_reset code is_closed = if is_closed && code == 0x010e then Some (finding.Stream fault.Capsule) else None
 
 -- where it is found, of what came from this place
 abbrev pub place_or : Place → Option ℕ → Place

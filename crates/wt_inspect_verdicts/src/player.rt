@@ -5,6 +5,7 @@ ghost use Rattle.wt_inspect_verdicts.specs.Findings.{EndOnce};
 ghost use Rattle.wt_inspect_verdicts.specs.Players.{Reads, stream_in};
 
 mod messages;
+mod outputs;
 mod waiting;
 
 use crate::findings::Findings;
@@ -15,7 +16,7 @@ use std::alloc::{AllocError, Global};
 use std::collections::BTreeMap;
 use vesgrauf::config::Config;
 use vesgrauf::connection::Connection;
-use vesgrauf::event::{Event, EventKind, Tunnel};
+use vesgrauf::event::{Event, EventKind, Tunnel, Why};
 use vesgrauf::input::Input;
 use vesgrauf::output::Shutdown;
 use vesgrauf::refused::Refused;
@@ -40,6 +41,8 @@ pub(crate) struct Player<'a> {
     tunnels: Vec<u64>,
     /// The sessions that were opened.
     sessions: Vec<u64>,
+    /// The sessions that the peer closed.
+    closed: Vec<u64>,
     /// The encoder stream of the peer, and how many of its steps were read.
     encoder: Option<u64>,
     steps: Steps,
@@ -62,6 +65,7 @@ impl<'a> Player<'a> {
             unasked: Vec::new(alloc),
             tunnels: Vec::new(alloc),
             sessions: Vec::new(alloc),
+            closed: Vec::new(alloc),
             encoder: None,
             steps,
             next_step: 0,
@@ -179,7 +183,9 @@ impl<'a> Player<'a> {
     fn play(&mut self, from: Place, input: Input<'_>) -> Result<(), AllocError> {
         let mut input = input;
         for _event in 0..u64::MAX {
-            let Some(event) = self.connection.next_event(&mut input)? else {
+            let told = self.connection.next_event(&mut input)?;
+            self.take_outputs()?;
+            let Some(event) = told else {
                 return Ok(());
             };
             if !self.is_for_tunnel(&event) {
@@ -225,6 +231,7 @@ impl<'a> Player<'a> {
                 }
                 Ok(())
             }
+            EventKind::Closed(Why::Session(_)) => Ok(self.closed.push(id)?),
             _ => Ok(()),
         }
     }

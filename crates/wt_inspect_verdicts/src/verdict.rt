@@ -1,6 +1,6 @@
 //! What an endpoint finds in what its peer sent.
 ghost use Rattle.std.specs.Prelude.{◌≡◌, IfOk};
-ghost use Rattle.wt_inspect_verdicts.specs.Findings.{Says, SaysClosed, SaysEnd, code_in, ends_connection, found_at_end, found_on_stream, is_fault, place_in};
+ghost use Rattle.wt_inspect_verdicts.specs.Findings.{Says, SaysClosed, SaysEnd, code_in, ends_connection, found_at_end, found_by_reset, found_on_stream, is_fault, place_in};
 
 use crate::words::{fault_words, malformed_words};
 use std::alloc::{AllocError, Global};
@@ -224,6 +224,19 @@ fn found_at_end(rule: Rule) -> Finding
     match rule {
         Rule::Fault(fault) => Finding::Connection(fault),
         rule => found_on_stream(rule),
+    }
+}
+
+/// Returns what it says of the peer that a stream is reset with this code, if it says something. `is_closed`: the
+/// peer had closed the session of the stream. No event tells of bytes that follow the close.
+pub(crate) fn found_by_reset(code: u64, is_closed: bool) -> Option<Finding>
+    ensures { result ≡ found_by_reset code «is_closed» }
+{
+    let fault = Fault::Capsule;
+    if is_closed && code == fault.code().number().into_inner() {
+        Some(Finding::Stream(fault))
+    } else {
+        None
     }
 }
 
