@@ -246,9 +246,6 @@ keeps_last es fs ids q a ev n word none h = last_by (entry_at es ev.stream) es f
 -- to show that a step keeps all of that
 pub ruleset keep = (keeps_refl, keeps_trans, keeps_after, keeps_set, keeps_by_set, keeps_by_goes)
 
--- to show it of a step that is one after the other
-pub ruleset then_keep = (keeps_refl, keeps_trans)
-
 -- what follows from it
 pub ruleset kept = (keeps_own, keeps_left, keeps_goes, keeps_config)
 

@@ -90,8 +90,8 @@ impl Connection {
         list: &FieldList,
         fin: bool,
     ) -> Result<(), Refused>
-        ensures ok { OnOk result (Changes id (λ v w. SendsHeaders (response_at v session (allowed self.old)) list.now fin
-            self.old.tools self.new.tools v w) self.old self.new) }
+        ensures ok { OnOk result (Changes id (λ v w. SendsHeaders (response_at v session (allowed self.old))
+            list.now fin self.old.tools self.new.tools v w) self.old self.new) }
         ensures kept { OnErr result (IsStill self.old self.new) }
         ensures own { UntouchedBut id self.old.streams.entries self.new.streams.entries }
         ensures left { Left self.old.streams.entries self.new.streams.entries }

@@ -121,7 +121,8 @@ impl Connection {
     #[inline(always)]
     #[tactic(auto, using(crate::proofs::PieceLemmas::piece_tells, crate::proofs::BoundLemmas::bound))]
     fn piece_at_once<'a>(&mut self, id: u64, input: &mut Input<'a>) -> Option<Piece<'a>>
-        ensures tells { input.old.report ≡ report.Stream id → IfSome result (λ p. Tells (content_on p.stream p.bytes.now)
+        ensures tells { input.old.report ≡ report.Stream id
+            → IfSome result (λ p. Tells (content_on p.stream p.bytes.now)
             self.old.streams.entries input.old self.new.streams.entries input.new) }
         ensures still { result ≡ None → IsStill self.old self.new }
         ensures none { result ≡ None → input.new ≡ input.old }

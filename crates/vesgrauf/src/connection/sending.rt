@@ -48,7 +48,8 @@ impl Connection {
     pub fn output_taken(&mut self) -> Result<(), Refused>
         ensures taken { OnOk result (self.old.closes ≡ None
             → TakesFirst self.old.outputs.items self.new.outputs.items) }
-        ensures closed { is_some self.old.closes ≡ true → (result ≡ Ok tt) × (self.new ≡ record self.old { closes = None }) }
+        ensures closed { is_some self.old.closes ≡ true
+            → (result ≡ Ok tt) × (self.new ≡ record self.old { closes = None }) }
         ensures asked { IfErr result (λ e. (e ≡ refused.Memory)
             ⊎ ((e ≡ refused.NotAsked) × IsNoneOrOpen (next_output self.old))) }
         ensures refused { IfErr result (λ e. IsRefused e self.old self.new) }
