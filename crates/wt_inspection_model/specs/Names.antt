@@ -4,6 +4,7 @@ use Rattle.std.specs.Prelude.{ℕ, ◌||◌, ◌==◌, if◌then◌else◌, List
 use Rattle.vesgrauf_registry.specs.Frames.{kind_of as registered_kind_of}
 use Rattle.vesgrauf_registry.specs.Streams.{UniStream, stream_of}
 use Rattle.vesgrauf_registry.specs.Table.{Entry}
+use Rattle.vesgrauf_registry.specs.declared.frames.Frame.{Frame}
 use Rattle.vesgrauf_registry.specs.declared.frames.FrameType.{FrameType}
 use Rattle.vesgrauf_registry.specs.declared.frames.FrameType.TheVariants as registered-is
 use Rattle.vesgrauf_registry.specs.declared.streams.StreamContent.{StreamContent}
@@ -63,6 +64,16 @@ unfoldable pub stream_name_of : ℕ → StreamName
 stream_name_of n = stream_named (stream_kind_of n) n
 
 -- ---- texts
+
+-- the name of a registered frame type
+abbrev pub registered_name : Option (Entry Frame) → List ℕ
+registered_name None = codes "unknown"
+registered_name (Some e) = e.name
+
+-- the purpose of streams of a registered type, as it is printed
+abbrev pub registered_purpose : Option (Entry UniStream) → List ℕ
+registered_purpose None = codes "unknown"
+registered_purpose (Some e) = e.columns.purpose
 
 -- the text of a frame type name (RFC 9114, section 7.2; RFC 9218, section 7.2;
 -- draft-ietf-webtrans-http3-02, section 9.4)

@@ -1,8 +1,9 @@
 //! Names of frame types and stream types.
 ghost use Rattle.std.specs.Prelude.{◌≡◌};
-ghost use Rattle.vesgrauf_registry.specs.Frames.{kind_of};
-ghost use Rattle.wt_inspection_model.specs.Names.{frame_name_of, frame_name_text, name_in};
-ghost use Rattle.wt_inspection_model.specs.Names.{stream_name_of, stream_name_text};
+ghost use Rattle.vesgrauf_registry.specs.Frames.{frame_of, kind_of};
+ghost use Rattle.vesgrauf_registry.specs.Streams.{stream_of};
+ghost use Rattle.wt_inspection_model.specs.Names.{frame_name_of, frame_name_text, name_in, registered_name};
+ghost use Rattle.wt_inspection_model.specs.Names.{registered_purpose, stream_name_of, stream_name_text};
 
 use vesgrauf_registry::frames::{FrameType, find_frame};
 use vesgrauf_registry::streams::{StreamContent, find_stream};
@@ -71,20 +72,18 @@ impl FrameName {
     }
 
     /// Returns the text of the name: the name in the RFC, `reserved`, `unknown` or `HTTP/2`.
+    #[tactic(auto, unfolding(vesgrauf_registry::specs::Frames::frame_of, vesgrauf_registry::specs::Frames::frames))]
     pub fn as_str(self) -> &'static str
         ensures { result.now ≡ frame_name_text self }
     {
         match self {
-            FrameName::Read(FrameKind::Data) => "DATA",
-            FrameName::Read(FrameKind::Headers) => "HEADERS",
-            FrameName::Read(FrameKind::Settings) => "SETTINGS",
-            FrameName::Read(FrameKind::WebTransport) => "WEBTRANSPORT_STREAM",
             FrameName::Read(FrameKind::Exercise(_)) => "reserved",
-            FrameName::CancelPush => "CANCEL_PUSH",
-            FrameName::PushPromise => "PUSH_PROMISE",
-            FrameName::Goaway => "GOAWAY",
-            FrameName::MaxPushId => "MAX_PUSH_ID",
-            FrameName::PriorityUpdate => "PRIORITY_UPDATE",
+            FrameName::Read(kind) => registered_name(kind.id().into_inner()),
+            FrameName::CancelPush => registered_name(0x03),
+            FrameName::PushPromise => registered_name(0x05),
+            FrameName::Goaway => registered_name(0x07),
+            FrameName::MaxPushId => registered_name(0x0d),
+            FrameName::PriorityUpdate => registered_name(0xf_0700),
             FrameName::Http2 => "HTTP/2",
             FrameName::Unknown => "unknown",
         }
@@ -118,17 +117,35 @@ impl StreamName {
     }
 
     /// Returns the text of the name: the purpose of the stream, `reserved` or `unknown`.
+    #[tactic(auto, unfolding(vesgrauf_registry::specs::Streams::stream_of, vesgrauf_registry::specs::Streams::streams))]
     pub fn as_str(self) -> &'static str
         ensures { result.now ≡ stream_name_text self }
     {
         match self {
-            StreamName::Read(StreamKind::Control) => "control",
-            StreamName::Read(StreamKind::QPackEncoder) => "QPACK encoder",
-            StreamName::Read(StreamKind::QPackDecoder) => "QPACK decoder",
-            StreamName::Read(StreamKind::WebTransport) => "WebTransport",
             StreamName::Read(StreamKind::Exercise(_)) => "reserved",
-            StreamName::Push => "push",
+            StreamName::Read(kind) => registered_purpose(kind.id().into_inner()),
+            StreamName::Push => registered_purpose(0x01),
             StreamName::Unknown => "unknown",
         }
+    }
+}
+
+// Returns the name in the row of this frame type, or `unknown` if it has none.
+fn registered_name(number: u64) -> &'static str
+    ensures { result.now ≡ registered_name (frame_of number) }
+{
+    match find_frame(number) {
+        Some(row) => row.name,
+        None => "unknown",
+    }
+}
+
+// Returns the purpose in the row of this stream type, or `unknown` if it has none.
+fn registered_purpose(number: u64) -> &'static str
+    ensures { result.now ≡ registered_purpose (stream_of number) }
+{
+    match find_stream(number) {
+        Some(row) => row.columns.purpose,
+        None => "unknown",
     }
 }
