@@ -2,7 +2,7 @@
 ghost use Rattle.std.specs.Prelude.{◌≡◌};
 ghost use Rattle.wtp_core.specs.Varint.{number_at};
 ghost use Rattle.wtp_wire.specs.Settings.{pair_at};
-ghost use Rattle.wt_inspection.specs.FlowLimits.{has_limit, is_limit, is_stream_limit, limit_of};
+ghost use Rattle.wt_inspection.specs.FlowLimits.{has_limit, limit_of, meaning_of};
 ghost use Rattle.wt_inspection.specs.FlowLimits.{only_limit, only_stream_limit};
 
 use crate::reading::add_warning;
@@ -12,23 +12,13 @@ use wt_inspection_model::item::{CapsuleItem, FlowLimit, Rule, Warning};
 use wtp_core::varint::{VarInt, first_varint};
 use wtp_wire::head::first_pair;
 
-/// Returns whether the value of a capsule of this type is a limit.
-fn is_limit(number: VarInt) -> bool
-    ensures { result ≡ is_limit number }
+/// Returns what a capsule of this type says to its session, if it is registered.
+fn meaning_of(number: VarInt) -> Option<Meaning>
+    ensures { result ≡ meaning_of number }
 {
     match find_capsule(number.into_inner()) {
-        Some(row) => matches!(row.columns.meaning, Meaning::Limit),
-        None => false,
-    }
-}
-
-/// Returns whether the value of a capsule of this type is a stream ID and a limit.
-fn is_stream_limit(number: VarInt) -> bool
-    ensures { result ≡ is_stream_limit number }
-{
-    match find_capsule(number.into_inner()) {
-        Some(row) => matches!(row.columns.meaning, Meaning::StreamLimit),
-        None => false,
+        Some(row) => Some(row.columns.meaning),
+        None => None,
     }
 }
 
@@ -36,7 +26,10 @@ fn is_stream_limit(number: VarInt) -> bool
 pub(crate) fn has_limit(number: VarInt) -> bool
     ensures { result ≡ has_limit number }
 {
-    is_limit(number) || is_stream_limit(number)
+    match meaning_of(number) {
+        Some(Meaning::Limit | Meaning::StreamLimit) => true,
+        _ => false,
+    }
 }
 
 /// Returns the limit in the value of a capsule of this type, if it has one.
@@ -44,12 +37,10 @@ pub(crate) fn has_limit(number: VarInt) -> bool
 pub(crate) fn limit_of(number: VarInt, value: &[u8]) -> Option<FlowLimit>
     ensures { result ≡ limit_of number value.now }
 {
-    if is_limit(number) {
-        only_limit(value)
-    } else if is_stream_limit(number) {
-        only_stream_limit(value)
-    } else {
-        None
+    match meaning_of(number) {
+        Some(Meaning::Limit) => only_limit(value),
+        Some(Meaning::StreamLimit) => only_stream_limit(value),
+        _ => None,
     }
 }
 
