@@ -13,6 +13,7 @@ use Rattle.vesgrauf.specs.declared.entry.Entry.{Entry}
 use Rattle.vesgrauf.specs.declared.entry.Peer.{Peer}
 use Rattle.vesgrauf.specs.declared.entry.Peer.TheVariants as peer
 use Rattle.vesgrauf.specs.Own.{entry_at}
+use Rattle.vesgrauf.specs.Items.{Item}
 use Rattle.vesgrauf.specs.Theirs.{Theirs, Gone, theirs_by, theirs_of, theirs_in, theirs_at, IsLeft, Left, Piece, AreCalls, AreRead, IsReadTo, IsRead, TellsKept, IsStart, Accepts, OnlyAt}
 use Rattle.vesgrauf.specs.Bounds.{most_kept, Fits, AllFit, KeepsFit, StillFits, KeepsBoundAll, StillBounded, KeepsBound}
 use Rattle.vesgrauf.specs.declared.event.Event.{Event}
@@ -40,19 +41,19 @@ calls_shrink (piece ∷ pieces) bytes rest ended p =
     = calls_shrink pieces (drop piece.consumed bytes) rest ended p.1 in
     grind (arith, step, length-drop)
 
-read_fits : (n : ℕ) (x y : Theirs) (content : List ℕ) → AreRead x content y → Fits n x → Fits n y
-read_fits n x y content r p =
+read_fits : (n : ℕ) (x y : Theirs) (items : List Item) → AreRead x items y → Fits n x → Fits n y
+read_fits n x y items r p =
     let before : length r.bytes ≤ n = subst (λ t. Fits n t) r.from p in
     let after : length r.rest ≤ length r.bytes = calls_shrink r.pieces r.bytes r.rest r.ended r.calls in
     let fits : length r.rest ≤ n = omega (arith, before, after) in
     subst (λ t. Fits n t) (sym r.to) fits
 
-read_to_fits : (n : ℕ) (x y : Theirs) (content : List ℕ) → IsReadTo x content y → Fits n x → Fits n y
-read_to_fits n x y content (inl q) p = subst (λ t. Fits n t) (sym q.0) p
-read_to_fits n x y content (inr r) p = read_fits n x y content r p
+read_to_fits : (n : ℕ) (x y : Theirs) (items : List Item) → IsReadTo x items y → Fits n x → Fits n y
+read_to_fits n x y items (inl q) p = subst (λ t. Fits n t) (sym q.0) p
+read_to_fits n x y items (inr r) p = read_fits n x y items r p
 
-is_read_fits : (n : ℕ) (x y : Theirs) (content : List ℕ) → IsRead x content y → Fits n x → Fits n y
-is_read_fits n x y content q p = left_fits n q.0 y q.2 (read_to_fits n x q.0 content q.1 p)
+is_read_fits : (n : ℕ) (x y : Theirs) (items : List Item) → IsRead x items y → Fits n x → Fits n y
+is_read_fits n x y items q p = left_fits n q.0 y q.2 (read_to_fits n x q.0 items q.1 p)
 
 -- fewer bytes are kept of it, or as many
 shrunk_by : (n : ℕ) (p : Peer) (b : Bool) (r s : Reading) → length (kept_of s) ≤ length (kept_of r)
@@ -98,7 +99,7 @@ gone_fits n x e = subst (λ t. Fits n t) (sym e) tt
 pub left_all : (n : ℕ) (c d : List (ℕ × Entry)) → Left c d → AllFit n c → AllFit n d
 left_all n c d l p = record { each = λ k. left_fits n (theirs_at c k) (theirs_at d k) (l.each k) (p.each k) }
 
-pub kept_all : (n : ℕ) (said : ℕ → List ℕ) (c d : List (ℕ × Entry)) → TellsKept said c d → AllFit n c → AllFit n d
+pub kept_all : (n : ℕ) (said : ℕ → List Item) (c d : List (ℕ × Entry)) → TellsKept said c d → AllFit n c → AllFit n d
 kept_all n said c d t p =
     record { each = λ k. is_read_fits n (theirs_at c k) (theirs_at d k) (said k) (t.each k) (p.each k) }
 
@@ -191,7 +192,7 @@ pub bound_holds : {said : List Event} {es fs : List (ℕ × Entry)} {ids jds : I
     → Left es fs → KeepsOwnAll said es ids q a fs jds r b → KeepsBoundAll a es b fs
 bound_holds {said} {es} {fs} {ids} {jds} {q} {r} {a} {b} l k = bound_left a es b fs l (holds_config k)
 
-pub bound_kept : (said : ℕ → List ℕ) (a : Config) (es : List (ℕ × Entry)) (b : Config) (fs : List (ℕ × Entry))
+pub bound_kept : (said : ℕ → List Item) (a : Config) (es : List (ℕ × Entry)) (b : Config) (fs : List (ℕ × Entry))
     → TellsKept said es fs → b ≡ a → KeepsBoundAll a es b fs
 bound_kept said a es b fs t e = StillBounded (λ p. subst (λ x. AllFit (most_kept x) fs) (sym e)
     (kept_all (most_kept a) said es fs t p))

@@ -88,12 +88,13 @@ path_first Closes p ws n h = absurd (let bad : true ≡ false = n in cc)
 -- ---- steps
 
 pub goes_refl : (es : List (ℕ × Entry)) (ids : Ids) (q : List Event) → Goes [] es ids q es ids q
-goes_refl es ids q = record { sound = λ s. s; told = λ s id p h. h }
+goes_refl es ids q = record { seen = λ id h. h; sound = λ s. s; told = λ s id p h. h }
 
 -- what is told first
 pub goes_then : (said more : List Event) (es fs gs : List (ℕ × Entry)) (ids jds kds : Ids) (q r s : List Event)
     → Goes said es ids q fs jds r → Goes more fs jds r gs kds s → Goes (said ++ more) es ids q gs kds s
 goes_then said more es fs gs ids jds kds q r s g h = record {
+  seen = λ id w. h.seen id (g.seen id w);
   sound = λ x. h.sound (g.sound x);
   told = λ x id p a.
       let whole : Path p (on id said ++ on id r) (status_at fs jds id) = rw (sym (on_both id said r)) (g.told x id p a) in
@@ -108,6 +109,7 @@ goes_then said more es fs gs ids jds kds q r s g h = record {
 pub goes_after : (said : List Event) (es fs gs : List (ℕ × Entry)) (ids jds kds : Ids) (q r s : List Event)
     → Goes said es ids q fs jds r → Goes [] fs jds r gs kds s → Goes said es ids q gs kds s
 goes_after said es fs gs ids jds kds q r s g h = record {
+  seen = λ id w. h.seen id (g.seen id w);
   sound = λ x. h.sound (g.sound x);
   told = λ x id p a.
       let whole : Path p (on id said ++ on id r) (status_at fs jds id) = rw (sym (on_both id said r)) (g.told x id p a) in
@@ -120,19 +122,23 @@ goes_after said es fs gs ids jds kds q r s g h = record {
 
 -- nothing is told or queued
 pub by_none : (es fs : List (ℕ × Entry)) (ids jds : Ids) (q : List Event)
+    → ((id : ℕ) → was ids id ≡ true → was jds id ≡ true)
     → (Sound es ids → Sound fs jds) → (Sound es ids → (id : ℕ) → Stays (status_at es ids id) (status_at fs jds id))
     → Goes [] es ids q fs jds q
-by_none es fs ids jds q s h = record {
+by_none es fs ids jds q seen s h = record {
+  seen = seen;
   sound = s;
   told = λ x id p g. path_last p (on id q) (status_at es ids id) (status_at fs jds id) g (h x id);
 }
 
 -- these events are queued
 by_some : (es fs : List (ℕ × Entry)) (ids jds : Ids) (q more : List Event)
+    → ((id : ℕ) → was ids id ≡ true → was jds id ≡ true)
     → (Sound es ids → Sound fs jds)
     → (Sound es ids → (id : ℕ) → Path (status_at es ids id) (on id more) (status_at fs jds id))
     → Goes [] es ids q fs jds (q ++ more)
-by_some es fs ids jds q more s h = record {
+by_some es fs ids jds q more seen s h = record {
+  seen = seen;
   sound = s;
   told = λ x id p g. rw (on_both id q more)
       (path_join p (on id q) (status_at es ids id) (on id more) (status_at fs jds id) g (h x id));
@@ -201,7 +207,7 @@ goes_at : (es fs : List (ℕ × Entry)) (ids : Ids) (q : List Event) (id : ℕ) 
     → Goes [] es ids q fs ids q
 goes_at es fs ids q id e w sets there stays =
     let found : is_some (entry_at es id) ≡ true = ap is_some there in
-    by_none es fs ids ids q (λ s. sound_at es fs ids id e w sets there s)
+    by_none es fs ids ids q (λ k w. w) (λ s. sound_at es fs ids id e w sets there s)
     (λ s k. rw (sets k) (stays_by (is_at (nat_cmp id) k) (entry_at es k) w (was ids k)
     (stays_at es ids id k w (rw there (stays (s.were id found))))))
 
@@ -281,20 +287,20 @@ pub goes_queue : (es fs : List (ℕ × Entry)) (ids : Ids) (q : List Event) (id 
     → Goes [] es ids q fs ids (q ++ (ev ∷ []))
 goes_queue es fs ids q id e v ev w sets there at word h =
     let found : is_some (entry_at es id) ≡ true = ap is_some there in
-    by_some es fs ids ids q (ev ∷ []) (λ s. sound_at es fs ids id e v sets there s)
+    by_some es fs ids ids q (ev ∷ []) (λ k w. w) (λ s. sound_at es fs ids id e v sets there s)
     (λ s k. rw (sets k, word, at) (says_by (is_at (nat_cmp id) k) (id == k) w (entry_at es k) v (was ids k) (at_test id k)
     (path_at es ids id k w v (rw there (h (s.were id found))))))
 
 -- an event of the connection is queued
 pub goes_general : (es : List (ℕ × Entry)) (ids : Ids) (q : List Event) (ev : Event) → word_of ev.kind ≡ None
     → Goes [] es ids q es ids (q ++ (ev ∷ []))
-goes_general es ids q ev word = by_some es es ids ids q (ev ∷ []) (λ s. s)
+goes_general es ids q ev word = by_some es es ids ids q (ev ∷ []) (λ k w. w) (λ s. s)
     (λ s k. rw word (stays_refl (status_at es ids k)))
 
 -- one is told
 pub goes_aside : (es : List (ℕ × Entry)) (ids : Ids) (q : List Event) (ev : Event) → word_of ev.kind ≡ None
     → Goes (ev ∷ []) es ids q es ids q
-goes_aside es ids q ev word = record { sound = λ s. s; told = λ s k p g. rw word g }
+goes_aside es ids q ev word = record { seen = λ k w. w; sound = λ s. s; told = λ s k p g. rw word g }
 
 -- ---- events that are told
 
@@ -316,6 +322,7 @@ pub goes_told : (es : List (ℕ × Entry)) (ids : Ids) (q : List Event) (id : �
     → entry_at es id ≡ Some e → e.told ≡ told.Known → ev.stream ≡ id → ends (word_of ev.kind) ≡ false
     → Goes (ev ∷ []) es ids q es ids q
 goes_told es ids q id e ev there known at n = record {
+  seen = λ k w. w;
   sound = λ s. s;
   told = λ s k p g. rw at (first_by (id == k) (word_of ev.kind) p (status_at es ids k) (on k q) n
       (known_at es ids id k e there known) g);
@@ -425,7 +432,7 @@ pub goes_last : (es : List (ℕ × Entry)) (ids : Ids) (q : List Event) (ev : Ev
 goes_last es ids q ev f known word g none =
     let h : Goes [] es ids [] (set_value (is_at (nat_cmp ev.stream)) es f) ids (ev ∷ []) =
     goes_closed es ids [] ev f known word g in
-    rw none (record { sound = h.sound; told = h.told })
+    rw none (record { seen = h.seen; sound = h.sound; told = h.told })
 
 over_by : (o : Option Entry) (es : List (ℕ × Entry)) (ids : Ids) (q : List Event) (id : ℕ) (f : Entry)
     → entry_at es id ≡ o → is_some o ≡ true → knows_of o ≡ false → f.told ≡ told.Over
@@ -477,6 +484,7 @@ less_on id (e ∷ es) = less_by e.kind (e.stream == id) (on id es) e (filter clo
 -- of the queue the last events of streams alone are left
 pub goes_filtered : (es : List (ℕ × Entry)) (ids : Ids) (q : List Event) → Goes [] es ids q es ids (filter closes_stream q)
 goes_filtered es ids q = record {
+  seen = λ k w. w;
   sound = λ s. s;
   told = λ s k p g. rw (less_on k q) (path_less (on k q) p (status_at es ids k) g);
 }

@@ -68,7 +68,7 @@ sound_then g s = g.sound s
 -- an event of the queue is told, by its stream and its kind
 pub goes_popped : (es : List (ℕ × Entry)) (ids : Ids) (ev said : Event) (q : List Event)
     → said.stream ≡ ev.stream → said.kind ≡ ev.kind → Goes (said ∷ []) es ids (ev ∷ q) es ids q
-goes_popped es ids ev said q stream kind = record { sound = λ s. s; told = λ s k p g. rw (stream, kind) g }
+goes_popped es ids ev said q stream kind = record { seen = λ k w. w; sound = λ s. s; told = λ s k p g. rw (stream, kind) g }
 
 pub goes_told_first : (es : List (ℕ × Entry)) (ids : Ids) (ev said : Event) (q r : List Event) → q ≡ ev ∷ r
     → said.stream ≡ ev.stream → said.kind ≡ ev.kind → Goes (said ∷ []) es ids q es ids r
@@ -91,6 +91,7 @@ drop_by true (Some w) p ws q n h = path_next w p ws q n h
 pub goes_dropped : (es : List (ℕ × Entry)) (ids : Ids) (ev : Event) (q r : List Event) → q ≡ ev ∷ r
     → ends (word_of ev.kind) ≡ false → Goes [] es ids q es ids r
 goes_dropped es ids ev q r h n = rw h (record {
+  seen = λ k w. w;
   sound = λ s. s;
   told = λ s k p g. drop_by (ev.stream == k) (word_of ev.kind) p (on k r) (status_at es ids k) n g;
 })

@@ -1,5 +1,5 @@
 -- Streams that are opened, and their IDs.
-use Rattle.std.proofs.Common.{◌≡◌, ◌==◌, ◌+◌, ◌%◌, ◌<◌, ◌^◌, ℕ, List, [], Option, None, Some, Bool, true, false, cond, refl, arith, sym, ap, ◌∙◌, inl}
+use Rattle.std.proofs.Common.{◌≡◌, ◌==◌, ◌+◌, ◌%◌, ◌<◌, ◌^◌, ℕ, List, [], Option, None, Some, Bool, true, false, cond, refl, arith, sym, ap, ◌∙◌, ◌⊎◌, inl, inr}
 use Rattle.std.specs.Prelude.{is_some, nat_lt, if◌then◌else◌}
 use Rattle.std.specs.Ordering.{nat_cmp}
 use Rattle.std.specs.BTreeMap.{is_at}
@@ -14,7 +14,7 @@ use Rattle.vesgrauf.specs.declared.connection.ids.Ids.{Ids}
 use Rattle.vesgrauf.specs.Ids.{was, own_bit, peer_bit, kind_by, kind_of, next_own, next_peer, taken, seen, opened, blocked}
 use Rattle.vesgrauf.specs.Own.{entry_at, own_in, UntouchedBut}
 use Rattle.vesgrauf.specs.State.{knows_of}
-use Rattle.vesgrauf.specs.Told.{Sets, AreOthers, AreIds, Stays, status_by, Goes}
+use Rattle.vesgrauf.specs.Told.{Sets, AreOthers, IsUndone, AreIds, Stays, status_by, Goes}
 use Rattle.vesgrauf.proofs.GoesLemmas.{by_none, goes_refl, same_at, stays_refl}
 
 -- ---- IDs that are taken
@@ -101,7 +101,7 @@ seen_stays None false b h = tt
 -- more IDs are taken or seen, and no stream changes
 ids_grow : (es : List (ℕ × Entry)) (ids jds : Ids) (q : List Event) → (AreIds ids → AreIds jds)
     → ((id : ℕ) → was ids id ≡ true → was jds id ≡ true) → Goes [] es ids q es jds q
-ids_grow es ids jds q are grow = by_none es es ids jds q
+ids_grow es ids jds q are grow = by_none es es ids jds q grow
     (λ s. record { ids_are = are s.ids_are; were = λ id have. grow id (s.were id have) })
     (λ s id. seen_stays (entry_at es id) (was ids id) (was jds id) (grow id))
 
@@ -133,7 +133,7 @@ some_new false o e a g h s = h s
 begins : (es fs : List (ℕ × Entry)) (ids jds : Ids) (q : List Event) (id : ℕ) (e : Entry) → Sets id (Some e) es fs
     → (AreIds ids → AreIds jds) → ((k : ℕ) → was ids k ≡ true → was jds k ≡ true)
     → (AreIds ids → was ids id ≡ false) → (AreIds ids → was jds id ≡ true) → Goes [] es ids q fs jds q
-begins es fs ids jds q id e sets are grow before now = by_none es fs ids jds q
+begins es fs ids jds q id e sets are grow before now = by_none es fs ids jds q grow
     (λ s. record {
       ids_are = are s.ids_are;
       were = λ k have.
@@ -270,6 +270,43 @@ pub goes_opens : (es fs : List (ℕ × Entry)) (ids jds : Ids) (q : List Event) 
     → knows_of (entry_at fs id) ≡ true → AreOthers id es fs → Goes [] es ids q fs jds q
 goes_opens es fs ids jds q k id at below i known others =
     opens_by (entry_at fs id) es fs ids jds q k id at below i refl known others
+
+undone_by : (b : Bool) (o p : Option Entry) (a : Bool) → (b ≡ true → ((p ≡ o) ⊎ (p ≡ None)) × (is_some o ≡ true → a ≡ true) × (a ≡ false))
+    → (b ≡ false → p ≡ o) → Stays (status_by o a) (status_by p a)
+undone_by false o p a h g = rw (g refl) (stays_refl (status_by o a))
+undone_by true o p a h g = undone_at o p a (h refl).0 (h refl).1 (h refl).2
+  where
+    undone_at : (o p : Option Entry) (a : Bool) → (p ≡ o) ⊎ (p ≡ None) → (is_some o ≡ true → a ≡ true) → a ≡ false
+        → Stays (status_by o a) (status_by p a)
+    undone_at o p a (inl same) had n = rw same (stays_refl (status_by o a))
+    undone_at None p a (inr none) had n = rw none (stays_refl (status_by None a))
+    undone_at (Some e) p a (inr none) had n = absurd (let on : a ≡ true = had refl in cc)
+
+undone_had : (b : Bool) (o p : Option Entry) (a : Bool) → (b ≡ true → (p ≡ o) ⊎ (p ≡ None)) → (b ≡ false → p ≡ o)
+    → (is_some o ≡ true → a ≡ true) → is_some p ≡ true → a ≡ true
+undone_had false o p a h g had have = had (rw (g refl) at have)
+undone_had true o p a h g had have = had_at o p a (h refl) had have
+  where
+    had_at : (o p : Option Entry) (a : Bool) → (p ≡ o) ⊎ (p ≡ None) → (is_some o ≡ true → a ≡ true) → is_some p ≡ true
+        → a ≡ true
+    had_at o p a (inl same) had have = had (rw same at have)
+    had_at o p a (inr none) had have = absurd (let bad : false ≡ true = (rw none at have) in cc)
+
+undone_here : (es fs : List (ℕ × Entry)) (id k : ℕ) → is_at (nat_cmp id) k ≡ true → IsUndone id es fs
+    → (entry_at fs k ≡ entry_at es k) ⊎ (entry_at fs k ≡ None)
+undone_here es fs id k at u = rw (same_at id k at) u.1
+
+-- the next own stream was not opened: there is none with its ID
+pub goes_undone : (es fs : List (ℕ × Entry)) (ids : Ids) (q : List Event) (k : StreamKind) (id : ℕ) → id ≡ next_own ids k
+    → IsUndone id es fs → Goes [] es ids q fs ids q
+goes_undone es fs ids q kd id at u = by_none es fs ids ids q (λ k w. w)
+    (λ s. record {
+      ids_are = s.ids_are;
+      were = λ k have. undone_had (is_at (nat_cmp id) k) (entry_at es k) (entry_at fs k) (was ids k)
+          (λ t. undone_here es fs id k t u) (u.0 k) (s.were k) have;
+    })
+    (λ s k. undone_by (is_at (nat_cmp id) k) (entry_at es k) (entry_at fs k) (was ids k)
+    (λ t. (undone_here es fs id k t u, s.were k, rw (same_at id k t, at) (own_was ids kd s.ids_are))) (u.0 k))
 
 -- the program knows of a stream that it opened
 pub knows_here : (fs : List (ℕ × Entry)) (id : ℕ) (e : Entry) → entry_at fs id ≡ Some e → e.told ≡ told.Known

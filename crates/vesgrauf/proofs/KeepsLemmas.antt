@@ -12,12 +12,12 @@ use Rattle.vesgrauf.specs.declared.connection.ids.Ids.{Ids}
 use Rattle.vesgrauf.specs.declared.entry.Entry.{Entry}
 use Rattle.vesgrauf.specs.declared.event.Event.{Event}
 use Rattle.vesgrauf.specs.State.{IsStill, knows_of}
-use Rattle.vesgrauf.specs.Own.{own_in, own_at, entry_at, IsUntouched, Untouched}
+use Rattle.vesgrauf.specs.Own.{Own, Over, EndsOwn, own_in, own_at, entry_at, IsUntouched, Untouched, UntouchedOrNew}
 use Rattle.vesgrauf.specs.Theirs.{Gone, theirs_in, theirs_at, IsLeft, Left}
 use Rattle.vesgrauf.specs.Told.{Sets, Closes, word_of, status_in, ended_by, ended_at, Goes}
 use Rattle.vesgrauf.specs.declared.entry.Told.TheVariants as told
 use Rattle.vesgrauf.specs.Keeps.{KeepsAll, Kept, Keeps, KeepsOwnAll, KeptOwn, KeepsOwn}
-use Rattle.vesgrauf.proofs.OwnLemmas.{untouched_refl, untouched_trans, untouched_set}
+use Rattle.vesgrauf.proofs.OwnLemmas.{untouched_refl, untouched_trans, untouched_set, new_of, new_trans}
 use Rattle.vesgrauf.proofs.TheirsLemmas.{left_set}
 use Rattle.vesgrauf.proofs.StepLemmas.{left_trans}
 use Rattle.vesgrauf.proofs.TellsLemmas.{gone_left}
@@ -82,6 +82,20 @@ pub keeps_config : {said : List Event} {es fs : List (ℕ × Entry)} {ids jds : 
     → KeepsAll said es ids q a fs jds r b → b ≡ a
 keeps_config (Kept o l g e) = e
 
+-- on a stream that is over nothing is sent later
+pub keeps_over_own : {said : List Event} {es fs : List (ℕ × Entry)} {ids jds : Ids} {q r : List Event} {a b : Config}
+    (id : ℕ) → own_at es id ≡ Over → KeepsAll said es ids q a fs jds r b → own_at fs id ≡ Over
+keeps_over_own {said} {es} {fs} id h (Kept o l g e) = own_over (own_at es id) (own_at fs id) h (o.each id)
+  where
+    own_over : (x y : Own) → x ≡ Over → IsUntouched x y → y ≡ Over
+    own_over x y h (inl p) = p ∙ h
+    own_over x y h (inr p) = p
+
+pub keeps_ends : (ds : List (ℕ × Entry)) {said : List Event} {es fs : List (ℕ × Entry)} {ids jds : Ids} {q r : List Event}
+    {a b : Config} (id : ℕ) → EndsOwn id ds es → KeepsAll said es ids q a fs jds r b → EndsOwn id ds fs
+keeps_ends ds id (inl h) k = inl (keeps_over_own id h k)
+keeps_ends ds id (inr h) k = inr h
+
 -- what is read no further is not read later
 pub keeps_gone : {said : List Event} {es fs : List (ℕ × Entry)} {ids jds : Ids} {q r : List Event} {a b : Config} (id : ℕ)
     → theirs_at es id ≡ Gone → KeepsAll said es ids q a fs jds r b → theirs_at fs id ≡ Gone
@@ -90,13 +104,13 @@ keeps_gone {said} {es} {fs} id h k = gone_left es fs id h (keeps_left k)
 -- ---- bytes of the peer may be read
 
 pub holds_of : (said : List Event) (es fs : List (ℕ × Entry)) (ids jds : Ids) (q r : List Event) (a b : Config)
-    → (a.on_malformed ≡ chosen.Reset → Untouched es fs) → Goes said es ids q fs jds r → b ≡ a
+    → (a.on_malformed ≡ chosen.Reset → UntouchedOrNew ids es fs) → Goes said es ids q fs jds r → b ≡ a
     → KeepsOwnAll said es ids q a fs jds r b
 holds_of said es fs ids jds q r a b o g e = KeptOwn o g e
 
 pub keeps_holds : {said : List Event} {es fs : List (ℕ × Entry)} {ids jds : Ids} {q r : List Event} {a b : Config}
     → KeepsAll said es ids q a fs jds r b → KeepsOwnAll said es ids q a fs jds r b
-keeps_holds (Kept o l g e) = KeptOwn (λ m. o) g e
+keeps_holds {said} {es} {fs} {ids} (Kept o l g e) = KeptOwn (λ m. new_of ids o) g e
 
 pub holds_refl : (es : List (ℕ × Entry)) (ids : Ids) (q : List Event) (a : Config) → KeepsOwnAll [] es ids q a es ids q a
 holds_refl es ids q a = keeps_holds (keeps_refl es ids q a)
@@ -105,22 +119,22 @@ pub holds_trans : (said : List Event) (es fs gs : List (ℕ × Entry)) (ids jds 
     (a b c : Config) → KeepsOwnAll [] es ids q a fs jds r b → KeepsOwnAll said fs jds r b gs kds s c
     → KeepsOwnAll said es ids q a gs kds s c
 holds_trans said es fs gs ids jds kds q r s a b c (KeptOwn o g e) (KeptOwn p h f) =
-    KeptOwn (λ m. untouched_trans (o m) (p (rw e m))) (goes_then [] said es fs gs ids jds kds q r s g h) (f ∙ e)
+    KeptOwn (λ m. new_trans g.seen (o m) (p (rw e m))) (goes_then [] said es fs gs ids jds kds q r s g h) (f ∙ e)
 
 pub holds_after : (said : List Event) (es fs gs : List (ℕ × Entry)) (ids jds kds : Ids) (q r s : List Event)
     (a b c : Config) → KeepsOwnAll said es ids q a fs jds r b → KeepsOwnAll [] fs jds r b gs kds s c
     → KeepsOwnAll said es ids q a gs kds s c
 holds_after said es fs gs ids jds kds q r s a b c (KeptOwn o g e) (KeptOwn p h f) =
-    KeptOwn (λ m. untouched_trans (o m) (p (rw e m))) (goes_after said es fs gs ids jds kds q r s g h) (f ∙ e)
+    KeptOwn (λ m. new_trans g.seen (o m) (p (rw e m))) (goes_after said es fs gs ids jds kds q r s g h) (f ∙ e)
 
 -- one stream changes, of which the program knows what it knew
 pub holds_set : (es : List (ℕ × Entry)) (ids : Ids) (q : List Event) (a : Config) (id : ℕ) (f : Entry)
     → IsUntouched (own_at es id) (own_in (Some f)) → status_in (entry_at es id) ≡ Some f.told
     → KeepsOwnAll [] es ids q a (set_value (is_at (nat_cmp id)) es f) ids q a
-holds_set es ids q a id f o t = KeptOwn (λ m. untouched_set es id f o) (goes_set es ids q id f t) refl
+holds_set es ids q a id f o t = KeptOwn (λ m. new_of ids (untouched_set es id f o)) (goes_set es ids q id f t) refl
 
 pub holds_own : {said : List Event} {es fs : List (ℕ × Entry)} {ids jds : Ids} {q r : List Event} {a b : Config}
-    → KeepsOwnAll said es ids q a fs jds r b → a.on_malformed ≡ chosen.Reset → Untouched es fs
+    → KeepsOwnAll said es ids q a fs jds r b → a.on_malformed ≡ chosen.Reset → UntouchedOrNew ids es fs
 holds_own (KeptOwn o g e) m = o m
 
 pub holds_goes : {said : List Event} {es fs : List (ℕ × Entry)} {ids jds : Ids} {q r : List Event} {a b : Config}
@@ -154,7 +168,7 @@ untouched_same es fs h = rw h (untouched_refl es)
 pub holds_still : (said : List Event) (c d e : Connection) → IsStill c d → KeepsOwn said d e → KeepsOwn said c e
 holds_still said c d e h k = holds_trans said c.streams.entries d.streams.entries e.streams.entries c.ids d.ids e.ids
     c.events.items d.events.items e.events.items c.config d.config e.config
-    (KeptOwn (λ m. untouched_same c.streams.entries d.streams.entries (ap (λ v. v.streams) h)) (goes_still c d h)
+    (KeptOwn (λ m. new_of c.ids (untouched_same c.streams.entries d.streams.entries (ap (λ v. v.streams) h))) (goes_still c d h)
     (ap (λ v. v.config) h)) k
 
 -- an event of the queue is dropped, and then that

@@ -26,7 +26,7 @@ of_same (Some e) P Q f p = f e refl p
 of_map : (o x : Option Entry) (P Q : Entry → Type 0) → o ≡ x → ((e : Entry) → o ≡ Some e → P e → Q e) → Of o P → Of x Q
 of_map o x P Q h f p = subst (λ y. Of y Q) h (of_same o P Q f p)
 
-same_stream : (c d : Connection) (id : ℕ) → IsStill c d → stream_at d id ≡ stream_at c id
+pub same_stream : (c d : Connection) (id : ℕ) → IsStill c d → stream_at d id ≡ stream_at c id
 same_stream c d id h = ap (λ v. lookup (is_at (nat_cmp id)) v.streams) h
 
 -- ---- sections

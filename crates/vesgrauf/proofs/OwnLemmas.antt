@@ -1,17 +1,29 @@
 -- What is sent on the streams of a connection.
-use Rattle.std.proofs.Common.{◌≡◌, ℕ, List, [], ◌∷◌, Option, None, Some, Bool, true, false, cond, refl, arith, inl, inr, ◌∙◌}
+use Rattle.std.proofs.Common.{◌≡◌, ◌⊎◌, ℕ, List, [], ◌∷◌, Option, None, Some, Bool, true, false, cond, refl, arith, inl, inr, ap, subst, ◌∙◌}
 use Rattle.std.specs.Ordering.{nat_cmp}
 use Rattle.std.specs.Map.{lookup, set_value}
 use Rattle.std.specs.BTreeMap.{is_at}
 use Rattle.vesgrauf.specs.declared.entry.Entry.{Entry}
-use Rattle.vesgrauf.specs.Own.{Own, own_in, own_at, entry_at, IsUntouched, Took, TookAlone, Untouched, own_of}
+use Rattle.std.specs.Prelude.{Result, Ok, Err}
+use Rattle.wtp_messages.specs.declared.response.Asked.{Asked}
+use Rattle.wtp_sending.specs.declared.error.SendError.{SendError}
+use Rattle.wtp_sending.specs.declared.message.Sending.{Sending}
+use Rattle.wtp_sending.specs.Message.{opens, placed}
+use Rattle.vesgrauf_stream.specs.declared.writing.half.Half.{Half}
+use Rattle.vesgrauf_stream.specs.declared.writing.half.Half.TheVariants as half
+use Rattle.vesgrauf_stream.specs.declared.writing.Writing.{Writing}
+use Rattle.vesgrauf_stream.specs.Writing.{asked_half, raw_half, opened, connected, with_half, is_none}
+use Rattle.vesgrauf.specs.declared.connection.ids.Ids.{Ids}
+use Rattle.vesgrauf.specs.Ids.{was}
+use Rattle.vesgrauf.specs.Own.{Own, Over, Sends, own_in, own_at, entry_at, IsUntouched, IsUntouchedOrNew, Took, TookAlone, Untouched, UntouchedOrNew, own_of}
+use Rattle.vesgrauf.proofs.ReadsLemmas.{same_key}
 
 -- ---- steps
 
 pub untouched_steps : (x y z : Own) → IsUntouched x y → IsUntouched y z → IsUntouched x z
 untouched_steps x y z p (inr q) = inr q
 untouched_steps x y z (inl p) (inl q) = inl (q ∙ p)
-untouched_steps x y z (inr p) (inl q) = inr (rw q p)
+untouched_steps x y z (inr p) (inl q) = inr (q ∙ p)
 
 pub untouched_trans : {a b c : List (ℕ × Entry)} → Untouched a b → Untouched b c → Untouched a c
 untouched_trans {a} {b} {c} p q =
@@ -19,6 +31,73 @@ untouched_trans {a} {b} {c} p q =
 
 pub untouched_refl : (es : List (ℕ × Entry)) → Untouched es es
 untouched_refl es = record { each = λ id. inl refl }
+
+-- ---- streams that begin
+
+new_steps : (s t : Bool) (x y z : Own) → (s ≡ true → t ≡ true) → IsUntouchedOrNew s x y → IsUntouchedOrNew t y z
+    → IsUntouchedOrNew s x z
+new_steps true t x y z h p (inr q) = absurd (let on : t ≡ true = h refl in let off : t ≡ false = q.0 in cc)
+new_steps false t x y z h p (inr q) = inr (refl, q.1)
+new_steps s t x y z h (inl p) (inl q) = inl (untouched_steps x y z p q)
+new_steps s t x y z h (inr p) (inl (inl q)) = inr (p.0, q ∙ p.1)
+new_steps s t x y z h (inr p) (inl (inr q)) = inl (inr q)
+
+pub new_trans : {ids jds : Ids} {a b c : List (ℕ × Entry)} → ((id : ℕ) → was ids id ≡ true → was jds id ≡ true)
+    → UntouchedOrNew ids a b → UntouchedOrNew jds b c → UntouchedOrNew ids a c
+new_trans {ids} {jds} {a} {b} {c} h p q = record {
+  each = λ id. new_steps (was ids id) (was jds id) (own_at a id) (own_at b id) (own_at c id) (h id) (p.each id) (q.each id);
+}
+
+pub new_of : (ids : Ids) {a b : List (ℕ × Entry)} → Untouched a b → UntouchedOrNew ids a b
+new_of ids p = record { each = λ id. inl (p.each id) }
+
+new_by : (b : Bool) (ids : Ids) (es fs : List (ℕ × Entry)) (id k : ℕ) (e : Entry) → is_at (nat_cmp id) k ≡ b
+    → was ids id ≡ false → (own_of e.writing ≡ Over) ⊎ (own_of e.writing ≡ Sends 0 []) → entry_at fs id ≡ Some e
+    → ((k : ℕ) → is_at (nat_cmp id) k ≡ false → entry_at fs k ≡ entry_at es k)
+    → IsUntouchedOrNew (was ids k) (own_at es k) (own_at fs k)
+new_by true ids es fs id k e t w (inl n) here there =
+    subst (λ m. IsUntouchedOrNew (was ids m) (own_at es m) (own_at fs m)) (same_key id k t) (inl (inr (ap own_in here ∙ n)))
+new_by true ids es fs id k e t w (inr n) here there =
+    subst (λ m. IsUntouchedOrNew (was ids m) (own_at es m) (own_at fs m)) (same_key id k t) (inr (w, ap own_in here ∙ n))
+new_by false ids es fs id k e t w n here there = inl (inl (ap own_in (there k t)))
+
+-- a stream of the peer is registered
+pub new_insert : (ids : Ids) (es fs : List (ℕ × Entry)) (id : ℕ) (e : Entry) → was ids id ≡ false
+    → (own_of e.writing ≡ Over) ⊎ (own_of e.writing ≡ Sends 0 []) → entry_at fs id ≡ Some e
+    → ((k : ℕ) → is_at (nat_cmp id) k ≡ false → entry_at fs k ≡ entry_at es k)
+    → UntouchedOrNew ids es fs
+new_insert ids es fs id e w n here there = record {
+  each = λ k. new_by (is_at (nat_cmp id) k) ids es fs id k e refl w n here there;
+}
+
+-- ---- halves
+
+-- what is asked for, that it is one of a session, and that its tunnel is open changes nothing of what is sent
+pub own_asked : (a : Asked) (w : Writing) → own_of (with_half (asked_half a w.half) w) ≡ own_of w
+own_asked a w = asked_by a w w.half refl
+  where
+    asked_by : (a : Asked) (w : Writing) (h : Half) → w.half ≡ h
+        → own_of (with_half (asked_half a h) w) ≡ own_of w
+    asked_by a w half.Idle h = rw h refl
+    asked_by a w other h = rw h refl
+
+pub own_raw : (w : Writing) → own_of (with_half (raw_half w.half) w) ≡ own_of w
+own_raw w = raw_by w w.half refl
+  where
+    raw_by : (w : Writing) (h : Half) → w.half ≡ h → own_of (with_half (raw_half h) w) ≡ own_of w
+    raw_by w half.Idle h = rw h refl
+    raw_by w other h = rw h refl
+
+opened_is : (s : Sending) (r : Result Sending SendError) → is_none (opened s r) ≡ false
+opened_is s (Ok next) = refl
+opened_is s (Err e) = refl
+
+pub own_connected : (w : Writing) → own_of (with_half (connected w.half) w) ≡ own_of w
+own_connected w = connected_by w w.half refl
+  where
+    connected_by : (w : Writing) (h : Half) → w.half ≡ h → own_of (with_half (connected h) w) ≡ own_of w
+    connected_by w (half.Message s) h = rw (h, opened_is s (placed s (opens s.place))) refl
+    connected_by w other h = rw h refl
 
 -- ---- one stream changes
 

@@ -1,5 +1,5 @@
--- A piece of content that is told at once.
-use Rattle.std.proofs.Common.{◌≡◌, ◌∙◌, ℕ, List, [], ◌∷◌, Some, true, false, refl, sym, ap, inl, subst}
+-- A piece of items that is told at once.
+use Rattle.std.proofs.Common.{◌≡◌, ◌++◌, ◌∙◌, ℕ, List, [], ◌∷◌, Some, true, false, refl, sym, ap, inl, subst}
 use Rattle.std.specs.Prelude.{is_some}
 use Rattle.wtp_webtransport.specs.declared.connection.Connection.{Connection as Shared}
 use Rattle.wtp_webtransport.specs.declared.stream.Part.{Part}
@@ -26,39 +26,45 @@ use Rattle.vesgrauf.specs.Told.{ends, word_of}
 use Rattle.vesgrauf.specs.declared.config.Config.{Config}
 use Rattle.vesgrauf.specs.Inputs.{IsSameOrRead}
 use Rattle.vesgrauf.specs.State.{go_on, IsAfterEnd, IsStill}
-use Rattle.vesgrauf.specs.Theirs.{theirs_of, IsRead, ReadsOn, Hands, Tells, TellsAll, with_chunk, content_on, content_found}
+use Rattle.vesgrauf.specs.Items.{Item, Byte, content, items_found}
+use Rattle.vesgrauf.specs.Theirs.{theirs_of, IsRead, ReadsOn, Hands, Tells, TellsAll, with_chunk, items_on}
 use Rattle.vesgrauf.proofs.ReadsLemmas.{looked_plain, reads_pass}
 use Rattle.vesgrauf.proofs.TellsLemmas.{taken_passes}
 use Rattle.vesgrauf.proofs.StepLemmas.{all_same}
 use Rattle.vesgrauf.proofs.GoesLemmas.{goes_after, goes_set, goes_tells}
-use Rattle.vesgrauf.proofs.OwnLemmas.{untouched_set}
+use Rattle.vesgrauf.proofs.OwnLemmas.{untouched_set, new_of}
 
 -- what is heard of a piece is its bytes
-piece_content : (p : Part) (b : Bytes) → content_found (found.Heard (heard_piece p b)) ≡ bytes_of b
+piece_content : (p : Part) (b : Bytes) → items_found (found.Heard (heard_piece p b)) ≡ content (bytes_of b)
 piece_content part.OfSession b = refl
 piece_content other b = refl
+
+-- pieces are what they are together
+pub content_joins : (first rest : List ℕ) → content (first ++ rest) ≡ content first ++ content rest
+content_joins [] rest = refl
+content_joins (b ∷ first) rest = ap (λ items. Byte b ∷ items) (content_joins first rest)
 
 -- what an entry finds
 pub looked_piece : (e f : Entry) (c d : Shared) (i j : Chunk) (b : Bytes)
     → e.peer ≡ peer.Reads → e.is_decoder ≡ false
     → f.peer ≡ e.peer → f.is_decoder ≡ e.is_decoder → HearsPiece b c e.reading i d f.reading j
-    → IsRead (with_chunk (theirs_of e) i) (bytes_of b) (with_chunk (theirs_of f) j)
+    → IsRead (with_chunk (theirs_of e) i) (content (bytes_of b)) (with_chunk (theirs_of f) j)
 looked_piece e f c d i j b g n p q h =
     subst (λ l. IsRead (with_chunk (theirs_of e) i) l (with_chunk (theirs_of f) j))
     (piece_content e.reading.stream.part b)
     (looked_plain e f 0 c d i j (found.Heard (heard_piece e.reading.stream.part b)) g n p q (h 0))
 
 -- it is told, and nothing else is left of the input if all of its bytes were read
-told_itself : (id : ℕ) (content : List ℕ) (c : List (ℕ × Entry)) → Hands id content (content_on id content) c c
-told_itself id content c = record { each = λ k. inl (inl refl, refl) }
+told_itself : (id : ℕ) (items : List Item) (c : List (ℕ × Entry)) → Hands id items (items_on id items) c c
+told_itself id items c = record { each = λ k. inl (inl refl, refl) }
 
-pub piece_tells : (id stream : ℕ) (content : List ℕ) (c d : List (ℕ × Entry)) (i j l : Input) → stream ≡ id
-    → i.report ≡ report.Stream id → j.report ≡ report.Stream id → ReadsOn id content c i.chunk d j.chunk
-    → IsSameOrRead j l → Tells (content_on stream content) c i d l
-piece_tells id stream content c d i j l same h g p t =
-    subst (λ n. Tells (content_on n content) c i d l) (sym same)
-    (reads_pass id content (content_on id content) c d d i j l h g p
-    (taken_passes id content (content_on id content) d d j l t (told_itself id content d)))
+pub piece_tells : (id stream : ℕ) (items : List Item) (c d : List (ℕ × Entry)) (i j l : Input) → stream ≡ id
+    → i.report ≡ report.Stream id → j.report ≡ report.Stream id → ReadsOn id items c i.chunk d j.chunk
+    → IsSameOrRead j l → Tells (items_on stream items) c i d l
+piece_tells id stream items c d i j l same h g p t =
+    subst (λ n. Tells (items_on n items) c i d l) (sym same)
+    (reads_pass id items (items_on id items) c d d i j l h g p
+    (taken_passes id items (items_on id items) d d j l t (told_itself id items d)))
 
 -- an event of its stream is told with it
 pub piece_keeps : (es : List (ℕ × Entry)) (ids : Ids) (q : List Event) (a : Config) (id : ℕ) (e f : Entry) (ev : Event)
@@ -66,14 +72,14 @@ pub piece_keeps : (es : List (ℕ × Entry)) (ids : Ids) (q : List Event) (a : C
     → ends (word_of ev.kind) ≡ false
     → KeepsOwnAll (ev ∷ []) es ids q a (set_value (is_at (nat_cmp id)) es f) ids q a
 piece_keeps es ids q a id e f ev there known same own at n = KeptOwn
-    (λ m. untouched_set es id f (rw (there, own) (inl refl)))
+    (λ m. new_of ids (untouched_set es id f (rw (there, own) (inl refl))))
     (goes_after (ev ∷ []) es es (set_value (is_at (nat_cmp id)) es f) ids ids ids q q q
     (goes_tells es ids q ev (rw (at, there) known) n)
     (goes_set es ids q id f (rw (there, same) refl)))
     refl
 
 -- there is no piece, and then this is told
-pub no_piece_all : (said : ℕ → List ℕ) (c d : Connection) {e : List (ℕ × Entry)} {i j l : Input} → IsStill c d → j ≡ i
+pub no_piece_all : (said : ℕ → List Item) (c d : Connection) {e : List (ℕ × Entry)} {i j l : Input} → IsStill c d → j ≡ i
     → TellsAll d.ids said d.streams.entries j e l → TellsAll c.ids said c.streams.entries i e l
 no_piece_all said c d {e} {i} {j} {l} p q t =
     all_same said (ap (λ v. v.ids) p) (ap (λ v. v.streams) p) q t

@@ -24,7 +24,8 @@ use Rattle.vesgrauf.specs.declared.entry.Peer.TheVariants as peer
 use Rattle.vesgrauf.specs.declared.input.Input.{Input}
 use Rattle.vesgrauf.specs.declared.input.Report.{Report}
 use Rattle.vesgrauf.specs.declared.input.Report.TheVariants as report
-use Rattle.vesgrauf.specs.Theirs.{Theirs, Gone, Unread, theirs_by, theirs_of, theirs_in, theirs_at, IsLeft, Left, Piece, IsCall, AreCalls, contents, AreRead, IsReadTo, IsRead, Same, ReadsOn, ReadsKept, Hands, Passes, IsHanded, TellsKept, Tells, unread_at, with_input, with_chunk, content_of, content_on, content_found, is_of}
+use Rattle.vesgrauf.specs.Items.{Item, items_of, items_found}
+use Rattle.vesgrauf.specs.Theirs.{Theirs, Gone, Unread, theirs_by, theirs_of, theirs_in, theirs_at, IsLeft, Left, Piece, IsCall, AreCalls, all_items, AreRead, IsReadTo, IsRead, Same, ReadsOn, ReadsKept, Hands, Passes, IsHanded, TellsKept, Tells, unread_at, with_input, with_chunk, items_on, is_of}
 
 -- ---- calls one after the other
 
@@ -34,10 +35,10 @@ calls_join [] qs bytes mid rest ended p q = subst (λ b. AreCalls qs b ended res
 calls_join (x ∷ ps) qs bytes mid rest ended p q =
     (p.0, calls_join ps qs (drop x.consumed bytes) mid rest ended p.1 q)
 
-pub contents_join : (ps qs : List Piece) → contents (ps ++ qs) ≡ contents ps ++ contents qs
-contents_join [] qs = refl
-contents_join (p ∷ ps) qs =
-    ap (λ l. content_of p.say ++ l) (contents_join ps qs) ∙ sym (append_assoc (content_of p.say) (contents ps) (contents qs))
+pub items_join : (ps qs : List Piece) → all_items (ps ++ qs) ≡ all_items ps ++ all_items qs
+items_join [] qs = refl
+items_join (p ∷ ps) qs =
+    ap (λ l. items_of p.say ++ l) (items_join ps qs) ∙ sym (append_assoc (items_of p.say) (all_items ps) (all_items qs))
 
 -- ---- IDs
 
@@ -86,7 +87,7 @@ left_steps x y z (inr p) (inl q) = inr (q ∙ p)
 pub read_left : (x y : Theirs) → IsLeft x y → IsRead x [] y
 read_left x y p = (x, inl (refl, refl), p)
 
-join_reads : (x y z : Theirs) (a b : List ℕ) → AreRead x a y → AreRead y b z → AreRead x (a ++ b) z
+join_reads : (x y z : Theirs) (a b : List Item) → AreRead x a y → AreRead y b z → AreRead x (a ++ b) z
 join_reads x y z a b p q =
     let same : p.rest ≡ q.bytes = cc in
     let fin : q.ended ≡ p.ended = cc in
@@ -100,10 +101,10 @@ join_reads x y z a b p q =
       calls = calls_join p.pieces q.pieces p.bytes p.rest q.rest p.ended p.calls
           (subst (λ e. AreCalls q.pieces p.rest e q.rest) fin
           (subst (λ l. AreCalls q.pieces l q.ended q.rest) (sym same) q.calls));
-      says = contents_join p.pieces q.pieces ∙ cc;
+      says = items_join p.pieces q.pieces ∙ cc;
     }
 
-join_to : (x y z : Theirs) (a b : List ℕ) → IsReadTo x a y → IsReadTo y b z → IsReadTo x (a ++ b) z
+join_to : (x y z : Theirs) (a b : List Item) → IsReadTo x a y → IsReadTo y b z → IsReadTo x (a ++ b) z
 join_to x y z a b (inl p) (inl q) = inl (q.0 ∙ p.0, ap (λ l. l ++ b) p.1 ∙ q.1)
 join_to x y z a b (inl p) (inr q) =
     inr (subst (λ l. AreRead x (l ++ b) z) (sym p.1) (subst (λ t. AreRead t b z) p.0 q))
@@ -118,29 +119,29 @@ gone_left_by x y h (inl p) = p ∙ h
 gone_left_by x y h (inr p) = p
 
 -- and nothing is read of it
-gone_read : (x z : Theirs) (content : List ℕ) → x ≡ Gone → IsReadTo x content z → (z ≡ Gone) × (content ≡ [])
-gone_read x z content h (inl p) = (p.0 ∙ h, p.1)
-gone_read x z content h (inr p) = absurd (cc (h, p.from))
+gone_read : (x z : Theirs) (items : List Item) → x ≡ Gone → IsReadTo x items z → (z ≡ Gone) × (items ≡ [])
+gone_read x z items h (inl p) = (p.0 ∙ h, p.1)
+gone_read x z items h (inr p) = absurd (cc (h, p.from))
 
-pub gone_is_read : (x z : Theirs) (content : List ℕ) → x ≡ Gone → IsRead x content z → (z ≡ Gone) × (content ≡ [])
-gone_is_read x z content h p =
-    let g : (p.0 ≡ Gone) × (content ≡ []) = gone_read x p.0 content h p.1 in
+pub gone_is_read : (x z : Theirs) (items : List Item) → x ≡ Gone → IsRead x items z → (z ≡ Gone) × (items ≡ [])
+gone_is_read x z items h p =
+    let g : (p.0 ≡ Gone) × (items ≡ []) = gone_read x p.0 items h p.1 in
     (gone_left_by p.0 z g.0 p.2, g.1)
 
-steps_by : (x u y z : Theirs) (a b : List ℕ) → IsReadTo x a u → IsLeft u y → IsRead y b z → IsRead x (a ++ b) z
+steps_by : (x u y z : Theirs) (a b : List Item) → IsReadTo x a u → IsLeft u y → IsRead y b z → IsRead x (a ++ b) z
 steps_by x u y z a b p (inl e) q =
     (q.0, join_to x u q.0 a b p (subst (λ t. IsReadTo t b q.0) e q.1), q.2)
 steps_by x u y z a b p (inr e) q =
     let g : (z ≡ Gone) × (b ≡ []) = gone_is_read y z b e q in
     (u, subst (λ l. IsReadTo x (a ++ l) u) (sym g.1) (subst (λ l. IsReadTo x l u) (sym (append-nil a)) p), inr g.0)
 
-pub read_steps : (x y z : Theirs) (a b : List ℕ) → IsRead x a y → IsRead y b z → IsRead x (a ++ b) z
+pub read_steps : (x y z : Theirs) (a b : List Item) → IsRead x a y → IsRead y b z → IsRead x (a ++ b) z
 read_steps x y z a b p q = steps_by x p.0 y z a b p.1 p.2 q
 
-pub read_then : (x y z : Theirs) (content : List ℕ) → IsRead x content y → IsLeft y z → IsRead x content z
-read_then x y z content p q = (p.0, p.1, left_steps p.0 y z p.2 q)
+pub read_then : (x y z : Theirs) (items : List Item) → IsRead x items y → IsLeft y z → IsRead x items z
+read_then x y z items p q = (p.0, p.1, left_steps p.0 y z p.2 q)
 
-pub hand_steps : (x y z : Theirs) (a b : List ℕ) → IsRead x a y → IsHanded y a b z → IsRead x b z
+pub hand_steps : (x y z : Theirs) (a b : List Item) → IsRead x a y → IsHanded y a b z → IsRead x b z
 hand_steps x y z a b p (inl q) = subst (λ l. IsRead x l z) (sym q.1) (read_then x y z a p q.0)
 hand_steps x y z a b p (inr q) = (x, inl (refl, q.1), inr q.0)
 
@@ -166,55 +167,55 @@ same_steps c d e i j k p q =
     record { each = λ n. left_steps (unread_at c i n) (unread_at d j n) (unread_at e k n) (p.each n) (q.each n) }
 
 -- nothing is heard, and nothing is told
-passes_by : (b : Bool) (x y : Theirs) (said : List ℕ) → said ≡ [] → IsLeft x y → IsHanded x (cond b [] []) said y
+passes_by : (b : Bool) (x y : Theirs) (said : List Item) → said ≡ [] → IsLeft x y → IsHanded x (cond b [] []) said y
 passes_by true x y said h p = inl (p, h)
 passes_by false x y said h p = inl (p, h)
 
-pub same_passes : (id : ℕ) (said : ℕ → List ℕ) (c d : List (ℕ × Entry)) (i j : Input) → ((k : ℕ) → said k ≡ [])
+pub same_passes : (id : ℕ) (said : ℕ → List Item) (c d : List (ℕ × Entry)) (i j : Input) → ((k : ℕ) → said k ≡ [])
     → Same c i d j → Passes id [] said c i d j
 same_passes id said c d i j h p = record {
   each = λ k. passes_by (is_at (nat_cmp id) k) (unread_at c i k) (unread_at d j k) (said k) (h k) (p.each k);
 }
 
-pub hand_with : (i : Input) (k : ℕ) (x y : Theirs) (a b : List ℕ) → IsHanded x a b y
+pub hand_with : (i : Input) (k : ℕ) (x y : Theirs) (a b : List Item) → IsHanded x a b y
     → IsHanded (with_input i k x) a b (with_input i k y)
 hand_with i k x y a b (inl p) = inl (left_with i k x y p.0, p.1)
 hand_with i k x y a b (inr p) = inr (ap (with_input i k) p.0 ∙ with_gone i k, p.1)
 
-pub hands_passes : (id : ℕ) (content : List ℕ) (said : ℕ → List ℕ) (c d : List (ℕ × Entry)) (i : Input)
-    → Hands id content said c d → Passes id content said c i d i
-hands_passes id content said c d i p = record {
-  each = λ k. hand_with i k (theirs_at c k) (theirs_at d k) (content_on id content k) (said k) (p.each k);
+pub hands_passes : (id : ℕ) (items : List Item) (said : ℕ → List Item) (c d : List (ℕ × Entry)) (i : Input)
+    → Hands id items said c d → Passes id items said c i d i
+hands_passes id items said c d i p = record {
+  each = λ k. hand_with i k (theirs_at c k) (theirs_at d k) (items_on id items k) (said k) (p.each k);
 }
 
 -- ---- bytes of one stream are read
 
 -- with an input of this stream
-reads_by : (b : Bool) (id k : ℕ) (content : List ℕ) (c d : List (ℕ × Entry)) (i j : Chunk)
-    → is_at (nat_cmp id) k ≡ b → ReadsOn id content c i d j
-    → IsRead (cond b (with_chunk (theirs_at c k) i) (theirs_at c k)) (cond b content [])
+reads_by : (b : Bool) (id k : ℕ) (items : List Item) (c d : List (ℕ × Entry)) (i j : Chunk)
+    → is_at (nat_cmp id) k ≡ b → ReadsOn id items c i d j
+    → IsRead (cond b (with_chunk (theirs_at c k) i) (theirs_at c k)) (cond b items [])
     (cond b (with_chunk (theirs_at d k) j) (theirs_at d k))
-reads_by true id k content c d i j h p =
-    subst (λ n. IsRead (with_chunk (theirs_at c n) i) content (with_chunk (theirs_at d n) j)) (same_key id k h) p.here
-reads_by false id k content c d i j h p = read_left (theirs_at c k) (theirs_at d k) (p.there k h)
+reads_by true id k items c d i j h p =
+    subst (λ n. IsRead (with_chunk (theirs_at c n) i) items (with_chunk (theirs_at d n) j)) (same_key id k h) p.here
+reads_by false id k items c d i j h p = read_left (theirs_at c k) (theirs_at d k) (p.there k h)
 
 pub input_by : (r : Report) (id k : ℕ) → r ≡ report.Stream id → is_of r k ≡ is_at (nat_cmp id) k
 input_by r id k h = ap (λ x. is_of x k) h
 
-pub reads_at : (id k : ℕ) (content : List ℕ) (c d : List (ℕ × Entry)) (i j : Input)
+pub reads_at : (id k : ℕ) (items : List Item) (c d : List (ℕ × Entry)) (i j : Input)
     → i.report ≡ report.Stream id → j.report ≡ report.Stream id
-    → ReadsOn id content c i.chunk d j.chunk
-    → IsRead (unread_at c i k) (content_on id content k) (unread_at d j k)
-reads_at id k content c d i j h g p =
+    → ReadsOn id items c i.chunk d j.chunk
+    → IsRead (unread_at c i k) (items_on id items k) (unread_at d j k)
+reads_at id k items c d i j h g p =
     rw (input_by i.report id k h, input_by j.report id k g)
-    (reads_by (is_at (nat_cmp id) k) id k content c d i.chunk j.chunk refl p)
+    (reads_by (is_at (nat_cmp id) k) id k items c d i.chunk j.chunk refl p)
 
-pub reads_pass : (id : ℕ) (content : List ℕ) (said : ℕ → List ℕ) (c d e : List (ℕ × Entry)) (i j l : Input)
+pub reads_pass : (id : ℕ) (items : List Item) (said : ℕ → List Item) (c d e : List (ℕ × Entry)) (i j l : Input)
     → i.report ≡ report.Stream id → j.report ≡ report.Stream id
-    → ReadsOn id content c i.chunk d j.chunk → Passes id content said d j e l → Tells said c i e l
-reads_pass id content said c d e i j l h g p q = record {
-  each = λ k. hand_steps (unread_at c i k) (unread_at d j k) (unread_at e l k) (content_on id content k) (said k)
-      (reads_at id k content c d i j h g p) (q.each k);
+    → ReadsOn id items c i.chunk d j.chunk → Passes id items said d j e l → Tells said c i e l
+reads_pass id items said c d e i j l h g p q = record {
+  each = λ k. hand_steps (unread_at c i k) (unread_at d j k) (unread_at e l k) (items_on id items k) (said k)
+      (reads_at id k items c d i j h g p) (q.each k);
 }
 
 -- without an input
@@ -228,38 +229,38 @@ pub none_left : (l : List ℕ) → length l ≤ 0 → l ≡ []
 none_left [] h = refl
 none_left (x ∷ l) h = absurd (omega (arith, h))
 
-pub reads_kept : (id : ℕ) (content : List ℕ) (c d : List (ℕ × Entry)) (i j : Chunk)
+pub reads_kept : (id : ℕ) (items : List Item) (c d : List (ℕ × Entry)) (i j : Chunk)
     → i.bytes.now ≡ [] → i.fin ≡ false → length j.bytes.now ≤ 0 → j.fin ≡ false
-    → ReadsOn id content c i d j → ReadsKept id content c d
-reads_kept id content c d i j e f g h p = record {
-  here = subst (λ y. IsRead (theirs_at c id) content y)
+    → ReadsOn id items c i d j → ReadsKept id items c d
+reads_kept id items c d i j e f g h p = record {
+  here = subst (λ y. IsRead (theirs_at c id) items y)
       (chunk_none (theirs_at d id) j (none_left j.bytes.now g) h)
-      (subst (λ x. IsRead x content (with_chunk (theirs_at d id) j)) (chunk_none (theirs_at c id) i e f) p.here);
+      (subst (λ x. IsRead x items (with_chunk (theirs_at d id) j)) (chunk_none (theirs_at c id) i e f) p.here);
   there = p.there;
 }
 
-kept_by : (b : Bool) (id k : ℕ) (content : List ℕ) (c d : List (ℕ × Entry)) → is_at (nat_cmp id) k ≡ b
-    → ReadsKept id content c d → IsRead (theirs_at c k) (cond b content []) (theirs_at d k)
-kept_by true id k content c d t p =
-    subst (λ n. IsRead (theirs_at c n) content (theirs_at d n)) (same_key id k t) p.here
-kept_by false id k content c d t p = read_left (theirs_at c k) (theirs_at d k) (p.there k t)
+kept_by : (b : Bool) (id k : ℕ) (items : List Item) (c d : List (ℕ × Entry)) → is_at (nat_cmp id) k ≡ b
+    → ReadsKept id items c d → IsRead (theirs_at c k) (cond b items []) (theirs_at d k)
+kept_by true id k items c d t p =
+    subst (λ n. IsRead (theirs_at c n) items (theirs_at d n)) (same_key id k t) p.here
+kept_by false id k items c d t p = read_left (theirs_at c k) (theirs_at d k) (p.there k t)
 
-pub kept_hands : (id : ℕ) (content : List ℕ) (said : ℕ → List ℕ) (c d e : List (ℕ × Entry))
-    → ReadsKept id content c d → Hands id content said d e → TellsKept said c e
-kept_hands id content said c d e p q = record {
-  each = λ k. hand_steps (theirs_at c k) (theirs_at d k) (theirs_at e k) (content_on id content k) (said k)
-      (kept_by (is_at (nat_cmp id) k) id k content c d refl p) (q.each k);
+pub kept_hands : (id : ℕ) (items : List Item) (said : ℕ → List Item) (c d e : List (ℕ × Entry))
+    → ReadsKept id items c d → Hands id items said d e → TellsKept said c e
+kept_hands id items said c d e p q = record {
+  each = λ k. hand_steps (theirs_at c k) (theirs_at d k) (theirs_at e k) (items_on id items k) (said k)
+      (kept_by (is_at (nat_cmp id) k) id k items c d refl p) (q.each k);
 }
 
-pub on_none : (b : Bool) → cond {A = List ℕ} b [] [] ≡ []
+pub on_none : (b : Bool) → cond {A = List Item} b [] [] ≡ []
 on_none true = refl
 on_none false = refl
 
-pub kept_left : (id : ℕ) (said : ℕ → List ℕ) (c d e : List (ℕ × Entry)) → ((k : ℕ) → said k ≡ [])
+pub kept_left : (id : ℕ) (said : ℕ → List Item) (c d e : List (ℕ × Entry)) → ((k : ℕ) → said k ≡ [])
     → ReadsKept id [] c d → Left d e → TellsKept said c e
 kept_left id said c d e h p q = record {
   each = λ k. subst (λ a. IsRead (theirs_at c k) a (theirs_at e k)) (on_none (is_at (nat_cmp id) k) ∙ sym (h k))
-      (read_then (theirs_at c k) (theirs_at d k) (theirs_at e k) (content_on id [] k)
+      (read_then (theirs_at c k) (theirs_at d k) (theirs_at e k) (items_on id [] k)
       (kept_by (is_at (nat_cmp id) k) id k [] c d refl p) (q.each k));
 }
 
@@ -294,9 +295,9 @@ calls_more (p ∷ ps) bytes more rest ended fin h = (
       (calls_more ps (drop p.consumed bytes) more rest ended fin h.1),
 )
 
-read_more : (x y : Theirs) (content : List ℕ) (i : Chunk) → AreRead x content y
-    → AreRead (with_chunk x i) content (with_chunk y i)
-read_more x y content i p = record {
+read_more : (x y : Theirs) (items : List Item) (i : Chunk) → AreRead x items y
+    → AreRead (with_chunk x i) items (with_chunk y i)
+read_more x y items i p = record {
   bytes = p.bytes ++ i.bytes.now;
   rest = p.rest ++ i.bytes.now;
   ended = p.ended || i.fin;
@@ -307,49 +308,49 @@ read_more x y content i p = record {
   says = p.says;
 }
 
-to_more : (x y : Theirs) (content : List ℕ) (i : Chunk) → IsReadTo x content y
-    → IsReadTo (with_chunk x i) content (with_chunk y i)
-to_more x y content i (inl p) = inl (ap (λ t. with_chunk t i) p.0, p.1)
-to_more x y content i (inr p) = inr (read_more x y content i p)
+to_more : (x y : Theirs) (items : List Item) (i : Chunk) → IsReadTo x items y
+    → IsReadTo (with_chunk x i) items (with_chunk y i)
+to_more x y items i (inl p) = inl (ap (λ t. with_chunk t i) p.0, p.1)
+to_more x y items i (inr p) = inr (read_more x y items i p)
 
 pub chunk_left : (x y : Theirs) (i : Chunk) → IsLeft x y → IsLeft (with_chunk x i) (with_chunk y i)
 chunk_left x y i (inl p) = inl (ap (λ t. with_chunk t i) p)
 chunk_left x y i (inr p) = inr (ap (λ t. with_chunk t i) p)
 
-with_read : (b : Bool) (x y : Theirs) (content : List ℕ) (i : Chunk) → IsRead x content y
-    → IsRead (cond b (with_chunk x i) x) content (cond b (with_chunk y i) y)
-with_read true x y content i p =
-    (with_chunk p.0 i, to_more x p.0 content i p.1, chunk_left p.0 y i p.2)
-with_read false x y content i p = p
+with_read : (b : Bool) (x y : Theirs) (items : List Item) (i : Chunk) → IsRead x items y
+    → IsRead (cond b (with_chunk x i) x) items (cond b (with_chunk y i) y)
+with_read true x y items i p =
+    (with_chunk p.0 i, to_more x p.0 items i p.1, chunk_left p.0 y i p.2)
+with_read false x y items i p = p
 
-pub kept_tells : (said : ℕ → List ℕ) (c d : List (ℕ × Entry)) (i : Input) → TellsKept said c d → Tells said c i d i
+pub kept_tells : (said : ℕ → List Item) (c d : List (ℕ × Entry)) (i : Input) → TellsKept said c d → Tells said c i d i
 kept_tells said c d i p = record {
   each = λ k. with_read (is_of i.report k) (theirs_at c k) (theirs_at d k) (said k) i.chunk (p.each k);
 }
 
 -- ---- steps
 
-quiet_by : (x y z : Theirs) (said : List ℕ) → IsLeft x y → IsRead y said z → IsRead x said z
+quiet_by : (x y z : Theirs) (said : List Item) → IsLeft x y → IsRead y said z → IsRead x said z
 quiet_by x y z said (inl p) q = subst (λ t. IsRead t said z) p q
 quiet_by x y z said (inr p) q =
     let g : (z ≡ Gone) × (said ≡ []) = gone_is_read y z said p q in
     (x, inl (refl, g.1), inr g.0)
 
-pub same_tells : (said : ℕ → List ℕ) (c d e : List (ℕ × Entry)) (i j l : Input)
+pub same_tells : (said : ℕ → List Item) (c d e : List (ℕ × Entry)) (i j l : Input)
     → Same c i d j → Tells said d j e l → Tells said c i e l
 same_tells said c d e i j l p q = record {
   each = λ k. quiet_by (unread_at c i k) (unread_at d j k) (unread_at e l k) (said k) (p.each k) (q.each k);
 }
 
 -- nothing was told, and then this
-pub tells_steps : (quiet said : ℕ → List ℕ) (c d e : List (ℕ × Entry)) (i j l : Input) → ((k : ℕ) → quiet k ≡ [])
+pub tells_steps : (quiet said : ℕ → List Item) (c d e : List (ℕ × Entry)) (i j l : Input) → ((k : ℕ) → quiet k ≡ [])
     → Tells quiet c i d j → Tells said d j e l → Tells said c i e l
 tells_steps quiet said c d e i j l h p q = record {
   each = λ k. subst (λ a. IsRead (unread_at c i k) (a ++ said k) (unread_at e l k)) (h k)
       (read_steps (unread_at c i k) (unread_at d j k) (unread_at e l k) (quiet k) (said k) (p.each k) (q.each k));
 }
 
-pub same_tell : (said : ℕ → List ℕ) (c d : List (ℕ × Entry)) (i j : Input) → ((k : ℕ) → said k ≡ [])
+pub same_tell : (said : ℕ → List Item) (c d : List (ℕ × Entry)) (i j : Input) → ((k : ℕ) → said k ≡ [])
     → Same c i d j → Tells said c i d j
 same_tell said c d i j h p = record {
   each = λ k. subst (λ a. IsRead (unread_at c i k) a (unread_at d j k)) (sym (h k))
@@ -362,14 +363,14 @@ and_right : (a b : Bool) → (a && b) ≡ true → b ≡ true
 and_right true b h = h
 and_right false b h = absurd (cc h)
 
--- the payload of SETTINGS is no content
-no_payload : (say : Say) → content_of (without_payload say) ≡ content_of say
+-- the payload of SETTINGS is no items
+no_payload : (say : Say) → items_of (without_payload say) ≡ items_of say
 no_payload (say.Settings settings payload) = refl
 no_payload other = refl
 
-heard_says : (f : Found) (say : Say) (reach all : ℕ) → Says f say reach all → content_of say ≡ content_found f
-heard_says (found.Heard h) say reach all p = sym (no_payload say) ∙ ap content_of (sym p.0)
-heard_says found.Again say reach all p = ap content_of p.0
+heard_says : (f : Found) (say : Say) (reach all : ℕ) → Says f say reach all → items_of say ≡ items_found f
+heard_says (found.Heard h) say reach all p = sym (no_payload say) ∙ ap items_of (sym p.0)
+heard_says found.Again say reach all p = ap items_of p.0
 
 theirs_same : (e f : Entry) → f.peer ≡ e.peer → f.is_decoder ≡ e.is_decoder
     → theirs_of f ≡ theirs_by e.peer e.is_decoder f.reading
@@ -380,7 +381,7 @@ call_reads : (consumed reach : ℕ) (bytes : List ℕ) → consumed ≤ length (
 call_reads consumed reach bytes h e = omega (arith, h, e)
 
 hears_read : (limit : ℕ) (c d : Shared) (r s : Reading) (i j : Chunk) (found : Found) → Hears limit c r i found d s j
-    → AreRead (with_chunk (Unread (kept_of r) r.ended) i) (content_found found) (with_chunk (Unread (kept_of s) s.ended) j)
+    → AreRead (with_chunk (Unread (kept_of r) r.ended) i) (items_found found) (with_chunk (Unread (kept_of s) s.ended) j)
 hears_read limit c d r s i j found h = record {
   bytes = unread r i;
   rest = unread s j;
@@ -405,17 +406,17 @@ hears_read limit c d r s i j found h = record {
     },
     h.left,
   );
-  says = append-nil (content_of h.say) ∙ heard_says found h.say h.reach (length (unread r i)) h.says;
+  says = append-nil (items_of h.say) ∙ heard_says found h.say h.reach (length (unread r i)) h.says;
 }
 
--- a stream is read, and nothing is said of content if its bytes are instructions for the own encoder
+-- a stream is read, and nothing is said of items if its bytes are instructions for the own encoder
 reads_by_peer : (p : Peer) (b : Bool) (limit : ℕ) (c d : Shared) (r s : Reading) (i j : Chunk) (found told : Found)
-    → p ≡ peer.Reads → (b ≡ false → told ≡ found) → (b ≡ true → content_found told ≡ [])
+    → p ≡ peer.Reads → (b ≡ false → told ≡ found) → (b ≡ true → items_found told ≡ [])
     → Hears limit c r i found d s j
-    → IsRead (with_chunk (theirs_by p b r) i) (content_found told) (with_chunk (theirs_by p b s) j)
+    → IsRead (with_chunk (theirs_by p b r) i) (items_found told) (with_chunk (theirs_by p b s) j)
 reads_by_peer peer.Reads false limit c d r s i j found told g same none h = (
   with_chunk (Unread (kept_of s) s.ended) j,
-  inr (subst (λ f. AreRead (with_chunk (Unread (kept_of r) r.ended) i) (content_found f)
+  inr (subst (λ f. AreRead (with_chunk (Unread (kept_of r) r.ended) i) (items_found f)
       (with_chunk (Unread (kept_of s) s.ended) j)) (sym (same refl)) (hears_read limit c d r s i j found h)),
   inl refl,
 )
@@ -425,17 +426,17 @@ reads_by_peer other b limit c d r s i j found told g same none h = absurd (cc g)
 
 -- what an entry finds
 pub looked : (e f : Entry) (limit : ℕ) (c d : Shared) (i j : Chunk) (found told : Found)
-    → e.peer ≡ peer.Reads → (e.is_decoder ≡ false → told ≡ found) → (e.is_decoder ≡ true → content_found told ≡ [])
+    → e.peer ≡ peer.Reads → (e.is_decoder ≡ false → told ≡ found) → (e.is_decoder ≡ true → items_found told ≡ [])
     → f.peer ≡ e.peer → f.is_decoder ≡ e.is_decoder → Hears limit c e.reading i found d f.reading j
-    → IsRead (with_chunk (theirs_of e) i) (content_found told) (with_chunk (theirs_of f) j)
+    → IsRead (with_chunk (theirs_of e) i) (items_found told) (with_chunk (theirs_of f) j)
 looked e f limit c d i j found told g same none p q h =
-    subst (λ y. IsRead (with_chunk (theirs_of e) i) (content_found told) (with_chunk y j)) (sym (theirs_same e f p q))
+    subst (λ y. IsRead (with_chunk (theirs_of e) i) (items_found told) (with_chunk y j)) (sym (theirs_same e f p q))
     (reads_by_peer e.peer e.is_decoder limit c d e.reading f.reading i j found told g same none h)
 
 pub looked_plain : (e f : Entry) (limit : ℕ) (c d : Shared) (i j : Chunk) (found : Found)
     → e.peer ≡ peer.Reads → e.is_decoder ≡ false
     → f.peer ≡ e.peer → f.is_decoder ≡ e.is_decoder → Hears limit c e.reading i found d f.reading j
-    → IsRead (with_chunk (theirs_of e) i) (content_found found) (with_chunk (theirs_of f) j)
+    → IsRead (with_chunk (theirs_of e) i) (items_found found) (with_chunk (theirs_of f) j)
 looked_plain e f limit c d i j found g n p q h =
     looked e f limit c d i j found found g (λ _. refl) (λ t. absurd (cc (sym n ∙ t))) p q h
 
@@ -443,24 +444,24 @@ pub not_looked : (e : Entry) (i : Chunk) → IsRead (with_chunk (theirs_of e) i)
 not_looked e i = read_left (with_chunk (theirs_of e) i) (with_chunk (theirs_of e) i) (inl refl)
 
 -- and then its stream
-pub reads_set : (es : List (ℕ × Entry)) (id : ℕ) (e f : Entry) (content : List ℕ) (i j : Chunk)
+pub reads_set : (es : List (ℕ × Entry)) (id : ℕ) (e f : Entry) (items : List Item) (i j : Chunk)
     → lookup (is_at (nat_cmp id)) es ≡ Some e
-    → IsRead (with_chunk (theirs_of e) i) content (with_chunk (theirs_of f) j)
-    → ReadsOn id content es i (set_value (is_at (nat_cmp id)) es f) j
-reads_set es id e f content i j h p = record {
-  here = subst (λ y. IsRead (with_chunk (theirs_at es id) i) content (with_chunk y j))
+    → IsRead (with_chunk (theirs_of e) i) items (with_chunk (theirs_of f) j)
+    → ReadsOn id items es i (set_value (is_at (nat_cmp id)) es f) j
+reads_set es id e f items i j h p = record {
+  here = subst (λ y. IsRead (with_chunk (theirs_at es id) i) items (with_chunk y j))
       (sym (ap theirs_in (set_here es id e f h)))
-      (subst (λ x. IsRead (with_chunk x i) content (with_chunk (theirs_of f) j)) (sym (ap theirs_in h)) p);
+      (subst (λ x. IsRead (with_chunk x i) items (with_chunk (theirs_of f) j)) (sym (ap theirs_in h)) p);
   there = λ k t. inl (ap theirs_in (set_there es id k e f h t));
 }
 
-pub counted_set : (es : List (ℕ × Entry)) (id : ℕ) (e f g : Entry) (content : List ℕ) (i j : Chunk)
+pub counted_set : (es : List (ℕ × Entry)) (id : ℕ) (e f g : Entry) (items : List Item) (i j : Chunk)
     → lookup (is_at (nat_cmp id)) es ≡ Some e → theirs_of g ≡ theirs_of f
-    → IsRead (with_chunk (theirs_of e) i) content (with_chunk (theirs_of f) j)
-    → ReadsOn id content es i (set_value (is_at (nat_cmp id)) es g) j
-counted_set es id e f g content i j h q p =
-    reads_set es id e g content i j h
-    (subst (λ t. IsRead (with_chunk (theirs_of e) i) content (with_chunk t j)) (sym q) p)
+    → IsRead (with_chunk (theirs_of e) i) items (with_chunk (theirs_of f) j)
+    → ReadsOn id items es i (set_value (is_at (nat_cmp id)) es g) j
+counted_set es id e f g items i j h q p =
+    reads_set es id e g items i j h
+    (subst (λ t. IsRead (with_chunk (theirs_of e) i) items (with_chunk t j)) (sym q) p)
 
 -- the bytes of an input are kept
 keeps_by_peer : (p : Peer) (b : Bool) (r s : Reading) (i j : Chunk) → Keeps r i s j

@@ -16,7 +16,8 @@ use Rattle.vesgrauf.specs.declared.connection.ids.Ids.{Ids}
 use Rattle.vesgrauf.specs.Ids.{was, seen, own_bit, kind_of, next_own, next_peer}
 use Rattle.vesgrauf.specs.declared.output.StreamKind.{StreamKind}
 use Rattle.vesgrauf.specs.declared.output.StreamKind.TheVariants as kind
-use Rattle.vesgrauf.specs.Theirs.{Theirs, Gone, Unread, theirs_of, theirs_in, theirs_at, IsLeft, Left, IsRead, Same, ReadsOn, ReadsKept, Hands, Passes, IsHanded, TellsKept, Tells, IsStart, Accepts, TellsAll, unread_at, with_input, with_chunk, content_of, content_on, is_of, piece_of, told_in, IsSilent, OnlyAt}
+use Rattle.vesgrauf.specs.Items.{Item, items_of, items_told}
+use Rattle.vesgrauf.specs.Theirs.{Theirs, Gone, Unread, theirs_of, theirs_in, theirs_at, IsLeft, Left, IsRead, Same, ReadsOn, ReadsKept, Hands, Passes, IsHanded, TellsKept, Tells, IsStart, Accepts, TellsAll, unread_at, with_input, with_chunk, items_on, is_of, told_in, IsSilent, IsOf, OnlyAt}
 use Rattle.vesgrauf.specs.Inputs.{IsSameOrRead}
 use Rattle.vesgrauf.specs.declared.connection.Step.{Step}
 use Rattle.vesgrauf.specs.declared.connection.Step.TheVariants as step
@@ -37,11 +38,11 @@ use Rattle.vesgrauf.proofs.ReadsLemmas.{same_key, read_left, gone_left_by, read_
 
 -- ---- after a read
 
-pub reads_left : (id : ℕ) (content : List ℕ) (c d e : List (ℕ × Entry)) (i j : Chunk)
-    → ReadsOn id content c i d j → Left d e → ReadsOn id content c i e j
-reads_left id content c d e i j p q = record {
+pub reads_left : (id : ℕ) (items : List Item) (c d e : List (ℕ × Entry)) (i j : Chunk)
+    → ReadsOn id items c i d j → Left d e → ReadsOn id items c i e j
+reads_left id items c d e i j p q = record {
   here = read_then (with_chunk (theirs_at c id) i) (with_chunk (theirs_at d id) j) (with_chunk (theirs_at e id) j)
-      content p.here (chunk_left (theirs_at d id) (theirs_at e id) j (q.each id));
+      items p.here (chunk_left (theirs_at d id) (theirs_at e id) j (q.each id));
   there = λ k t. left_steps (theirs_at c k) (theirs_at d k) (theirs_at e k) (p.there k t) (q.each k);
 }
 
@@ -49,7 +50,7 @@ pub gone_set : (es : List (ℕ × Entry)) (id : ℕ) (e f : Entry) → lookup (i
     → theirs_of f ≡ Gone → theirs_at (set_value (is_at (nat_cmp id)) es f) id ≡ Gone
 gone_set es id e f h p = ap theirs_in (set_here es id e f h) ∙ p
 
-pub reads_tell : (id : ℕ) (said : ℕ → List ℕ) (c d : List (ℕ × Entry)) (i j : Input)
+pub reads_tell : (id : ℕ) (said : ℕ → List Item) (c d : List (ℕ × Entry)) (i j : Input)
     → i.report ≡ report.Stream id → j.report ≡ report.Stream id → ((k : ℕ) → said k ≡ [])
     → ReadsOn id [] c i.chunk d j.chunk → Tells said c i d j
 reads_tell id said c d i j h g silent p = record {
@@ -68,29 +69,29 @@ only_none es id = record { each = λ k t. refl }
 -- ---- steps that read nothing
 
 silent_none : (s : Step) (k : ℕ) → IsSilent s → told_in s k ≡ []
-silent_none (step.Told e) k h = ap (λ l. content_on e.stream l k) h ∙ on_none (is_at (nat_cmp e.stream) k)
+silent_none (step.Told e) k h = ap (λ l. items_on e.stream l k) h ∙ on_none (is_at (nat_cmp e.stream) k)
 silent_none step.More k h = refl
 silent_none step.Nothing k h = refl
 
-handed_left : (x y : Theirs) (content said : List ℕ) → said ≡ content → IsLeft x y → IsHanded x content said y
-handed_left x y content said h p = inl (p, h)
+handed_left : (x y : Theirs) (items said : List Item) → said ≡ items → IsLeft x y → IsHanded x items said y
+handed_left x y items said h p = inl (p, h)
 
 pub left_hands : (id : ℕ) (s : Step) (c d : List (ℕ × Entry)) → IsSilent s → Left c d → Hands id [] (told_in s) c d
 left_hands id s c d h p = record {
-  each = λ k. handed_left (theirs_at c k) (theirs_at d k) (content_on id [] k) (told_in s k)
+  each = λ k. handed_left (theirs_at c k) (theirs_at d k) (items_on id [] k) (told_in s k)
       (silent_none s k h ∙ sym (on_none (is_at (nat_cmp id) k))) (p.each k);
 }
 
-pub silent_hands : (id : ℕ) (content : List ℕ) (s : Step) (c d : List (ℕ × Entry)) → content ≡ [] → IsSilent s → Left c d
-    → Hands id content (told_in s) c d
-silent_hands id content s c d e h p = subst (λ l. Hands id l (told_in s) c d) (sym e) (left_hands id s c d h p)
+pub silent_hands : (id : ℕ) (items : List Item) (s : Step) (c d : List (ℕ × Entry)) → items ≡ [] → IsSilent s → Left c d
+    → Hands id items (told_in s) c d
+silent_hands id items s c d e h p = subst (λ l. Hands id l (told_in s) c d) (sym e) (left_hands id s c d h p)
 
 pub left_tells : (s : Step) (c d : List (ℕ × Entry)) (i : Input) → IsSilent s → Left c d → Tells (told_in s) c i d i
 left_tells s c d i h p = same_tell (told_in s) c d i i (λ k. silent_none s k h) (left_same c d i p)
 
-pub left_reads : (id : ℕ) (content : List ℕ) (c d : List (ℕ × Entry)) (i : Chunk) → content ≡ [] → Left c d
-    → ReadsOn id content c i d i
-left_reads id content c d i h p = record {
+pub left_reads : (id : ℕ) (items : List Item) (c d : List (ℕ × Entry)) (i : Chunk) → items ≡ [] → Left c d
+    → ReadsOn id items c i d i
+left_reads id items c d i h p = record {
   here = subst (λ l. IsRead (with_chunk (theirs_at c id) i) l (with_chunk (theirs_at d id) i)) (sym h)
       (read_left (with_chunk (theirs_at c id) i) (with_chunk (theirs_at d id) i)
       (chunk_left (theirs_at c id) (theirs_at d id) i (p.each id)));
@@ -150,47 +151,47 @@ taken_by i j k x (inr p) =
     ap (λ r. cond (is_of r k) (with_chunk x j.chunk) x) p.report
     ∙ taken_none (is_of i.report k) x (with_chunk x i.chunk) (chunk_none x i.chunk (none_left i.chunk.bytes.now (omega (arith, p.bytes))) p.fin)
 
-pub taken_passes : (id : ℕ) (content : List ℕ) (said : ℕ → List ℕ) (c d : List (ℕ × Entry)) (i j : Input)
-    → IsSameOrRead i j → Hands id content said c d → Passes id content said c i d j
-taken_passes id content said c d i j t p = record {
-  each = λ k. subst (λ y. IsHanded (unread_at c i k) (content_on id content k) (said k) y)
+pub taken_passes : (id : ℕ) (items : List Item) (said : ℕ → List Item) (c d : List (ℕ × Entry)) (i j : Input)
+    → IsSameOrRead i j → Hands id items said c d → Passes id items said c i d j
+taken_passes id items said c d i j t p = record {
+  each = λ k. subst (λ y. IsHanded (unread_at c i k) (items_on id items k) (said k) y)
       (sym (taken_by i j k (theirs_at d k) t))
-      (hand_with i k (theirs_at c k) (theirs_at d k) (content_on id content k) (said k) (p.each k));
+      (hand_with i k (theirs_at c k) (theirs_at d k) (items_on id items k) (said k) (p.each k));
 }
 
 -- ---- what joins a session says
 
-joined_silent : (before : Option ℕ) (f : Frames) → content_of (joined_told before f) ≡ []
+joined_silent : (before : Option ℕ) (f : Frames) → items_of (joined_told before f) ≡ []
 joined_silent (Some id) (frames.Session of) = refl
 joined_silent (Some id) (frames.Waiting for) = refl
 joined_silent before other = refl
 
-closed_silent : (c : Shared) (f : Fault) (s : ErrorScope) → content_of (closed_in c f s).1 ≡ []
+closed_silent : (c : Shared) (f : Fault) (s : ErrorScope) → items_of (closed_in c f s).1 ≡ []
 closed_silent c f scope.Stream = refl
 closed_silent c f other = refl
 
-after_silent : (c : Shared) (s : Stream) (before : Option ℕ) (a : After) → content_of (joined_by c s before a).0 ≡ []
+after_silent : (c : Shared) (s : Stream) (before : Option ℕ) (a : After) → items_of (joined_by c s before a).0 ≡ []
 after_silent c s before (d, t, None) = joined_silent before t
 after_silent c s before (d, t, Some f) =
     closed_silent (with_streams c d) (fault.Streams f) (scope_of (fault.Streams f))
 
-joins_by : (b : Bool) (c : Shared) (s : Stream) (x : Outcome) → content_of x.0 ≡ []
-    → content_of (cond b (say.More, c, s) x).0 ≡ []
+joins_by : (b : Bool) (c : Shared) (s : Stream) (x : Outcome) → items_of x.0 ≡ []
+    → items_of (cond b (say.More, c, s) x).0 ≡ []
 joins_by true c s x h = refl
 joins_by false c s x h = h
 
-pub joins_silent : (c : Shared) (s : Stream) (k : Known) → content_of (joins c s k).0 ≡ []
+pub joins_silent : (c : Shared) (s : Stream) (k : Known) → items_of (joins c s k).0 ≡ []
 joins_silent c s k =
     joins_by c.over c s (joined_by c s (joining_of s.frames) (joins_streams c.streams s.frames k))
     (after_silent c s (joining_of s.frames) (joins_streams c.streams s.frames k))
 
 -- ---- streams that come to be
 
-pub all_of : (a : Ids) (said : ℕ → List ℕ) (c d : List (ℕ × Entry)) (i j : Input) → Tells said c i d j
+pub all_of : (a : Ids) (said : ℕ → List Item) (c d : List (ℕ × Entry)) (i j : Input) → Tells said c i d j
     → TellsAll a said c i d j
 all_of a said c d i j p = record { each = λ k. (theirs_at c k, inl refl, p.each k) }
 
-pub accepts_all : (a b : Ids) (said : ℕ → List ℕ) (c d e : List (ℕ × Entry)) (i j : Input)
+pub accepts_all : (a b : Ids) (said : ℕ → List Item) (c d e : List (ℕ × Entry)) (i j : Input)
     → Accepts a c b d → Tells said d i e j → TellsAll a said c i e j
 accepts_all a b said c d e i j p q = record { each = λ k. (theirs_at d k, p.each k, q.each k) }
 
@@ -287,36 +288,67 @@ more_kept id c d p =
 pub none_kept : (c : List (ℕ × Entry)) → TellsKept (told_in step.More) c c
 none_kept c = record { each = λ k. read_left (theirs_at c k) (theirs_at c k) (inl refl) }
 
--- content is told on its stream, or the stream is read no further
-hand_by : (b : Bool) (x : Theirs) (content : List ℕ) → IsHanded x (cond b content []) (cond b content []) x
-hand_by b x content = inl (inl refl, refl)
+-- items is told on its stream, or the stream is read no further
+hand_by : (b : Bool) (x : Theirs) (items : List Item) → IsHanded x (cond b items []) (cond b items []) x
+hand_by b x items = inl (inl refl, refl)
 
-pub told_hands : (id : ℕ) (content : List ℕ) (e : Event) (c : List (ℕ × Entry)) → e.stream ≡ id
-    → piece_of e.kind ≡ content → Hands id content (told_in (step.Told e)) c c
-told_hands id content e c p q = record {
-  each = λ k. rw (p, q) (hand_by (is_at (nat_cmp id) k) (theirs_at c k) content);
+pub told_hands : (id : ℕ) (items : List Item) (e : Event) (c : List (ℕ × Entry)) → e.stream ≡ id
+    → items_told e.kind ≡ items → Hands id items (told_in (step.Told e)) c c
+told_hands id items e c p q = record {
+  each = λ k. rw (p, q) (hand_by (is_at (nat_cmp id) k) (theirs_at c k) items);
 }
 
-gone_by_id : (b : Bool) (id k : ℕ) (content : List ℕ) (c d : List (ℕ × Entry)) → is_at (nat_cmp id) k ≡ b
-    → Left c d → theirs_at d id ≡ Gone → IsHanded (theirs_at c k) (cond b content []) [] (theirs_at d k)
-gone_by_id true id k content c d t p g =
+gone_by_id : (b : Bool) (id k : ℕ) (items : List Item) (c d : List (ℕ × Entry)) → is_at (nat_cmp id) k ≡ b
+    → Left c d → theirs_at d id ≡ Gone → IsHanded (theirs_at c k) (cond b items []) [] (theirs_at d k)
+gone_by_id true id k items c d t p g =
     inr (subst (λ n. theirs_at d n ≡ Gone) (same_key id k t) g, refl)
-gone_by_id false id k content c d t p g = inl (p.each k, refl)
+gone_by_id false id k items c d t p g = inl (p.each k, refl)
 
-pub gone_hands : (id : ℕ) (content : List ℕ) (c d : List (ℕ × Entry)) → Left c d → theirs_at d id ≡ Gone
-    → Hands id content (told_in step.More) c d
-gone_hands id content c d p g = record {
-  each = λ k. gone_by_id (is_at (nat_cmp id) k) id k content c d refl p g;
+handed_then : (x y z : Theirs) (items said : List Item) → IsHanded x items said y → IsLeft y z → IsHanded x items said z
+handed_then x y z items said (inl p) q = inl (left_steps x y z p.0 q, p.1)
+handed_then x y z items said (inr p) q = inr (gone_left_by y z p.0 q, p.1)
+
+-- and then nothing is read
+pub hands_left : (id : ℕ) (items : List Item) (s : Step) (c d e : List (ℕ × Entry)) → Hands id items (told_in s) c d
+    → Left d e → Hands id items (told_in s) c e
+hands_left id items s c d e p q = record {
+  each = λ k. handed_then (theirs_at c k) (theirs_at d k) (theirs_at e k) (items_on id items k) (told_in s k)
+      (p.each k) (q.each k);
 }
+
+then_handed : (x y z : Theirs) (items said : List Item) → IsLeft x y → IsHanded y items said z → IsHanded x items said z
+then_handed x y z items said q (inl p) = inl (left_steps x y z q p.0, p.1)
+then_handed x y z items said q (inr p) = inr p
+
+-- nothing is read, and then this is told
+pub left_then_hands : (id : ℕ) (items : List Item) (s : Step) (c d e : List (ℕ × Entry)) → Left c d
+    → Hands id items (told_in s) d e → Hands id items (told_in s) c e
+left_then_hands id items s c d e q p = record {
+  each = λ k. then_handed (theirs_at c k) (theirs_at d k) (theirs_at e k) (items_on id items k) (told_in s k)
+      (q.each k) (p.each k);
+}
+
+pub gone_hands : (id : ℕ) (items : List Item) (c d : List (ℕ × Entry)) → Left c d → theirs_at d id ≡ Gone
+    → Hands id items (told_in step.More) c d
+gone_hands id items c d p g = record {
+  each = λ k. gone_by_id (is_at (nat_cmp id) k) id k items c d refl p g;
+}
+
+-- it is told on its stream; or the stream is read no further
+pub told_or_gone : (id : ℕ) (items : List Item) (s : Step) (c d : List (ℕ × Entry)) → IsOf id items s → Left c d
+    → theirs_at d id ≡ Gone → Hands id items (told_in s) c d
+told_or_gone id items (step.Told e) c d p q g = hands_left id items (step.Told e) c c d (told_hands id items e c p.0 p.1) q
+told_or_gone id items step.More c d p q g = gone_hands id items c d q g
+told_or_gone id items step.Nothing c d p q g = record { each = (gone_hands id items c d q g).each }
 
 -- nothing was read and told, and then this
-start_none : (s : Bool) (u v x y : Theirs) (f : Theirs → Theirs) (content : List ℕ) → IsRead (f u) [] (f v)
-    → IsStart s v x → IsRead (f x) content y → (t : Theirs) × IsStart s u t × IsRead (f t) content y
-start_none s u v x y f content p (inl h) r =
-    (u, inl refl, read_steps (f u) (f v) y [] content p (subst (λ t. IsRead (f t) content y) h r))
-start_none s u v x y f content p (inr h) r = (x, inr h, r)
+start_none : (s : Bool) (u v x y : Theirs) (f : Theirs → Theirs) (items : List Item) → IsRead (f u) [] (f v)
+    → IsStart s v x → IsRead (f x) items y → (t : Theirs) × IsStart s u t × IsRead (f t) items y
+start_none s u v x y f items p (inl h) r =
+    (u, inl refl, read_steps (f u) (f v) y [] items p (subst (λ t. IsRead (f t) items y) h r))
+start_none s u v x y f items p (inr h) r = (x, inr h, r)
 
-pub none_all : (a : Ids) (quiet said : ℕ → List ℕ) (c d e : List (ℕ × Entry)) (i l : Input)
+pub none_all : (a : Ids) (quiet said : ℕ → List Item) (c d e : List (ℕ × Entry)) (i l : Input)
     → ((k : ℕ) → quiet k ≡ []) → Tells quiet c i d i → TellsAll a said d i e l → TellsAll a said c i e l
 none_all a quiet said c d e i l h p q = record {
   each = λ k. start_none (was a k) (theirs_at c k) (theirs_at d k) (q.each k).0 (unread_at e l k) (with_input i k)

@@ -6,7 +6,7 @@ use Rattle.vesgrauf.specs.declared.connection.Connection.{Connection}
 use Rattle.vesgrauf.specs.declared.connection.ids.Ids.{Ids}
 use Rattle.vesgrauf.specs.declared.entry.Entry.{Entry}
 use Rattle.vesgrauf.specs.declared.event.Event.{Event}
-use Rattle.vesgrauf.specs.Own.{Untouched}
+use Rattle.vesgrauf.specs.Own.{Untouched, UntouchedOrNew}
 use Rattle.vesgrauf.specs.Theirs.{Left}
 use Rattle.vesgrauf.specs.Told.{Goes}
 
@@ -30,7 +30,7 @@ pub data KeepsOwnAll : (said : List Event)
     → (fs : List (ℕ × Entry)) (jds : Ids) (r : List Event) (b : Config) → Type 0 where
   KeptOwn : {said : List Event} {es : List (ℕ × Entry)} {ids : Ids} {q : List Event} {a : Config}
       {fs : List (ℕ × Entry)} {jds : Ids} {r : List Event} {b : Config}
-      → (own : a.on_malformed ≡ chosen.Reset → Untouched es fs) → (goes : Goes said es ids q fs jds r) → (config : b ≡ a)
+      → (own : a.on_malformed ≡ chosen.Reset → UntouchedOrNew ids es fs) → (goes : Goes said es ids q fs jds r) → (config : b ≡ a)
       → KeepsOwnAll said es ids q a fs jds r b
 
 abbrev pub KeepsOwn : List Event → Connection → Connection → Type 0

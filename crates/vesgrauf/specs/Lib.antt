@@ -3,8 +3,10 @@ pub mod Bounds
 pub mod Closes
 pub mod Codes
 pub mod Config
+pub mod Fields
 pub mod Ids
 pub mod Inputs
+pub mod Items
 pub mod Keeps
 pub mod Messages
 pub mod Order

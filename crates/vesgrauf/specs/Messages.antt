@@ -1,5 +1,5 @@
 -- What calls queue on the own half of a stream: HEADERS, the first bytes of a stream of a session, and the end of one.
-use Rattle.std.specs.Prelude.{◌≡◌, ◌==◌, ◌&&◌, ◌^◌, ◌-◌, ℕ, Bool, true, false, List, length, MatchBool, Some, Ok, unwrap_or}
+use Rattle.std.specs.Prelude.{◌≡◌, ◌==◌, ◌&&◌, ◌^◌, ◌-◌, ℕ, Bool, true, false, List, [], length, MatchBool, Some, Ok, unwrap_or}
 use Rattle.wtp_sending.specs.declared.peer.Peer.{Peer as Allows}
 use Rattle.wtp_webtransport.specs.Sessions.{allows_sessions}
 use Rattle.wtp_webtransport.specs.declared.connection.Connection.{Connection as Shared}
@@ -8,6 +8,7 @@ use Rattle.vesgrauf_ready.specs.declared.rank.Priority.{Priority}
 use Rattle.vesgrauf_stream.specs.declared.tools.Tools.{Tools}
 use Rattle.vesgrauf_stream.specs.declared.writing.Writing.{Writing}
 use Rattle.vesgrauf_stream.specs.declared.writing.half.Half.TheVariants as half
+use Rattle.vesgrauf_stream.specs.Reading.{kept_of}
 use Rattle.vesgrauf_stream.specs.Writing.{Pushes, Ends, Closes, message_at, session_at, head_by, stream_head}
 use Rattle.vesgrauf.specs.declared.config.Config.{Config}
 use Rattle.vesgrauf.specs.declared.connection.Connection.{Connection}
@@ -63,12 +64,15 @@ ChangesThen id How c d = Of (stream_at c id)
 
 -- ---- requests
 
--- The stream of a request. Nothing was sent on its own half, which changes in this way. QUIC is to open it.
+-- The stream of a request. Nothing was sent on its own half, which changes in this way, and nothing came on the peer's. QUIC
+-- is to open it.
 pub record IsRequest (config : Config) (How : Writing → Writing → Type 0) (e : Entry) : Type 0 where
   pub before : Writing
   pub idle : before.half ≡ half.Idle
   pub blank : IsNew (queue_of config) before.queue
   pub sends : How before e.writing
+  pub unread : kept_of e.reading ≡ []
+  pub goes_on : e.reading.ended ≡ false
   pub is : e ≡ record (new_entry e.reading peer.Reads e.writing) {
     priority = e.priority;
     told = told.Known;
@@ -100,12 +104,15 @@ abbrev pub IsStreamHead : StreamKind → List ℕ → Entry → Type 0
 IsStreamHead k bytes e =
     (session_at e.writing ≡ Ok tt) × (bytes ≡ head_by (stream_head (is_both k)) (message_at e.writing))
 
--- An own stream of a session. On its own half nothing was sent, and these bytes are queued. QUIC is to open it.
+-- An own stream of a session. On its own half nothing was sent, and these bytes are queued; nothing came on the peer's. QUIC
+-- is to open it.
 pub record IsMember (config : Config) (session : ℕ) (k : StreamKind) (bytes : List ℕ) (e : Entry) : Type 0 where
   pub before : Writing
   pub raw : before.half ≡ half.Raw
   pub blank : IsNew (queue_of config) before.queue
   pub begins : Pushes bytes before e.writing
+  pub unread : kept_of e.reading ≡ []
+  pub goes_on : e.reading.ended ≡ false
   pub is : e ≡ record (new_entry e.reading (peer_of k) e.writing) {
     session = Some session;
     priority = shared;

@@ -1,12 +1,13 @@
 -- What comes on one stream of the peer, call after call, and what is told of it.
 use Rattle.std.specs.Prelude.{◌≡◌, ◌⊎◌, ◌++◌, ◌||◌, ℕ, Bool, false, List, [], ◌∷◌}
-use Rattle.vesgrauf.specs.Theirs.{Theirs, Gone, Unread, Piece, AreCalls, contents, IsLeft, IsRead}
+use Rattle.vesgrauf.specs.Theirs.{Theirs, Gone, Unread, Piece, AreCalls, all_items, IsLeft, IsRead}
+use Rattle.vesgrauf.specs.Items.{Item}
 
--- Comes: these bytes of the stream are reported, and whether it ends after them. Tells: a call of `next_event` tells this
--- content of it, or nothing. Rests: another call.
+-- Comes: these bytes of the stream are reported, and whether it ends after them. Tells: a call of `next_event` tells these
+-- items of it, or none. Rests: another call.
 pub data Step : Type 0 where
   Comes : (bytes : List ℕ) → (fin : Bool) → Step
-  Tells : (content : List ℕ) → Step
+  Tells : (items : List Item) → Step
   Rests : Step
 
 -- more bytes are unread
@@ -17,7 +18,7 @@ with_more (Unread before ended) bytes fin = Unread (before ++ bytes) (ended || f
 -- what a step does to the bytes that are unread: as the contracts of the calls say
 abbrev pub Does : Step → Theirs → Theirs → Type 0
 Does (Comes bytes fin) x y = y ≡ with_more x bytes fin
-Does (Tells content) x y = IsRead x content y
+Does (Tells items) x y = IsRead x items y
 Does Rests x y = IsLeft x y
 
 abbrev pub Leads : List Step → Theirs → Theirs → Type 0
@@ -36,17 +37,17 @@ ends [] = false
 ends (Comes bytes fin ∷ steps) = fin || ends steps
 ends (s ∷ steps) = ends steps
 
--- all content that was told
-abbrev pub told : List Step → List ℕ
+-- all items that were told
+abbrev pub told : List Step → List Item
 told [] = []
-told (Tells content ∷ steps) = content ++ told steps
+told (Tells items ∷ steps) = items ++ told steps
 told (s ∷ steps) = told steps
 
 -- The layer below reads these bytes from the first on, one call after the other. What its calls say is what was told. The
 -- rest is what is unread, unless the stream is read no further.
-pub record IsToldOf (bytes : List ℕ) (ended : Bool) (content : List ℕ) (y : Theirs) : Type 0 where
+pub record IsToldOf (bytes : List ℕ) (ended : Bool) (items : List Item) (y : Theirs) : Type 0 where
   pub pieces : List Piece
   pub rest : List ℕ
   pub calls : AreCalls pieces bytes ended rest
-  pub says : contents pieces ≡ content
+  pub says : all_items pieces ≡ items
   pub left : (y ≡ Unread rest ended) ⊎ (y ≡ Gone)

@@ -1,5 +1,5 @@
 -- What the program is told of the streams of a connection.
-use Rattle.std.specs.Prelude.{◌≡◌, ◌==◌, ◌+◌, ◌%◌, ◌++◌, ℕ, if◌then◌else◌, Bool, true, false, List, [], ◌∷◌, Option, None, Some, is_some, not, Result, Ok, Err}
+use Rattle.std.specs.Prelude.{◌≡◌, ◌⊎◌, ◌==◌, ◌+◌, ◌%◌, ◌++◌, ℕ, if◌then◌else◌, Bool, true, false, List, [], ◌∷◌, Option, None, Some, is_some, not, Result, Ok, Err}
 use Rattle.std.specs.Ordering.{nat_cmp}
 use Rattle.std.specs.BTreeMap.{is_at}
 use Rattle.std.specs.Map.{set_value}
@@ -113,6 +113,10 @@ Sets id w es fs = (k : ℕ) → entry_at fs k ≡ (if is_at (nat_cmp id) k then 
 abbrev pub AreOthers : ℕ → (es fs : List (ℕ × Entry)) → Type 0
 AreOthers id es fs = (k : ℕ) → is_at (nat_cmp id) k ≡ false → entry_at fs k ≡ entry_at es k
 
+-- and none of this stream is there, unless it is what it was
+abbrev pub IsUndone : ℕ → (es fs : List (ℕ × Entry)) → Type 0
+IsUndone id es fs = AreOthers id es fs × ((entry_at fs id ≡ entry_at es id) ⊎ (entry_at fs id ≡ None))
+
 -- the next IDs are of their kinds (RFC 9000, section 2.1)
 pub record AreIds (ids : Ids) : Type 0 where
   pub own_both : ids.bidirectional % 4 ≡ own_bit ids.side
@@ -126,9 +130,10 @@ pub record Sound (es : List (ℕ × Entry)) (ids : Ids) : Type 0 where
   pub were : (id : ℕ) → is_some (entry_at es id) ≡ true → was ids id ≡ true
 
 -- From these streams, IDs and queued events to those, where the program was told this meanwhile. What it is told of a
--- stream leads on to what it knows of it once it is told what is queued.
+-- stream leads on to what it knows of it once it is told what is queued. What was seen stays so.
 pub record Goes (said : List Event) (es : List (ℕ × Entry)) (ids : Ids) (q : List Event)
     (fs : List (ℕ × Entry)) (jds : Ids) (r : List Event) : Type 0 where
+  pub seen : (id : ℕ) → was ids id ≡ true → was jds id ≡ true
   pub sound : Sound es ids → Sound fs jds
   pub told : Sound es ids → (id : ℕ) (p : Told) → Path p (on id q) (status_at es ids id)
       → Path p (on id (said ++ r)) (status_at fs jds id)

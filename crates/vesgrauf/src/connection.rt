@@ -236,7 +236,7 @@ impl Connection {
     ghost use Rattle.vesgrauf.specs.Keeps.{Keeps, KeepsOwn};
     ghost use Rattle.vesgrauf.specs.Bounds.{InstructionsFit, IsBounded, KeepsBound};
     ghost use Rattle.vesgrauf.specs.Progress.{IsSettled};
-    ghost use Rattle.vesgrauf.specs.Own.{Untouched};
+    ghost use Rattle.vesgrauf.specs.Own.{UntouchedOrNew};
     ghost use Rattle.vesgrauf.specs.State.{IsAfterEnd, IsSomeOk, is_last, is_over};
     ghost use Rattle.vesgrauf.specs.Told.{GoesOn, said_by, told_by_call, Sound};
     ghost use Rattle.vesgrauf_queue.specs.State.{waiting};
@@ -328,7 +328,7 @@ impl Connection {
         ensures last { IsAfterEnd self.old → IsSomeOk result (λ e. is_last e.kind ≡ true) }
         ensures over { IsAfterEnd self.old → IsAfterEnd self.new }
         ensures own { self.old.config.on_malformed ≡ chosen.Reset
-            → Untouched self.old.streams.entries self.new.streams.entries }
+            → UntouchedOrNew self.old.ids self.old.streams.entries self.new.streams.entries }
         ensures told { is_over self.new ≡ false → IfOk result (λ e. TellsAll self.old.ids (told_by e)
             self.old.streams.entries input.old self.new.streams.entries input.new) }
         ensures config { self.new.config ≡ self.old.config }
@@ -420,13 +420,7 @@ impl Connection {
                 Ok(())
             }
             Report::ConnectionClosed(code) => {
-                self.datagrams.queue.clear();
-                self.ended = Some(Ended {
-                    code,
-                    by_peer: true,
-                    is_told: false,
-                });
-                self.pending.cursor = 0;
+                self.end_by_peer(code);
                 Ok(())
             }
         }

@@ -252,7 +252,7 @@ impl Entry {
     pub(crate) fn sent(&mut self, spares: &mut Spares, len: usize) -> Result<(), NotShown>
         ensures took { OnOk result (Took len (own_of self.old.writing) (own_of self.new.writing)) }
         ensures kept { OnErr result (self.new ≡ self.old) }
-        ensures told { self.new.told ≡ self.old.told }
+        ensures others { self.new ≡ record self.old { writing = self.new.writing } }
     {
         self.writing.sent(spares, len)
     }

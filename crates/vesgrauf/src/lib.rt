@@ -13,6 +13,7 @@ pub mod connection;
 pub(crate) mod critical;
 pub(crate) mod entry;
 pub mod event;
+pub mod fields;
 pub mod input;
 pub mod laws;
 pub mod output;

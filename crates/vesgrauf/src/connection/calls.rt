@@ -3,7 +3,7 @@ ghost use Rattle.std.specs.Prelude.{◌≡◌, is_some, is_ok, true, false, Some
 ghost use Rattle.vesgrauf.specs.Keeps.{Keeps};
 ghost use Rattle.vesgrauf.specs.State.{code_on, named_at, Becomes, Pauses, Prioritizes, IsStill, IsRefusedBy, IsWhyNamed};
 ghost use Rattle.vesgrauf.specs.declared.refused.Refused.TheVariants as refused;
-ghost use Rattle.vesgrauf.specs.Own.{Untouched};
+ghost use Rattle.vesgrauf.specs.Own.{EndsOwn, Untouched};
 ghost use Rattle.vesgrauf.specs.Theirs.{Left, Gone, theirs_at};
 ghost use Rattle.vesgrauf.specs.Order.{LooksAt};
 ghost use Rattle.vesgrauf.specs.Told.{GoesOn};
@@ -26,6 +26,7 @@ impl Connection {
     /// Nothing changes. `Closed`; `NoStream`; `WrongCode`; and `Memory`.
     #[tactic(auto, using(crate::proofs::KeepsLemmas::kept))]
     pub fn reset(&mut self, id: u64, code: StreamCode) -> Result<(), Refused>
+        ensures ends { OnOk result (EndsOwn id self.old.streams.entries self.new.streams.entries) }
         ensures fits { OnOk result (is_ok (code_on self.old id code) ≡ true) }
         ensures refused { IfErr result (λ e. IsRefusedBy (code_on self.old id code) e self.old self.new) }
         ensures own { Untouched self.old.streams.entries self.new.streams.entries }
@@ -35,10 +36,19 @@ impl Connection {
     {
         let code = self.code_for(id, code)?;
         self.reserve()?;
+        self.reset_fully(id, code)?;
+        Ok(self.remove_if_done(id)?)
+    }
+
+    // Ends the own half of a stream, and the session whose own stream it is.
+    #[tactic(auto, using(crate::proofs::KeepsLemmas::keep, crate::proofs::KeepsLemmas::keeps_ends))]
+    fn reset_fully(&mut self, id: u64, code: u64) -> Result<(), AllocError>
+        ensures keeps { Keeps [] self.old self.new }
+        ensures ends { OnOk result (EndsOwn id self.old.streams.entries self.new.streams.entries) }
+    {
         self.reset_own(id, code)?;
         self.reset_ended(id, code)?;
-        self.end_if_session(id, code, true)?;
-        Ok(self.remove_if_done(id)?)
+        self.end_if_session(id, code, true)
     }
 
     /// Asks the peer to stop its half of a stream, with a code of HTTP/3 or, on a stream of a session, of the
@@ -74,6 +84,7 @@ impl Connection {
     /// As of [`reset`](Self::reset).
     #[tactic(auto, using(crate::proofs::KeepsLemmas::kept, crate::proofs::KeepsLemmas::keeps_gone))]
     pub fn abort(&mut self, id: u64, code: StreamCode) -> Result<(), Refused>
+        ensures ends { OnOk result (EndsOwn id self.old.streams.entries self.new.streams.entries) }
         ensures gone { OnOk result (theirs_at self.new.streams.entries id ≡ Gone) }
         ensures fits { OnOk result (is_ok (code_on self.old id code) ≡ true) }
         ensures refused { IfErr result (λ e. IsRefusedBy (code_on self.old id code) e self.old self.new) }
@@ -89,14 +100,14 @@ impl Connection {
     }
 
     // Ends both halves of a stream, and the session whose own stream it is.
+    #[tactic(auto, using(crate::proofs::KeepsLemmas::keep, crate::proofs::KeepsLemmas::keeps_ends))]
     fn abort_halves(&mut self, id: u64, code: u64) -> Result<(), AllocError>
         ensures keeps { Keeps [] self.old self.new }
+        ensures ends { OnOk result (EndsOwn id self.old.streams.entries self.new.streams.entries) }
         ensures gone { OnOk result (theirs_at self.new.streams.entries id ≡ Gone) }
     {
         self.cancel(id)?;
-        self.end_if_session(id, code, true)?;
-        self.reset_own(id, code)?;
-        self.reset_ended(id, code)?;
+        self.reset_fully(id, code)?;
         self.stop_peer(id, code)
     }
 

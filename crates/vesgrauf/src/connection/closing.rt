@@ -1,5 +1,6 @@
 //! Streams that are closed.
-ghost use Rattle.std.specs.Prelude.{◌≡◌, Bool, [], true, false, OnOk};
+ghost use Rattle.std.specs.Prelude.{◌≡◌, Bool, [], true, false, not, OnOk};
+ghost use Rattle.vesgrauf.specs.Own.{Over, EndsOwn, is_sent, own_at};
 ghost use Rattle.vesgrauf_stream.specs.declared.reading.Reading.{Reading as ReadingOf};
 ghost use Rattle.vesgrauf.specs.Keeps.{Keeps};
 ghost use Rattle.vesgrauf.specs.State.{stream_at, knows_of};
@@ -49,8 +50,10 @@ impl Connection {
     }
 
     // Resets the own half.
+    #[tactic(auto, using(crate::proofs::KeepsLemmas::keep, crate::proofs::KeepsLemmas::keeps_over_own))]
     pub(super) fn reset_own(&mut self, id: u64, code: u64) -> Result<(), AllocError>
         ensures keeps { Keeps [] self.old self.new }
+        ensures ends { OnOk result (EndsOwn id self.old.streams.entries self.new.streams.entries) }
     {
         if self.reset_half(id, code)? {
             self.wake();
@@ -70,8 +73,10 @@ impl Connection {
     }
 
     // Resets the own half, unless nothing is to be done for it. Returns whether something was.
+    #[tactic(auto, using(crate::proofs::KeepsLemmas::keep, crate::proofs::KeepsLemmas::keeps_over_own))]
     fn reset_half(&mut self, id: u64, code: u64) -> Result<bool, AllocError>
         ensures keeps { Keeps [] self.old self.new }
+        ensures ends { OnOk result (EndsOwn id self.old.streams.entries self.new.streams.entries) }
     {
         if !self.has_own(id) {
             return Ok(false);
@@ -82,7 +87,9 @@ impl Connection {
     }
 
     // Returns whether something is to be done for the own half of a stream.
-    fn has_own(&self, id: u64) -> bool {
+    fn has_own(&self, id: u64) -> bool
+        ensures { result ≡ not (is_sent (stream_at self.now id)) }
+    {
         match self.streams.get(&id) {
             Some(entry) => !entry.writing.is_done(),
             None => false,
@@ -90,9 +97,10 @@ impl Connection {
     }
 
     // Resets the own half, if it may be.
-    #[tactic(auto, using(crate::proofs::KeepsLemmas::keep, std::proofs::lemmas::Map::Steps::set_value_same))]
+    #[tactic(auto, using(crate::proofs::KeepsLemmas::keep, crate::proofs::OwnLemmas::own_set, std::proofs::lemmas::Map::Steps::set_value_same))]
     fn reset_writing(&mut self, id: u64, code: u64) -> Result<(), AllocError>
         ensures keeps { Keeps [] self.old self.new }
+        ensures over { OnOk result (own_at self.new.streams.entries id ≡ Over) }
     {
         let Some(entry) = self.streams.get_mut(&id) else {
             return Ok(());
@@ -199,6 +207,16 @@ impl Connection {
         self.abandon(id);
         let is_over = self.has_ended(id);
         self.leave_peer(id, is_over)
+    }
+
+    // Reads the peer's half no further, and forgets the stream if both halves are over.
+    #[tactic(auto, using(crate::proofs::KeepsLemmas::keep, crate::proofs::KeepsLemmas::keeps_gone))]
+    pub(super) fn drop_rest(&mut self, id: u64) -> Result<(), AllocError>
+        ensures keeps { Keeps [] self.old self.new }
+        ensures gone { OnOk result (theirs_at self.new.streams.entries id ≡ Gone) }
+    {
+        self.drop_peer(id)?;
+        self.remove_if_done(id)
     }
 
     // Returns whether the peer's half is over.

@@ -34,6 +34,23 @@ impl Connection {
             ≡ waiting self.old.control.queue ++ settings_bytes (announced self.old.config)) }
         ensures goes { GoesOn [] self.old self.new }
     {
+        self.begin_control()?;
+        self.begin_decoder()?;
+        match self.queue_instructions() {
+            Ok(()) => Ok(()),
+            Err(_) => Err(AllocError),
+        }
+    }
+
+    // Queues the first bytes of the own control stream.
+    #[tactic(auto, using(crate::proofs::KeepsLemmas::kept))]
+    fn begin_control(&mut self) -> Result<(), AllocError>
+        ensures others { view_of self.new ≡ with_begun self.new (view_of self.old) }
+        ensures config { self.new.config ≡ self.old.config }
+        ensures starts { OnOk result (waiting self.new.control.queue
+            ≡ waiting self.old.control.queue ++ settings_bytes (announced self.old.config)) }
+        ensures goes { GoesOn [] self.old self.new }
+    {
         let settings = self.settings()?;
         let mut bytes = Vec::new(self.alloc);
         if self
@@ -51,11 +68,7 @@ impl Connection {
         {
             return Err(AllocError);
         }
-        self.begin_decoder()?;
-        match self.queue_instructions() {
-            Ok(()) => Ok(()),
-            Err(_) => Err(AllocError),
-        }
+        Ok(())
     }
 
     // Returns the own SETTINGS.

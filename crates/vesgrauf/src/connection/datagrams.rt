@@ -1,5 +1,5 @@
 //! Datagrams (RFC 9297).
-ghost use Rattle.std.specs.Prelude.{◌≡◌, ◌-◌, ◌++◌, [], Ok, Some, MatchOption, OnOk, IfOk, IfSome, OnErr, IfErr, List, ℕ, length, option_map};
+ghost use Rattle.std.specs.Prelude.{◌≡◌, ◌≤◌, ◌+◌, ◌-◌, ◌++◌, [], Ok, Some, MatchOption, OnOk, IfOk, IfSome, OnErr, IfErr, List, ℕ, length, option_map};
 ghost use Rattle.vesgrauf.specs.Keeps.{Keeps};
 ghost use Rattle.vesgrauf.specs.State.{Adds, head, open_session, HeadOf, KeepsDatagrams, KeepsOthers, SendsDatagram};
 ghost use Rattle.vesgrauf.specs.Bounds.{DatagramsFit};
@@ -56,8 +56,7 @@ impl DatagramQueue {
 
     // Drops those that came before the last tick, unless some are to be given.
     pub(super) fn age(&mut self, alloc: Global)
-        ensures queue { self.new.queue ≡ self.old.queue }
-        ensures owed { self.new.is_owed ≡ self.old.is_owed }
+        ensures others { self.new ≡ record self.old { early = self.new.early; aged = self.new.aged } }
         ensures aged { self.old.opened.items ≡ [] → (self.new.aged ≡ self.old.early) × (self.new.early ≡ []) }
     {
         if self.opened.is_empty() {
@@ -127,6 +126,8 @@ impl Connection {
     pub fn send_datagram(&mut self, session: u64, payload: &[u8]) -> Result<bool, Refused>
         ensures open { IfOk result (λ queued. open_session self.old session ≡ Ok tt) }
         ensures ok { IfOk result (λ queued. SendsDatagram queued session payload.now self.old self.new) }
+        ensures limit { IfOk result (λ queued. (first : List ℕ) × HeadOf self.old session first
+            × (length first + length payload.now ≤ self.old.datagrams.limit)) }
         ensures others { KeepsOthers self.old self.new }
         ensures kept { OnErr result (KeepsDatagrams self.old self.new) }
         ensures goes { GoesOn [] self.old self.new }

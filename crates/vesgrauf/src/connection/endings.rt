@@ -316,6 +316,19 @@ impl Connection {
         None
     }
 
+    // The peer or QUIC closed the connection.
+    pub(super) fn end_by_peer(&mut self, code: u64)
+        ensures keeps { Keeps [] self.old self.new }
+    {
+        self.datagrams.queue.clear();
+        self.ended = Some(Ended {
+            code,
+            by_peer: true,
+            is_told: false,
+        });
+        self.pending.cursor = 0;
+    }
+
     // Ends the connection by an error.
     #[tactic(auto, using(crate::proofs::KeepsLemmas::kept, crate::proofs::GoesLemmas::goes_filtered))]
     pub(super) fn break_off(&mut self, code: u64)

@@ -1,17 +1,20 @@
 //! What is heard on a stream, and what follows from it.
-ghost use Rattle.std.specs.Prelude.{◌≡◌, [], false, IfOk};
+ghost use Rattle.std.specs.Prelude.{◌≡◌, [], ◌∷◌, false, IfOk, OnOk};
 ghost use Rattle.vesgrauf.specs.Keeps.{Keeps, KeepsOwn};
 ghost use Rattle.vesgrauf.specs.Told.{ends, word_of, said_by, said_in};
 ghost use Rattle.vesgrauf.specs.State.{stream_at, told_on};
-ghost use Rattle.vesgrauf.specs.Theirs.{Left, Hands, IsSilent, IsOf, told_in, content_in, content_of, piece_of};
-ghost use Rattle.vesgrauf_stream.specs.Reading.{bytes_of};
+ghost use Rattle.vesgrauf.specs.Items.{Section, Ends, items_in, items_of, items_told};
+ghost use Rattle.wtp_webtransport.specs.declared.event.HeadersKind.TheVariants as headers;
+ghost use Rattle.vesgrauf.specs.Theirs.{Left, Hands, Gone, IsSilent, IsOf, theirs_at, told_in};
 ghost use Rattle.wtp_webtransport.specs.Events.{told_of};
 
 use crate::connection::failing::NO_DATAGRAMS;
+use crate::connection::opening::{Joining, joining_of};
 use crate::connection::{Connection, Step, Stop, internal};
 use crate::entry::Member;
 use crate::event::{Event, EventKind, Tunnel, Why};
 use crate::output::StreamKind;
+use std::alloc::AllocError;
 use vesgrauf_stream::bytes::Bytes;
 use vesgrauf_stream::heard::Heard;
 use wtp_connection::settings::PeerSettings;
@@ -21,36 +24,22 @@ use wtp_fields::fields::FieldList;
 use wtp_messages::response::Asked;
 use wtp_webtransport::close::Close;
 use wtp_webtransport::event::{Event as Said, HeadersKind};
-use wtp_webtransport::fault::Fault;
 
-/// What became of a stream that is to join its session.
-#[derive(Clone, Copy)]
-pub(super) enum Joining {
-    /// It joined this session.
-    Joined(u64),
-    /// It is to be closed.
-    Refused(Fault),
-    /// The connection is over.
-    Broken(Fault),
-    /// Nothing yet.
-    Nothing,
-}
-
-// Returns what an event says of a stream that is to join its session.
-pub(super) fn joining_of(event: &Said<'_>) -> Joining {
-    match event {
-        Said::Joined(session) => Joining::Joined(*session),
-        Said::StreamError(fault) => Joining::Refused(*fault),
-        Said::ConnectionError(fault) => Joining::Broken(*fault),
-        _ => Joining::Nothing,
-    }
-}
-
-// Returns whether an event is content.
-fn says_content(event: &Said<'_>) -> bool
-    ensures { result ≡ false → content_of (told_of event.now) ≡ [] }
+// Returns whether what a stream says is told item by item: content, sections, and the end.
+pub(super) fn says_items(event: &Said<'_>) -> bool
+    ensures { result ≡ false → items_of (told_of event.now) ≡ [] }
 {
-    matches!(event, Said::Data(_) | Said::StreamData(_))
+    matches!(
+        event,
+        Said::Data(_)
+            | Said::StreamData(_)
+            | Said::Headers(_, _)
+            | Said::SessionRequested(_)
+            | Said::SessionReady(_, _)
+            | Said::Rejected(_, _)
+            | Said::Draining
+            | Said::End
+    )
 }
 
 #[tactic(auto, using(crate::proofs::KeepsLemmas::keep))]
@@ -60,28 +49,29 @@ impl Connection {
     pub(super) fn heard<'a>(&mut self, id: u64, heard: Heard<'a>) -> Result<Step<'a>, Stop>
         ensures keeps { KeepsOwn (said_by result) self.old self.new }
         ensures left { Left self.old.streams.entries self.new.streams.entries }
-        ensures hands { IfOk result (λ s. Hands id (content_in heard.entry) (told_in s)
+        ensures hands { IfOk result (λ s. Hands id (items_in heard.entry) (told_in s)
             self.old.streams.entries self.new.streams.entries) }
     {
         match heard {
-            Heard::Data(bytes) => self.content_came(id, bytes),
-            Heard::StreamData(bytes) => self.content_came(id, bytes),
+            Heard::Data(bytes) => self.tell_read(id, EventKind::Data(bytes)),
+            Heard::StreamData(bytes) => self.tell_read(id, EventKind::Data(bytes)),
             Heard::Frame(_, _) => Ok(Step::More),
             Heard::Event(event) => self.said(id, event),
         }
     }
 
-    // Tells content of a stream. One that the program does not know of is read no further.
+    // Tells what was read of a stream. One that the program does not know of is read no further.
     #[tactic(auto, using(crate::proofs::KeepsLemmas::keep, crate::proofs::TellsLemmas::told_hands, crate::proofs::TellsLemmas::gone_hands))]
-    pub(super) fn content_came<'a>(&mut self, id: u64, bytes: Bytes<'a>) -> Result<Step<'a>, Stop>
-        ensures keeps { Keeps (said_by result) self.old self.new }
-        ensures hands { IfOk result (λ s. Hands id (bytes_of bytes.entry) (told_in s)
+    pub(super) fn tell_read<'a>(&mut self, id: u64, kind: EventKind<'a>) -> Result<Step<'a>, Stop>
+        ensures keeps { ends (word_of kind.entry) ≡ false → Keeps (said_by result) self.old self.new }
+        ensures quiet { Keeps [] self.old self.new }
+        ensures hands { IfOk result (λ s. Hands id (items_told kind.entry) (told_in s)
             self.old.streams.entries self.new.streams.entries) }
     {
-        match self.tell(id, EventKind::Data(bytes)) {
+        match self.tell(id, kind) {
             Step::Told(event) => Ok(Step::Told(event)),
             _ => {
-                self.drop_peer(id)?;
+                self.drop_rest(id)?;
                 Ok(Step::More)
             }
         }
@@ -91,7 +81,7 @@ impl Connection {
     #[tactic(auto, using(crate::proofs::KeepsLemmas::keep, crate::proofs::GoesLemmas::goes_tells))]
     pub(super) fn tell<'a>(&self, id: u64, kind: EventKind<'a>) -> Step<'a>
         ensures told { result ≡ told_on (stream_at self.now id) id kind.entry }
-        ensures is { IsOf id (piece_of kind.entry) result }
+        ensures is { IsOf id (items_told kind.entry) result }
         ensures keeps { ends (word_of kind.entry) ≡ false → Keeps (said_in result) self.now self.now }
     {
         let Some(entry) = self.streams.get(&id) else {
@@ -108,21 +98,38 @@ impl Connection {
         })
     }
 
-    // Handles what a stream says. (Content is heard as such, and not as what a stream says.)
+    // Handles what a stream says.
     #[tactic(auto, using(crate::proofs::KeepsLemmas::hold))]
     pub(super) fn said(&mut self, id: u64, event: Said<'static>) -> Result<Step<'static>, Stop>
         ensures keeps { KeepsOwn (said_by result) self.old self.new }
         ensures left { Left self.old.streams.entries self.new.streams.entries }
-        ensures hands { IfOk result (λ s. Hands id (content_of (told_of event.entry)) (told_in s)
+        ensures hands { IfOk result (λ s. Hands id (items_of (told_of event.entry)) (told_in s)
             self.old.streams.entries self.new.streams.entries) }
     {
-        if says_content(&event) {
-            return Err(internal());
+        if says_items(&event) {
+            return self.item_said(id, event);
         }
         self.said_else(id, event)
     }
 
-    // Handles what a stream says: anything but content.
+    // Handles what a stream says that is told item by item. (Content is heard as such, and not as what a stream says.)
+    fn item_said(&mut self, id: u64, event: Said<'static>) -> Result<Step<'static>, Stop>
+        ensures keeps { Keeps (said_by result) self.old self.new }
+        ensures hands { IfOk result (λ s. Hands id (items_of (told_of event.entry)) (told_in s)
+            self.old.streams.entries self.new.streams.entries) }
+    {
+        match event {
+            Said::Headers(kind, list) => self.headers_came(id, kind, list),
+            Said::SessionRequested(list) => self.session_came(id, list),
+            Said::SessionReady(status, list) => self.session_ready(id, status, list),
+            Said::Rejected(status, list) => self.session_rejected(id, status, list),
+            Said::Draining => self.tell_read(id, EventKind::Draining),
+            Said::End => self.end_came(id),
+            _ => Err(internal()),
+        }
+    }
+
+    // Handles what else a stream says.
     #[tactic(auto, using(crate::proofs::KeepsLemmas::hold))]
     fn said_else(&mut self, id: u64, event: Said<'static>) -> Result<Step<'static>, Stop>
         ensures keeps { KeepsOwn (said_by result) self.old self.new }
@@ -138,15 +145,9 @@ impl Connection {
             }
             Said::Opened(purpose) => self.purpose_came(id, purpose),
             Said::Joins(session) => self.session_named(id, session),
-            Said::Headers(kind, list) => self.headers_came(id, kind, list),
-            Said::SessionRequested(list) => self.session_came(id, list),
-            Said::SessionReady(status, list) => self.session_ready(id, status, list),
-            Said::Rejected(status, list) => self.session_rejected(id, status, list),
             Said::SessionClosed(close) => self.session_closed(id, close),
             Said::SessionLost => self.session_lost(id),
             Said::Datagram(payload) => Ok(self.capsule_came(id, payload)),
-            Said::Draining => Ok(self.draining_came(id)),
-            Said::End => self.end_came(id),
             Said::TooLarge(_) => self.too_large_came(id),
             Said::Malformed(rule) => self.malformed_came(id, rule),
             Said::StreamError(fault) | Said::Reset(Some(fault)) => {
@@ -208,14 +209,6 @@ impl Connection {
         self.tell(id, EventKind::Datagram(Bytes::Kept(payload)))
     }
 
-    // The peer asks to end a session soon.
-    fn draining_came(&self, id: u64) -> Step<'static>
-        ensures silent { IsSilent result }
-        ensures keeps { Keeps (said_in result) self.now self.now }
-    {
-        self.tell(id, EventKind::Draining)
-    }
-
     // SETTINGS of the peer came.
     #[tactic(auto, using(crate::proofs::KeepsLemmas::keep, crate::proofs::GoesLemmas::goes_aside))]
     fn settings_came(&mut self, settings: PeerSettings) -> Result<Step<'static>, Stop>
@@ -251,7 +244,7 @@ impl Connection {
         match purpose {
             Purpose::Message => {
                 let goaway = self.first_rejected();
-                return self.reject(id, goaway);
+                self.reject(id, goaway)?;
             }
             Purpose::Decoder => {
                 self.note_decoder(id);
@@ -293,15 +286,13 @@ impl Connection {
 
     // Rejects the request on a stream if its ID is this one or above it: that of the own GOAWAY, or its own where there are
     // too many sessions.
-    pub(super) fn reject(&mut self, id: u64, first: Option<u64>) -> Result<Step<'static>, Stop>
-        ensures keeps { Keeps (said_by result) self.old self.new }
-        ensures silent { IfOk result IsSilent }
+    pub(super) fn reject(&mut self, id: u64, first: Option<u64>) -> Result<(), AllocError>
+        ensures keeps { Keeps [] self.old self.new }
     {
         let Joining::Refused(fault) = self.reject_half(id, first) else {
-            return Ok(Step::More);
+            return Ok(());
         };
-        self.shut(id, fault.code(), Why::Fault(fault))?;
-        Ok(Step::More)
+        self.shut(id, fault.code(), Why::Fault(fault))
     }
 
     // Rejects a request, if its ID says so.
@@ -322,31 +313,50 @@ impl Connection {
         list: FieldList,
     ) -> Result<Step<'static>, Stop>
         ensures keeps { Keeps (said_by result) self.old self.new }
-        ensures silent { IfOk result IsSilent }
+        ensures hands { IfOk result (λ s. Hands id (Section kind list ∷ []) (told_in s)
+            self.old.streams.entries self.new.streams.entries) }
     {
         match kind {
-            HeadersKind::Request => {
-                let step = self.request_came(id, list);
-                self.tell_stop(id)?;
-                Ok(step)
-            }
-            HeadersKind::Interim(status) => Ok(self.tell(id, EventKind::Interim(status, list))),
-            HeadersKind::Response(status) => {
-                self.response_came(id, status);
-                Ok(self.tell(id, EventKind::Response(status, list)))
-            }
-            HeadersKind::Trailers => Ok(self.tell(id, EventKind::Trailers(list))),
+            HeadersKind::Request => self.request_came(id, list),
+            HeadersKind::Interim(status) => self.tell_read(id, EventKind::Interim(status, list)),
+            HeadersKind::Response(status) => self.response_came(id, status, list),
+            HeadersKind::Trailers => self.tell_read(id, EventKind::Trailers(list)),
         }
     }
 
     // A request came that asks for no session.
-    fn request_came(&mut self, id: u64, list: FieldList) -> Step<'static>
-        ensures keeps { Keeps (said_in result) self.old self.new }
-        ensures silent { IsSilent result }
-        ensures quiet { Keeps [] self.old self.new }
+    #[tactic(auto, using(crate::proofs::KeepsLemmas::keep, crate::proofs::KeepsLemmas::keeps_left, crate::proofs::TellsLemmas::hands_left))]
+    fn request_came(&mut self, id: u64, list: FieldList) -> Result<Step<'static>, Stop>
+        ensures keeps { Keeps (said_by result) self.old self.new }
+        ensures hands { IfOk result (λ s. Hands id (Section headers.Request list ∷ []) (told_in s)
+            self.old.streams.entries self.new.streams.entries) }
     {
-        let connects = list.first(b":method") == Some(b"CONNECT");
-        let asked = if connects {
+        let step = self.tell_request(id, list)?;
+        self.tell_stop(id)?;
+        Ok(step)
+    }
+
+    // Tells of a request that asks for no session.
+    #[tactic(auto, using(crate::proofs::KeepsLemmas::keep, crate::proofs::KeepsLemmas::keeps_left, crate::proofs::TellsLemmas::left_then_hands))]
+    fn tell_request(&mut self, id: u64, list: FieldList) -> Result<Step<'static>, Stop>
+        ensures keeps { Keeps (said_by result) self.old self.new }
+        ensures quiet { Keeps [] self.old self.new }
+        ensures hands { IfOk result (λ s. Hands id (Section headers.Request list ∷ []) (told_in s)
+            self.old.streams.entries self.new.streams.entries) }
+    {
+        self.begin_request(id, &list);
+        if list.first(b":method") == Some(b"CONNECT") {
+            self.tell_read(id, EventKind::Connect(Tunnel::Other, list))
+        } else {
+            self.tell_read(id, EventKind::Request(list))
+        }
+    }
+
+    // The request on a stream asks for no session.
+    fn begin_request(&mut self, id: u64, list: &FieldList)
+        ensures keeps { Keeps [] self.old self.new }
+    {
+        let asked = if list.first(b":method") == Some(b"CONNECT") {
             Asked::Connect
         } else if list.first(b":method") == Some(b"HEAD") {
             Asked::Head
@@ -356,15 +366,10 @@ impl Connection {
         self.note_request(id, asked);
         // (a stream may have waited for the session with this ID, which there is not)
         self.wake_waiting();
-        if connects {
-            self.tell(id, EventKind::Connect(Tunnel::Other, list))
-        } else {
-            self.tell(id, EventKind::Request(list))
-        }
     }
 
     // A request came that asks for this.
-    #[tactic(auto, using(crate::proofs::KeepsLemmas::keep, crate::proofs::GoesLemmas::goes_known))]
+    #[tactic(auto, using(crate::proofs::KeepsLemmas::keep, crate::proofs::GoesLemmas::goes_known, crate::proofs::OwnLemmas::own_asked))]
     pub(super) fn note_request(&mut self, id: u64, asked: Asked)
         ensures keeps { Keeps [] self.old self.new }
     {
@@ -377,7 +382,23 @@ impl Connection {
     }
 
     // The final response to a request that asked for no session came.
-    fn response_came(&mut self, id: u64, status: u32)
+    #[tactic(auto, using(crate::proofs::KeepsLemmas::keep, crate::proofs::KeepsLemmas::keeps_left, crate::proofs::TellsLemmas::left_then_hands))]
+    fn response_came(
+        &mut self,
+        id: u64,
+        status: u32,
+        list: FieldList,
+    ) -> Result<Step<'static>, Stop>
+        ensures keeps { Keeps (said_by result) self.old self.new }
+        ensures hands { IfOk result (λ s. Hands id (Section (headers.Response status) list ∷ []) (told_in s)
+            self.old.streams.entries self.new.streams.entries) }
+    {
+        self.note_response(id, status);
+        self.tell_read(id, EventKind::Response(status, list))
+    }
+
+    // The final response to a request came, with this status.
+    fn note_response(&mut self, id: u64, status: u32)
         ensures keeps { Keeps [] self.old self.new }
     {
         if status > 199 && status < 300 {
@@ -390,6 +411,7 @@ impl Connection {
     }
 
     // A request to a tunnel was granted.
+    #[tactic(auto, using(crate::proofs::KeepsLemmas::keep, crate::proofs::OwnLemmas::own_connected))]
     pub(super) fn connect(&mut self, id: u64)
         ensures keeps { Keeps [] self.old self.new }
     {
@@ -406,14 +428,24 @@ impl Connection {
     }
 
     // The peer's half ended.
+    #[tactic(auto, using(crate::proofs::KeepsLemmas::keep, crate::proofs::KeepsLemmas::keeps_left, crate::proofs::TellsLemmas::told_or_gone))]
     fn end_came(&mut self, id: u64) -> Result<Step<'static>, Stop>
         ensures keeps { Keeps (said_by result) self.old self.new }
-        ensures silent { IfOk result IsSilent }
+        ensures hands { IfOk result (λ s. Hands id (Ends ∷ []) (told_in s)
+            self.old.streams.entries self.new.streams.entries) }
     {
         let step = self.tell(id, EventKind::End);
-        self.forget_cancel(id);
-        self.peer_is_over(id)?;
+        self.half_ends(id)?;
         Ok(step)
+    }
+
+    // All of the peer's half was read.
+    fn half_ends(&mut self, id: u64) -> Result<(), AllocError>
+        ensures keeps { Keeps [] self.old self.new }
+        ensures gone { OnOk result (theirs_at self.new.streams.entries id ≡ Gone) }
+    {
+        self.forget_cancel(id);
+        self.peer_is_over(id)
     }
 
     // All sections of a stream were read.

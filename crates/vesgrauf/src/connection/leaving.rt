@@ -1,6 +1,7 @@
 //! The end of a connection in steps.
 ghost use Rattle.std.specs.Prelude.{◌≡◌, ◌<◌, ◌≤◌, ℕ, [], Ok, None, IfSome, OnOk, MatchOption, true, false};
-ghost use Rattle.vesgrauf.specs.State.{is_over, open_session, stream_at, ShutsDown};
+ghost use Rattle.vesgrauf.specs.State.{is_over, open_session, stream_at, EndsUnless, ShutsDown};
+ghost use Rattle.vesgrauf.specs.Theirs.{Left};
 ghost use Rattle.vesgrauf.specs.Order.{IsFirstOpen};
 ghost use Rattle.vesgrauf.specs.declared.output.Shutdown.TheVariants as shutdown;
 ghost use Rattle.vesgrauf.specs.Told.{GoesOn};
@@ -55,13 +56,15 @@ impl Connection {
     /// # Errors
     ///
     /// `Memory`: call it again with the same numbers.
-    #[tactic(auto, using(crate::proofs::KeepsLemmas::kept))]
+    #[tactic(auto, using(crate::proofs::KeepsLemmas::kept, crate::proofs::StepLemmas::left_trans, crate::proofs::StepLemmas::left_itself))]
     pub fn wind_down(&mut self, tick: u32, last: u32) -> Result<(), Refused>
         ensures over { is_over self.old ≡ true → self.new ≡ self.old }
-        ensures closed { last < tick → is_over self.new ≡ true }
+        ensures closed { last < tick → EndsUnless (is_over self.old) 0x100 self.old self.new }
         ensures leaves { is_over self.old ≡ false → tick ≡ 1 → 1 < last
             → OnOk result (ShutsDown shutdown.Final self.old self.new) }
         ensures rests { is_over self.old ≡ false → 1 < tick → tick < last → (result ≡ Ok tt) × (self.new ≡ self.old) }
+        ensures left { Left self.old.streams.entries self.new.streams.entries }
+        ensures config { self.new.config ≡ self.old.config }
         ensures goes { GoesOn [] self.old self.new }
     {
         if self.ended.is_some() {
@@ -82,6 +85,8 @@ impl Connection {
     #[tactic(auto, using(crate::proofs::KeepsLemmas::kept))]
     fn announce_leave(&mut self, tick: u32) -> Result<(), Refused>
         ensures goes { GoesOn [] self.old self.new }
+        ensures streams { self.new.streams.entries ≡ self.old.streams.entries }
+        ensures config { self.new.config ≡ self.old.config }
         ensures leaves { tick ≡ 1 → OnOk result (ShutsDown shutdown.Final self.old self.new) }
         ensures rests { 1 < tick → (result ≡ Ok tt) × (self.new ≡ self.old) }
     {
@@ -93,9 +98,11 @@ impl Connection {
     }
 
     // Asks the peer to end each session that is open, or closes it.
-    #[tactic(auto, using(crate::proofs::KeepsLemmas::kept))]
+    #[tactic(auto, using(crate::proofs::KeepsLemmas::kept, crate::proofs::StepLemmas::left_trans, crate::proofs::StepLemmas::left_itself))]
     fn end_sessions(&mut self, at_once: bool) -> Result<(), Refused>
         ensures goes { GoesOn [] self.old self.new }
+        ensures left { Left self.old.streams.entries self.new.streams.entries }
+        ensures config { self.new.config ≡ self.old.config }
     {
         let mut from = 0;
         for _session in 0..self.streams.len() {
@@ -112,6 +119,8 @@ impl Connection {
     #[tactic(auto, using(crate::proofs::KeepsLemmas::kept))]
     fn end_one(&mut self, id: u64, at_once: bool) -> Result<(), Refused>
         ensures goes { GoesOn [] self.old self.new }
+        ensures left { Left self.old.streams.entries self.new.streams.entries }
+        ensures config { self.new.config ≡ self.old.config }
     {
         if at_once {
             return self.close_session(id, 0, "");

@@ -1,17 +1,18 @@
 //! What is found next in the bytes of a stream.
 ghost use Rattle.std.specs.Prelude.{◌≡◌, ℕ, false, true, [], Ok, None, IfOk};
 ghost use Rattle.vesgrauf.specs.Bounds.{KeepsFit};
-ghost use Rattle.vesgrauf.specs.Theirs.{IsRead, with_chunk, theirs_of, content_found, content_if};
+ghost use Rattle.vesgrauf.specs.Items.{items_found, items_if};
+ghost use Rattle.vesgrauf.specs.Theirs.{IsRead, with_chunk, theirs_of};
 ghost use Rattle.vesgrauf.specs.declared.entry.Peer.TheVariants as peer;
 
 use crate::connection::failing::is_failure;
+use crate::connection::heard::says_items;
 use crate::entry::Entry;
 use std::alloc::{AllocError, Global};
 use vesgrauf_stream::bytes::Chunk;
 use vesgrauf_stream::heard::Heard;
 use vesgrauf_stream::reading::Found;
 use wtp_webtransport::connection::Connection as Shared;
-use wtp_webtransport::event::Event as Said;
 use wtp_webtransport::fields::Fields;
 
 impl Entry {
@@ -26,7 +27,7 @@ impl Entry {
         chunk: &mut Chunk<'a>,
     ) -> Result<Found<'a>, AllocError>
         ensures own { self.new.writing ≡ self.old.writing }
-        ensures reads { IfOk result (λ found. IsRead (with_chunk (theirs_of self.old) chunk.old) (content_found found)
+        ensures reads { IfOk result (λ found. IsRead (with_chunk (theirs_of self.old) chunk.old) (items_found found)
             (with_chunk (theirs_of self.new) chunk.new)) }
         ensures told { self.new.told ≡ self.old.told }
         ensures fits { KeepsFit (theirs_of self.old) (theirs_of self.new) }
@@ -49,7 +50,7 @@ impl Entry {
         chunk: &mut Chunk<'a>,
     ) -> Result<Option<Found<'a>>, AllocError>
         ensures own { self.new.writing ≡ self.old.writing }
-        ensures reads { IfOk result (λ found. IsRead (with_chunk (theirs_of self.old) chunk.old) (content_if found)
+        ensures reads { IfOk result (λ found. IsRead (with_chunk (theirs_of self.old) chunk.old) (items_if found)
             (with_chunk (theirs_of self.new) chunk.new)) }
         ensures entry { result ≡ Ok None → self.new ≡ self.old }
         ensures shared { result ≡ Ok None → shared.new ≡ shared.old }
@@ -117,26 +118,25 @@ impl Entry {
     }
 }
 
-// Returns what is said of what was found. No content is, where the bytes are instructions for the own encoder.
+// Returns what is said of what was found. Nothing is told of it, where the bytes are instructions for the own encoder.
 fn said_of<'a>(is_decoder: bool, found: Found<'a>) -> Found<'a>
     ensures same { is_decoder ≡ false → result ≡ found.entry }
-    ensures none { is_decoder ≡ true → content_found result ≡ [] }
+    ensures none { is_decoder ≡ true → items_found result ≡ [] }
 {
-    if is_decoder && is_content(&found) {
+    if is_decoder && has_items(&found) {
         return Found::Again;
     }
     found
 }
 
-// Returns whether content was found.
-fn is_content(found: &Found<'_>) -> bool
-    ensures { result ≡ false → content_found found.now ≡ [] }
+// Returns whether something was found that is to be told.
+fn has_items(found: &Found<'_>) -> bool
+    ensures { result ≡ false → items_found found.now ≡ [] }
 {
     match found {
         Found::Heard(Heard::Data(_)) => true,
         Found::Heard(Heard::StreamData(_)) => true,
-        Found::Heard(Heard::Event(Said::Data(_))) => true,
-        Found::Heard(Heard::Event(Said::StreamData(_))) => true,
+        Found::Heard(Heard::Event(event)) => says_items(event),
         _ => false,
     }
 }

@@ -4,8 +4,9 @@ ghost use Rattle.wtp_frames.specs.declared.endpoint.Side.TheVariants as side;
 ghost use Rattle.vesgrauf.specs.Keeps.{Keeps, KeepsOwn};
 ghost use Rattle.vesgrauf.specs.declared.refused.Refused.TheVariants as refused;
 ghost use Rattle.vesgrauf.specs.State.{open_session, room_for, may_wait, IsStill, IsRefused, is_opened_at, opened_by, stream_at, view_of, Of};
-ghost use Rattle.vesgrauf.specs.Own.{Sends, own_of, entry_at, Untouched, UntouchedBut};
-ghost use Rattle.vesgrauf.specs.Theirs.{Left, Accepts, Unread, content_of, theirs_of};
+ghost use Rattle.vesgrauf.specs.Own.{Over, Sends, own_of, entry_at, Untouched, UntouchedOrNew, UntouchedBut};
+ghost use Rattle.vesgrauf.specs.Items.{items_of};
+ghost use Rattle.vesgrauf.specs.Theirs.{Left, Accepts, Unread, theirs_of};
 ghost use Rattle.vesgrauf.specs.Told.{GoesOn, AreOthers, knows};
 ghost use Rattle.wtp_webtransport.specs.Events.{told_of};
 ghost use Rattle.vesgrauf.specs.Ids.{next_own, opens, kind_of, unopened, opened as opened_ids, taken};
@@ -24,7 +25,31 @@ use vesgrauf_stream::writing::Writing;
 use wtp_connection::connection::Known;
 use wtp_frames::endpoint::Side;
 use wtp_webtransport::event::Event as Said;
+use wtp_webtransport::fault::Fault;
 use wtp_webtransport::stream::Stream;
+
+/// What became of a stream that is to join its session.
+#[derive(Clone, Copy)]
+pub(super) enum Joining {
+    /// It joined this session.
+    Joined(u64),
+    /// It is to be closed.
+    Refused(Fault),
+    /// The connection is over.
+    Broken(Fault),
+    /// Nothing yet.
+    Nothing,
+}
+
+// Returns what an event says of a stream that is to join its session.
+pub(super) fn joining_of(event: &Said<'_>) -> Joining {
+    match event {
+        Said::Joined(session) => Joining::Joined(*session),
+        Said::StreamError(fault) => Joining::Refused(*fault),
+        Said::ConnectionError(fault) => Joining::Broken(*fault),
+        _ => Joining::Nothing,
+    }
+}
 
 #[tactic(auto, using(crate::proofs::KeepsLemmas::keep))]
 impl Connection {
@@ -68,9 +93,9 @@ impl Connection {
     }
 
     // Registers the next stream of the peer, of the kind of this one.
-    #[tactic(auto, using(crate::proofs::TellsLemmas::accepts_insert))]
+    #[tactic(auto, using(crate::proofs::TellsLemmas::accepts_insert, crate::proofs::OwnLemmas::new_insert, crate::proofs::OwnLemmas::new_of, crate::proofs::OwnLemmas::untouched_refl))]
     fn accept_next(&mut self, id: u64) -> Result<(), Stop>
-        ensures own { Untouched self.old.streams.entries self.new.streams.entries }
+        ensures own { UntouchedOrNew self.old.ids self.old.streams.entries self.new.streams.entries }
         ensures accepts { Accepts self.old.ids self.old.streams.entries self.new.ids self.new.streams.entries }
         ensures config { self.new.config ≡ self.old.config }
         ensures goes { GoesOn [] self.old self.new }
@@ -90,7 +115,7 @@ impl Connection {
 
     // Returns the entry of a stream of the peer, of which nothing came.
     fn entry_of_peer(&mut self, id: u64) -> Entry
-        ensures blank { own_of result.writing ≡ Sends 0 [] }
+        ensures blank { (own_of result.writing ≡ Over) ⊎ (own_of result.writing ≡ Sends 0 []) }
         ensures nothing { theirs_of result ≡ Unread [] false }
         ensures config { self.new.config ≡ self.old.config }
         ensures ids { self.new.ids ≡ self.old.ids }
@@ -108,7 +133,7 @@ impl Connection {
     #[tactic(auto, using(crate::proofs::KeepsLemmas::keep, crate::proofs::TellsLemmas::joins_silent))]
     pub(super) fn join(&mut self, id: u64, session: u64) -> Result<Said<'static>, Stop>
         ensures keeps { Keeps [] self.old self.new }
-        ensures silent { IfOk result (λ e. content_of (told_of e) ≡ []) }
+        ensures silent { IfOk result (λ e. items_of (told_of e) ≡ []) }
     {
         let known = self.known_to(id, session);
         if matches!(known, Known::Open) {
@@ -133,7 +158,7 @@ impl Connection {
     }
 
     // A stream of the peer joined its session.
-    #[tactic(auto, using(crate::proofs::KeepsLemmas::keep, crate::proofs::GoesLemmas::goes_known))]
+    #[tactic(auto, using(crate::proofs::KeepsLemmas::keep, crate::proofs::GoesLemmas::goes_known, crate::proofs::OwnLemmas::own_raw))]
     pub(super) fn joined(&mut self, id: u64, session: u64)
         ensures keeps { Keeps [] self.old self.new }
     {
@@ -160,6 +185,7 @@ impl Connection {
         ensures id { IfOk result (λ id. id ≡ next_own self.old.ids kind) }
         ensures room { IfOk result (λ id. may_wait self.old kind ≡ true) }
         ensures own { IfOk result (λ id. UntouchedBut id self.old.streams.entries self.new.streams.entries) }
+        ensures alone { IfOk result (λ id. AreOthers id self.old.streams.entries self.new.streams.entries) }
         ensures goes { IfOk result (λ id. GoesOn [] self.old self.new × (knows self.new id ≡ true)) }
         ensures kept { OnErr result (GoesOn [] self.old self.new) }
         ensures begins { IfOk result (λ id. (head : List ℕ) × Of (stream_at self.old session) (IsStreamHead kind head)
@@ -401,7 +427,7 @@ impl Connection {
 
 // Returns the own half of a stream of the peer, on which nothing was said: none of a unidirectional one.
 fn half_beside_peer(alloc: Global, queue: QueueConfig, id: u64) -> Writing
-    ensures { own_of result ≡ Sends 0 [] }
+    ensures { (own_of result ≡ Over) ⊎ (own_of result ≡ Sends 0 []) }
 {
     if id % 4 < 2 {
         Writing::idle(alloc, queue)

@@ -7,7 +7,8 @@ ghost use Rattle.vesgrauf.specs.Told.{told_by_call, word_of, ends};
 ghost use Rattle.vesgrauf.specs.Streams.{is_known};
 ghost use Rattle.vesgrauf.specs.declared.event.Event.{Event as EventOf};
 ghost use Rattle.vesgrauf.specs.State.{is_over, is_last, IsAfterEnd, IsSomeOk, IsStill};
-ghost use Rattle.vesgrauf.specs.Theirs.{IsRead, ReadsOn, Tells, TellsAll, content_on, told_by, with_chunk, theirs_of};
+ghost use Rattle.vesgrauf.specs.Items.{content};
+ghost use Rattle.vesgrauf.specs.Theirs.{IsRead, ReadsOn, Tells, TellsAll, items_on, told_by, with_chunk, theirs_of};
 ghost use Rattle.vesgrauf.specs.declared.entry.Peer.TheVariants as peer;
 ghost use Rattle.vesgrauf.specs.declared.input.Report.TheVariants as report;
 
@@ -31,8 +32,9 @@ struct Piece<'a> {
 }
 
 impl Connection {
-    // Returns the next event, as `next_event` does: a piece of content at once.
-    #[inline(never)]
+    // Returns the next event, as `next_event` does: a piece of content at once. (In place, so that the caller has the parts of
+    // its event, and no event is written.)
+    #[inline(always)]
     #[tactic(auto, using(crate::proofs::KeepsLemmas::hold, crate::proofs::BoundLemmas::bound))]
     pub(super) fn next_due<'a>(
         &mut self,
@@ -98,7 +100,7 @@ impl Connection {
     #[inline(always)]
     #[tactic(auto, using(crate::proofs::KeepsLemmas::hold, crate::proofs::BoundLemmas::bound))]
     fn piece_due<'a>(&mut self, input: &mut Input<'a>) -> Option<Piece<'a>>
-        ensures tells { IfSome result (λ p. Tells (content_on p.stream p.bytes.now)
+        ensures tells { IfSome result (λ p. Tells (items_on p.stream (content p.bytes.now))
             self.old.streams.entries input.old self.new.streams.entries input.new) }
         ensures before { IfSome result (λ p. is_over self.old ≡ false) }
         ensures still { result ≡ None → IsStill self.old self.new }
@@ -107,11 +109,8 @@ impl Connection {
             → KeepsOwn (e ∷ []) self.old self.new) }
         ensures bounded { KeepsBound self.old self.new }
     {
-        if !self.is_quiet() {
-            return None;
-        }
         match input.report {
-            Report::Stream(id) => self.piece_at_once(id, input),
+            Report::Stream(id) if self.is_quiet() => self.piece_at_once(id, input),
             _ => None,
         }
     }
@@ -122,7 +121,7 @@ impl Connection {
     #[tactic(auto, using(crate::proofs::PieceLemmas::piece_tells, crate::proofs::BoundLemmas::bound))]
     fn piece_at_once<'a>(&mut self, id: u64, input: &mut Input<'a>) -> Option<Piece<'a>>
         ensures tells { input.old.report ≡ report.Stream id
-            → IfSome result (λ p. Tells (content_on p.stream p.bytes.now)
+            → IfSome result (λ p. Tells (items_on p.stream (content p.bytes.now))
             self.old.streams.entries input.old self.new.streams.entries input.new) }
         ensures still { result ≡ None → IsStill self.old self.new }
         ensures none { result ≡ None → input.new ≡ input.old }
@@ -144,7 +143,7 @@ impl Connection {
     #[tactic(auto, using(crate::proofs::ReadsLemmas::reads_set, crate::proofs::PieceLemmas::piece_keeps, std::proofs::lemmas::Map::Steps::set_value_same, crate::proofs::BoundLemmas::bound))]
     fn piece_in<'a>(&mut self, id: u64, chunk: &mut Chunk<'a>) -> Option<Piece<'a>>
         ensures stream { IfSome result (λ p. p.stream ≡ id) }
-        ensures reads { IfSome result (λ p. ReadsOn id p.bytes.now self.old.streams.entries chunk.old
+        ensures reads { IfSome result (λ p. ReadsOn id (content p.bytes.now) self.old.streams.entries chunk.old
             self.new.streams.entries chunk.new) }
         ensures still { result ≡ None → IsStill self.old self.new }
         ensures none { result ≡ None → chunk.new ≡ chunk.old }
@@ -179,7 +178,7 @@ impl Entry {
         ensures own { self.new.writing ≡ self.old.writing }
         ensures reads { MatchOption result
             ((self.new ≡ self.old) × (shared.new ≡ shared.old) × (chunk.new ≡ chunk.old))
-            (λ p. IsRead (with_chunk (theirs_of self.old) chunk.old) p.0.now
+            (λ p. IsRead (with_chunk (theirs_of self.old) chunk.old) (content p.0.now)
             (with_chunk (theirs_of self.new) chunk.new)) }
         ensures known { IfSome result (λ p. is_known self.old.told ≡ true) }
         ensures told { self.new.told ≡ self.old.told }
@@ -205,8 +204,6 @@ impl Entry {
     {
         self.is_read()
             && self.is_known()
-            && !self.is_decoder
-            && !self.is_paused
-            && !self.reading.has_end()
+            && (!self.is_decoder & !self.is_paused & !self.reading.has_end())
     }
 }

@@ -4,13 +4,14 @@ ghost use Rattle.vesgrauf.specs.Bounds.{KeepsBound};
 ghost use Rattle.vesgrauf.specs.Keeps.{KeepsOwn};
 ghost use Rattle.vesgrauf.specs.Progress.{IsSettled, IsQuiet, IsStill};
 ghost use Rattle.vesgrauf.specs.State.{is_over};
-ghost use Rattle.vesgrauf.specs.Theirs.{ReadsOn, Passes, Tells, TellsAll, told_in, told_if, told_by, content_if, content_in, content_found};
+ghost use Rattle.vesgrauf.specs.Items.{content, items_if, items_in, items_found};
+ghost use Rattle.vesgrauf.specs.Theirs.{ReadsOn, Passes, Tells, TellsAll, told_in, told_if, told_by};
 ghost use Rattle.vesgrauf.specs.Told.{said_by, said_if_ok, told_by_call};
 ghost use Rattle.vesgrauf.specs.declared.input.Report.TheVariants as report;
 ghost use Rattle.vesgrauf_stream.specs.Reading.{bytes_of};
 
 use crate::connection::{Connection, Step, Stop, internal};
-use crate::event::Event;
+use crate::event::{Event, EventKind};
 use crate::input::{Input, Report};
 use std::alloc::AllocError;
 use vesgrauf_stream::bytes::{Bytes, Chunk};
@@ -24,15 +25,15 @@ impl Connection {
         ensures lasts { result ≡ true → is_over self.now ≡ false }
         ensures quiet { result ≡ true → IsQuiet self.now }
     {
-        self.events.is_empty()
+        (self.events.is_empty()
+            & self.datagrams.opened.is_empty()
+            & self.told.is_empty()
+            & self.tools.instructions.is_empty())
             && self.ended.is_none()
             && self.pending.resumed.is_none()
             && !self.pending.begins_table
             && self.pending.named.is_none()
             && self.pending.unplaced.is_none()
-            && self.datagrams.opened.is_empty()
-            && self.told.is_empty()
-            && self.tools.instructions.is_empty()
     }
 
     // Returns whether nothing is due, and nothing came.
@@ -50,10 +51,8 @@ impl Connection {
     fn is_still(&self) -> bool
         ensures { result ≡ true → IsStill self.now }
     {
-        !self.pending.is_woken
-            && !self.pending.has_room
+        (!self.pending.is_woken & !self.pending.has_room & !self.is_leaving)
             && self.pending.unprocessed.is_none()
-            && !self.is_leaving
     }
 
     // Returns the next event of bytes of a stream, as `next_by_steps` does, where nothing is due before them.
@@ -129,7 +128,7 @@ impl Connection {
     #[tactic(auto, using(crate::proofs::KeepsLemmas::hold, crate::proofs::ReadsLemmas::reads_set, crate::proofs::TellsLemmas::left_reads, crate::proofs::StepLemmas::left_itself, crate::proofs::BoundLemmas::bound, crate::proofs::BoundLemmas::bound_left))]
     fn read_plain<'a>(&mut self, id: u64, chunk: &mut Chunk<'a>) -> Result<Option<Found<'a>>, Stop>
         ensures keeps { KeepsOwn [] self.old self.new }
-        ensures reads { IfOk result (λ found. ReadsOn id (content_if found) self.old.streams.entries chunk.old
+        ensures reads { IfOk result (λ found. ReadsOn id (items_if found) self.old.streams.entries chunk.old
             self.new.streams.entries chunk.new) }
         ensures none { result ≡ Ok None → chunk.new ≡ chunk.old }
         ensures ids { self.new.ids ≡ self.old.ids }
@@ -151,7 +150,7 @@ impl Connection {
     ) -> Result<Step<'a>, Stop>
         ensures keeps { KeepsOwn (said_by result) self.old self.new }
         ensures passes { input.old.report ≡ report.Stream id
-            → IfOk result (λ s. Passes id (content_found found.entry) (told_in s)
+            → IfOk result (λ s. Passes id (items_found found.entry) (told_in s)
             self.old.streams.entries input.old self.new.streams.entries input.new) }
         ensures bounded { OnOk result (KeepsBound self.old self.new) }
     {
@@ -171,7 +170,7 @@ impl Connection {
     ) -> Result<Step<'a>, Stop>
         ensures keeps { KeepsOwn (said_by result) self.old self.new }
         ensures passes { input.old.report ≡ report.Stream id
-            → IfOk result (λ s. Passes id (content_in heard.entry) (told_in s)
+            → IfOk result (λ s. Passes id (items_in heard.entry) (told_in s)
             self.old.streams.entries input.old self.new.streams.entries input.new) }
         ensures bounded { OnOk result (KeepsBound self.old self.new) }
     {
@@ -191,12 +190,12 @@ impl Connection {
         input: &mut Input<'a>,
     ) -> Result<Step<'a>, Stop>
         ensures keeps { KeepsOwn (said_by result) self.old self.new }
-        ensures passes { IfOk result (λ s. Passes id (bytes_of bytes.entry) (told_in s)
+        ensures passes { IfOk result (λ s. Passes id (content (bytes_of bytes.entry)) (told_in s)
             self.old.streams.entries input.old self.new.streams.entries input.new) }
         ensures bounded { OnOk result (KeepsBound self.old self.new) }
     {
         input.end_if_read(self.held <= self.config.receive_buffer_all);
-        self.content_came(id, bytes)
+        self.tell_read(id, EventKind::Data(bytes))
     }
 
     // Handles what was heard in bytes of a stream: anything but a piece of content.
@@ -209,7 +208,7 @@ impl Connection {
     ) -> Result<Step<'a>, Stop>
         ensures keeps { KeepsOwn (said_by result) self.old self.new }
         ensures passes { input.old.report ≡ report.Stream id
-            → IfOk result (λ s. Passes id (content_in heard.entry) (told_in s)
+            → IfOk result (λ s. Passes id (items_in heard.entry) (told_in s)
             self.old.streams.entries input.old self.new.streams.entries input.new) }
         ensures bounded { OnOk result (KeepsBound self.old self.new) }
     {

@@ -3,12 +3,13 @@ ghost use Rattle.std.specs.Prelude.{◌≡◌, ◌≤◌, false, true, [], lengt
 ghost use Rattle.vesgrauf.specs.Bounds.{Fits, KeepsBound, most_kept};
 ghost use Rattle.vesgrauf.specs.Keeps.{Keeps, KeepsOwn};
 ghost use Rattle.vesgrauf.specs.State.{IsStill};
-ghost use Rattle.vesgrauf.specs.Theirs.{Left, OnlyAt, Same, ReadsOn, ReadsKept, Hands, Passes, TellsKept, Tells, Gone, theirs_at, told_in, content_in, content_by, content_found};
+ghost use Rattle.vesgrauf.specs.Items.{items_in, items_by, items_found};
+ghost use Rattle.vesgrauf.specs.Theirs.{Left, OnlyAt, Same, ReadsOn, ReadsKept, Hands, Passes, TellsKept, Tells, Gone, theirs_at, told_in};
 ghost use Rattle.vesgrauf.specs.Told.{said_by};
 ghost use Rattle.vesgrauf.specs.declared.input.Report.TheVariants as report;
 
 use crate::connection::failing::EXCESSIVE_LOAD;
-use crate::connection::heard::{Joining, joining_of};
+use crate::connection::opening::{Joining, joining_of};
 use crate::connection::{Connection, Step, Stop, internal};
 use crate::entry::Peer;
 use crate::event::Why;
@@ -141,7 +142,7 @@ impl Connection {
     ) -> Result<Step<'a>, Stop>
         ensures keeps { KeepsOwn (said_by result) self.old self.new }
         ensures passes { input.old.report ≡ report.Stream id
-            → IfOk result (λ s. Passes id (content_in heard.entry) (told_in s)
+            → IfOk result (λ s. Passes id (items_in heard.entry) (told_in s)
             self.old.streams.entries input.old self.new.streams.entries input.new) }
         ensures bounded { OnOk result (KeepsBound self.old self.new) }
     {
@@ -181,7 +182,7 @@ impl Connection {
     #[tactic(auto, using(crate::proofs::KeepsLemmas::hold, crate::proofs::TellsLemmas::more_hands))]
     fn heard_in_kept<'a>(&mut self, id: u64, heard: Heard<'a>) -> Result<Step<'a>, Stop>
         ensures keeps { KeepsOwn (said_by result) self.old self.new }
-        ensures hands { IfOk result (λ s. Hands id (content_in heard.entry) (told_in s)
+        ensures hands { IfOk result (λ s. Hands id (items_in heard.entry) (told_in s)
             self.old.streams.entries self.new.streams.entries) }
     {
         match heard {
@@ -204,7 +205,7 @@ impl Connection {
     #[tactic(auto, using(crate::proofs::KeepsLemmas::hold))]
     fn read_rest<'a>(&mut self, id: u64) -> Result<Option<Heard<'a>>, Stop>
         ensures keeps { KeepsOwn [] self.old self.new }
-        ensures reads { IfOk result (λ heard. ReadsKept id (content_by heard)
+        ensures reads { IfOk result (λ heard. ReadsKept id (items_by heard)
             self.old.streams.entries self.new.streams.entries) }
     {
         let mut nothing = Chunk::new(&[], false);
@@ -220,7 +221,7 @@ impl Connection {
     #[tactic(auto, using(crate::proofs::KeepsLemmas::hold, crate::proofs::TellsLemmas::reads_left, crate::proofs::TellsLemmas::left_reads, crate::proofs::BoundLemmas::bound, crate::proofs::BoundLemmas::bound_left))]
     fn read<'a>(&mut self, id: u64, chunk: &mut Chunk<'a>) -> Result<Option<Heard<'a>>, Stop>
         ensures keeps { KeepsOwn [] self.old self.new }
-        ensures reads { IfOk result (λ heard. ReadsOn id (content_by heard) self.old.streams.entries chunk.old
+        ensures reads { IfOk result (λ heard. ReadsOn id (items_by heard) self.old.streams.entries chunk.old
             self.new.streams.entries chunk.new) }
         ensures bounded { OnOk result (KeepsBound self.old self.new) }
     {
@@ -244,7 +245,7 @@ impl Connection {
     #[tactic(auto, using(crate::proofs::KeepsLemmas::hold, crate::proofs::ReadsLemmas::reads_set, crate::proofs::TellsLemmas::left_reads, crate::proofs::StepLemmas::left_itself, crate::proofs::BoundLemmas::bound))]
     fn look<'a>(&mut self, id: u64, chunk: &mut Chunk<'a>) -> Result<(Found<'a>, usize), Stop>
         ensures keeps { KeepsOwn [] self.old self.new }
-        ensures reads { IfOk result (λ r. ReadsOn id (content_found r.0) self.old.streams.entries chunk.old
+        ensures reads { IfOk result (λ r. ReadsOn id (items_found r.0) self.old.streams.entries chunk.old
             self.new.streams.entries chunk.new) }
         ensures bounded { OnOk result (KeepsBound self.old self.new) }
     {
@@ -405,7 +406,7 @@ impl Connection {
             Joining::Broken(fault) => return Err(Stop::from(fault)),
             _ => {}
         }
-        Ok(self.drop_peer(id)?)
+        Ok(self.drop_rest(id)?)
     }
 
     // Counts the bytes that are kept of a stream and that QUIC's windows were extended by, which were so many before.

@@ -1,12 +1,13 @@
 //! Requests that are sent.
-ghost use Rattle.std.specs.Prelude.{◌≡◌, false, true, is_some, Some, OnOk, IfOk, IfErr, []};
+ghost use Rattle.std.specs.Prelude.{◌≡◌, false, true, is_some, Some, None, OnOk, OnErr, IfOk, IfErr, []};
 ghost use Rattle.vesgrauf_stream.specs.Headers.{request_at, SendsHeaders};
+ghost use Rattle.vesgrauf_stream.specs.Reading.{kept_of};
 ghost use Rattle.vesgrauf.specs.Messages.{allowed, Encodes, IsRequest};
 ghost use Rattle.vesgrauf.specs.Ids.{taken};
 ghost use Rattle.vesgrauf.specs.Streams.{new_entry};
 ghost use Rattle.vesgrauf.specs.declared.entry.Peer.TheVariants as peers;
 ghost use Rattle.vesgrauf.specs.Own.{entry_at, UntouchedBut};
-ghost use Rattle.vesgrauf.specs.Told.{GoesOn, AreOthers, knows};
+ghost use Rattle.vesgrauf.specs.Told.{GoesOn, AreOthers, IsUndone, knows};
 ghost use Rattle.vesgrauf.specs.State.{stream_at, knows_of, may_wait, view_of, with_own, Of};
 ghost use Rattle.vesgrauf.specs.declared.output.StreamKind.TheVariants as kinds;
 ghost use Rattle.vesgrauf.specs.declared.refused.Refused.TheVariants as refused;
@@ -39,6 +40,8 @@ impl Connection {
         ensures id { IfOk result (λ id. id ≡ self.old.ids.bidirectional) }
         ensures room { IfOk result (λ id. may_wait self.old kinds.Bidirectional ≡ true) }
         ensures own { IfOk result (λ id. UntouchedBut id self.old.streams.entries self.new.streams.entries) }
+        ensures alone { IfOk result (λ id. AreOthers id self.old.streams.entries self.new.streams.entries) }
+        ensures kept { OnErr result (GoesOn [] self.old self.new) }
         ensures goes { IfOk result (λ id. GoesOn [] self.old self.new × (knows self.new id ≡ true)) }
         ensures begins { IfOk result (λ id. Of (stream_at self.new id) (λ e. Encodes (λ s t. IsRequest self.old.config
             (λ v w. SendsHeaders (request_at v id (allowed self.old)) list.now fin s t v w) e) self.old self.new)) }
@@ -124,6 +127,7 @@ impl Connection {
         ensures own { OnOk result (UntouchedBut id self.old.streams.entries self.new.streams.entries) }
         ensures known { OnOk result (knows_of (entry_at self.new.streams.entries id) ≡ true) }
         ensures others { OnOk result (AreOthers id self.old.streams.entries self.new.streams.entries) }
+        ensures refused { OnErr result (IsUndone id self.old.streams.entries self.new.streams.entries) }
         ensures events { self.new.events ≡ self.old.events }
         ensures ids { self.new.ids ≡ self.old.ids }
     {
@@ -154,6 +158,7 @@ impl Connection {
     // Returns the entry of a request that asks for this, of which nothing is said.
     fn blank_entry(&self, asked: Asked) -> Entry
         ensures new { result ≡ new_entry result.reading peers.Reads result.writing }
+        ensures unread { (kept_of result.reading ≡ []) × (result.reading.ended ≡ false) }
     {
         let reading = Reading::new(self.alloc, self.shared.open(asked));
         Entry::new(
@@ -169,6 +174,8 @@ impl Connection {
         ensures alone { OnOk result (AreOthers id self.old.streams.entries self.new.streams.entries) }
         ensures others { self.new ≡ record self.old { streams = self.new.streams } }
         ensures refused { IfErr result (λ e. e ≡ refused.Memory) }
+        ensures same { OnErr result (self.new.streams.entries ≡ self.old.streams.entries) }
+        ensures absent { OnErr result (stream_at self.old id ≡ None) }
     {
         match self.streams.insert(id, entry) {
             Ok(_) => Ok(()),

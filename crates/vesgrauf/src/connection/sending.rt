@@ -2,10 +2,13 @@
 ghost use Rattle.std.specs.Prelude.{◌≡◌, ◌⊎◌, false, true, is_some, None, Ok, IfErr, IfSome, OnOk, OnErr, []};
 ghost use Rattle.vesgrauf.specs.Order.{TakesFirst, IsNoneOrOpen};
 ghost use Rattle.vesgrauf.specs.Keeps.{Keeps};
-ghost use Rattle.vesgrauf.specs.State.{next_output, IsStill, IsRefused, ShowsNext, view_of, blocked_at, blocked_in, is_over, is_own, Of, stream_at};
+ghost use Rattle.vesgrauf.specs.Messages.{ChangesThen};
+ghost use Rattle.vesgrauf.specs.State.{next_output, Changes, IsStill, IsRefused, ShowsNext, view_of, blocked_at, blocked_in, is_over, is_own, Of, stream_at};
 ghost use Rattle.vesgrauf.specs.Progress.{IsSent, NoneIsReady};
+ghost use Rattle.vesgrauf.specs.Ids.{to_open};
 ghost use Rattle.vesgrauf.specs.Streams.{IsNotDue, ShowsOwn, TookOwn, is_it};
 ghost use Rattle.vesgrauf_queue.specs.State.{Shows};
+ghost use Rattle.vesgrauf_queue.specs.Steps.{Does, Acknowledges};
 ghost use Rattle.vesgrauf.specs.declared.refused.Refused.TheVariants as refused;
 ghost use Rattle.vesgrauf.specs.Own.{own_at, Took, TookAlone, Untouched, UntouchedBut};
 ghost use Rattle.vesgrauf.specs.Theirs.{Left, IsSilent};
@@ -50,6 +53,8 @@ impl Connection {
             → TakesFirst self.old.outputs.items self.new.outputs.items) }
         ensures closed { is_some self.old.closes ≡ true
             → (result ≡ Ok tt) × (self.new ≡ record self.old { closes = None }) }
+        ensures shown { OnOk result (is_some (next_output self.old) ≡ true) }
+        ensures opens { OnOk result (self.old.closes ≡ None → to_open self.old.ids ≡ None) }
         ensures asked { IfErr result (λ e. (e ≡ refused.Memory)
             ⊎ ((e ≡ refused.NotAsked) × IsNoneOrOpen (next_output self.old))) }
         ensures refused { IfErr result (λ e. IsRefused e self.old self.new) }
@@ -159,6 +164,8 @@ impl Connection {
         ensures own { UntouchedBut id self.old.streams.entries self.new.streams.entries }
         ensures took { OnOk result (is_own self.old id ≡ false
             → TookAlone len (own_at self.old.streams.entries id) (own_at self.new.streams.entries id)) }
+        ensures left { Left self.old.streams.entries self.new.streams.entries }
+        ensures config { self.new.config ≡ self.old.config }
         ensures goes { GoesOn [] self.old self.new }
         ensures control { OnOk result (is_it id self.old.control.id ≡ true
             → TookOwn len self.old.control self.new.control) }
@@ -182,12 +189,14 @@ impl Connection {
     }
 
     // QUIC took bytes of a stream that is not critical.
-    #[tactic(auto, using(crate::proofs::KeepsLemmas::kept, crate::proofs::OwnLemmas::took_alone))]
+    #[tactic(auto, using(crate::proofs::KeepsLemmas::kept, crate::proofs::OwnLemmas::took_alone, crate::proofs::StepLemmas::left_trans))]
     fn sent_on(&mut self, id: u64, len: usize) -> Result<(), Refused>
         ensures refused { IfErr result (λ e. IsRefused e self.old self.new) }
         ensures own { UntouchedBut id self.old.streams.entries self.new.streams.entries }
         ensures took { OnOk result (TookAlone len (own_at self.old.streams.entries id)
             (own_at self.new.streams.entries id)) }
+        ensures left { Left self.old.streams.entries self.new.streams.entries }
+        ensures config { self.new.config ≡ self.old.config }
         ensures goes { GoesOn [] self.old self.new }
     {
         let is_done = self.message_sent(id, len)?;
@@ -206,12 +215,14 @@ impl Connection {
     }
 
     // QUIC took bytes of a stream that is not critical. Returns whether nothing is to be done for its own half any more.
-    #[tactic(auto, using(crate::proofs::KeepsLemmas::kept, crate::proofs::OwnLemmas::took_set, crate::proofs::GoesLemmas::goes_set, std::proofs::lemmas::Map::Steps::set_value_same))]
+    #[tactic(auto, using(crate::proofs::KeepsLemmas::kept, crate::proofs::OwnLemmas::took_set, crate::proofs::TheirsLemmas::left_set, crate::proofs::GoesLemmas::goes_set, std::proofs::lemmas::Map::Steps::set_value_same))]
     fn message_sent(&mut self, id: u64, len: usize) -> Result<bool, Refused>
         ensures refused { OnErr result (IsStill self.old self.new) }
         ensures own { UntouchedBut id self.old.streams.entries self.new.streams.entries }
         ensures took { OnOk result (Took len (own_at self.old.streams.entries id)
             (own_at self.new.streams.entries id)) }
+        ensures left { Left self.old.streams.entries self.new.streams.entries }
+        ensures config { self.new.config ≡ self.old.config }
         ensures goes { GoesOn [] self.old self.new }
     {
         let Some(entry) = self.streams.get_mut(&id) else {
@@ -286,6 +297,15 @@ impl Connection {
     #[tactic(auto, using(crate::proofs::KeepsLemmas::kept, crate::proofs::OwnLemmas::untouched_set, crate::proofs::TheirsLemmas::left_set, crate::proofs::GoesLemmas::goes_set, std::proofs::lemmas::Map::Steps::set_value_same))]
     pub fn acked(&mut self, id: u64, len: u64) -> Result<(), Refused>
         ensures refused { IfErr result (λ e. IsRefused e self.old self.new) }
+        ensures control { OnOk result (is_it id self.old.control.id ≡ true
+            → Does (Acknowledges len) self.old.control.queue self.new.control.queue) }
+        ensures decoder { OnOk result (is_it id self.old.control.id ≡ false → is_it id self.old.decoder.id ≡ true
+            → Does (Acknowledges len) self.old.decoder.queue self.new.decoder.queue) }
+        ensures encoder { OnOk result (is_it id self.old.control.id ≡ false → is_it id self.old.decoder.id ≡ false
+            → is_it id self.old.encoder.id ≡ true
+            → Does (Acknowledges len) self.old.encoder.queue self.new.encoder.queue) }
+        ensures acks { OnOk result (is_own self.old id ≡ false → is_some (stream_at self.old id) ≡ true
+            → ChangesThen id (λ v w. Does (Acknowledges len) v.queue w.queue) self.old self.new) }
         ensures own { Untouched self.old.streams.entries self.new.streams.entries }
         ensures left { Left self.old.streams.entries self.new.streams.entries }
         ensures config { self.new.config ≡ self.old.config }
@@ -302,6 +322,17 @@ impl Connection {
         if self.encoder.is(id) {
             return Ok(self.encoder.queue.acked(spares, len)?);
         }
+        self.acked_stream(id, len)
+    }
+
+    // The peer has more of the bytes of a stream that is not critical, which may be over then.
+    #[tactic(auto, using(crate::proofs::KeepsLemmas::keep))]
+    fn acked_stream(&mut self, id: u64, len: u64) -> Result<(), Refused>
+        ensures refused { IfErr result (λ e. IsRefused e self.old self.new) }
+        ensures acks { OnOk result (is_some (stream_at self.old id) ≡ true
+            → ChangesThen id (λ v w. Does (Acknowledges len) v.queue w.queue) self.old self.new) }
+        ensures keeps { Keeps [] self.old self.new }
+    {
         let is_done = self.acked_on(id, len)?;
         Ok(self.after_sent(id, is_done)?)
     }
@@ -311,6 +342,8 @@ impl Connection {
     #[tactic(auto, using(crate::proofs::KeepsLemmas::keep, std::proofs::lemmas::Map::Steps::set_value_same))]
     fn acked_on(&mut self, id: u64, len: u64) -> Result<bool, Refused>
         ensures refused { IfErr result (λ e. IsRefused e self.old self.new) }
+        ensures acks { OnOk result (is_some (stream_at self.old id) ≡ true
+            → Changes id (λ v w. Does (Acknowledges len) v.queue w.queue) self.old self.new) }
         ensures keeps { Keeps [] self.old self.new }
     {
         let Some(entry) = self.streams.get_mut(&id) else {

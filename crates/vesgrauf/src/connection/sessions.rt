@@ -1,12 +1,14 @@
 //! Sessions.
-ghost use Rattle.std.specs.Prelude.{◌≡◌, ◌⊎◌, ◌+◌, ◌-◌, ◌^◌, min, true, false, Ok, Err, OnOk, OnErr, IfErr, IfOk, []};
+ghost use Rattle.std.specs.Prelude.{◌≡◌, ◌⊎◌, ◌+◌, ◌-◌, ◌^◌, min, true, false, List, Ok, Err, OnOk, OnErr, IfErr, IfOk, [], ◌∷◌};
 ghost use Rattle.vesgrauf.specs.Order.{LooksAtAll};
 ghost use Rattle.vesgrauf.specs.Messages.{ClosesSession, ChangesThen};
 ghost use Rattle.vesgrauf_stream.specs.Writing.{Drains};
 ghost use Rattle.vesgrauf.specs.Keeps.{Keeps};
 ghost use Rattle.vesgrauf.specs.State.{IsStill, IsRefused, Changes, IsWhy, RefusesDrain, is_over, open_session};
 ghost use Rattle.vesgrauf.specs.Own.{UntouchedBut};
-ghost use Rattle.vesgrauf.specs.Theirs.{Left, IsSilent};
+ghost use Rattle.vesgrauf.specs.Items.{Item, Section, Asks};
+ghost use Rattle.wtp_webtransport.specs.declared.event.HeadersKind.TheVariants as headers;
+ghost use Rattle.vesgrauf.specs.Theirs.{Left, Gone, Hands, IsSilent, theirs_at, told_in};
 ghost use Rattle.vesgrauf.specs.Told.{GoesOn, said_by, said_in};
 
 use crate::connection::{Connection, Step, Stop};
@@ -22,17 +24,50 @@ use wtp_messages::response::Asked;
 #[tactic(auto, using(crate::proofs::KeepsLemmas::keep))]
 impl Connection {
     // A request for a session came. One above the limit is rejected.
+    #[tactic(auto, using(crate::proofs::KeepsLemmas::keep, crate::proofs::KeepsLemmas::keeps_left, crate::proofs::TellsLemmas::hands_left))]
     pub(super) fn session_came(&mut self, id: u64, list: FieldList) -> Result<Step<'static>, Stop>
         ensures keeps { Keeps (said_by result) self.old self.new }
-        ensures silent { IfOk result IsSilent }
+        ensures hands { IfOk result (λ s. Hands id (Asks list ∷ []) (told_in s)
+            self.old.streams.entries self.new.streams.entries) }
     {
         if self.sessions >= self.config.max_sessions {
-            return self.reject(id, Some(id));
+            return self.turn_away(id);
         }
-        self.begin_session(id);
-        let step = self.tell(id, EventKind::Connect(Tunnel::Session, list));
+        let step = self.tell_session(id, list)?;
         self.tell_stop(id)?;
         Ok(step)
+    }
+
+    // Rejects a request for a session: there are too many.
+    #[tactic(auto, using(crate::proofs::KeepsLemmas::keep, crate::proofs::KeepsLemmas::keeps_left, crate::proofs::TellsLemmas::gone_hands))]
+    fn turn_away(&mut self, id: u64) -> Result<Step<'static>, Stop>
+        ensures keeps { Keeps (said_by result) self.old self.new }
+        ensures hands { (items : List Item) → IfOk result (λ s. Hands id items (told_in s)
+            self.old.streams.entries self.new.streams.entries) }
+    {
+        self.reject_fully(id)?;
+        Ok(Step::More)
+    }
+
+    // Rejects the request on a stream, of which nothing more is read.
+    fn reject_fully(&mut self, id: u64) -> Result<(), AllocError>
+        ensures keeps { Keeps [] self.old self.new }
+        ensures gone { OnOk result (theirs_at self.new.streams.entries id ≡ Gone) }
+    {
+        self.reject(id, Some(id))?;
+        self.drop_rest(id)
+    }
+
+    // Tells of a request for a session.
+    #[tactic(auto, using(crate::proofs::KeepsLemmas::keep, crate::proofs::KeepsLemmas::keeps_left, crate::proofs::TellsLemmas::left_then_hands))]
+    fn tell_session(&mut self, id: u64, list: FieldList) -> Result<Step<'static>, Stop>
+        ensures keeps { Keeps (said_by result) self.old self.new }
+        ensures quiet { Keeps [] self.old self.new }
+        ensures hands { IfOk result (λ s. Hands id (Asks list ∷ []) (told_in s)
+            self.old.streams.entries self.new.streams.entries) }
+    {
+        self.begin_session(id);
+        self.tell_read(id, EventKind::Connect(Tunnel::Session, list))
     }
 
     // The request on a stream asks for a session.
@@ -56,24 +91,68 @@ impl Connection {
         list: FieldList,
     ) -> Result<Step<'static>, Stop>
         ensures keeps { Keeps (said_by result) self.old self.new }
-        ensures silent { IfOk result IsSilent }
+        ensures hands { IfOk result (λ s. Hands id (Section (headers.Response status) list ∷ []) (told_in s)
+            self.old.streams.entries self.new.streams.entries) }
     {
-        let is_stopped = match self.streams.get(&id) {
-            Some(entry) => entry.writing.is_ended(),
-            None => return Ok(Step::More),
-        };
-        if is_stopped {
-            let step = self.tell(id, EventKind::Response(status, list));
-            self.shut(id, Code::H3_REQUEST_CANCELLED, Why::SessionGone)?;
-            return Ok(step);
+        if self.is_own_ended(id) {
+            return self.session_stopped(id, status, list);
         }
+        self.session_opens(id, status, list)
+    }
+
+    // Returns whether the own half of a stream was finished or reset.
+    fn is_own_ended(&self, id: u64) -> bool {
+        match self.streams.get(&id) {
+            Some(entry) => entry.writing.is_ended(),
+            None => false,
+        }
+    }
+
+    // The server accepted a session whose own half it had stopped.
+    #[tactic(auto, using(crate::proofs::KeepsLemmas::keep, crate::proofs::KeepsLemmas::keeps_left, crate::proofs::TellsLemmas::hands_left))]
+    fn session_stopped(
+        &mut self,
+        id: u64,
+        status: u32,
+        list: FieldList,
+    ) -> Result<Step<'static>, Stop>
+        ensures keeps { Keeps (said_by result) self.old self.new }
+        ensures hands { IfOk result (λ s. Hands id (Section (headers.Response status) list ∷ []) (told_in s)
+            self.old.streams.entries self.new.streams.entries) }
+    {
+        let step = self.tell_read(id, EventKind::Response(status, list))?;
+        self.shut(id, Code::H3_REQUEST_CANCELLED, Why::SessionGone)?;
+        Ok(step)
+    }
+
+    // The server accepted a session, which is open.
+    #[tactic(auto, using(crate::proofs::KeepsLemmas::keep, crate::proofs::KeepsLemmas::keeps_left, crate::proofs::TellsLemmas::left_then_hands))]
+    fn session_opens(
+        &mut self,
+        id: u64,
+        status: u32,
+        list: FieldList,
+    ) -> Result<Step<'static>, Stop>
+        ensures keeps { Keeps (said_by result) self.old self.new }
+        ensures hands { IfOk result (λ s. Hands id (Section (headers.Response status) list ∷ []) (told_in s)
+            self.old.streams.entries self.new.streams.entries) }
+    {
+        self.note_open(id)?;
+        self.tell_read(id, EventKind::Response(status, list))
+    }
+
+    // The session is open: what came before it is to be told.
+    fn note_open(&mut self, id: u64) -> Result<(), AllocError>
+        ensures keeps { Keeps [] self.old self.new }
+    {
         self.connect(id);
         self.datagrams.opened.push_back(id)?;
         self.wake();
-        Ok(self.tell(id, EventKind::Response(status, list)))
+        Ok(())
     }
 
     // The server refused a session: the own half ends, and the response goes on.
+    #[tactic(auto, using(crate::proofs::KeepsLemmas::keep, crate::proofs::KeepsLemmas::keeps_left, crate::proofs::TellsLemmas::left_then_hands))]
     pub(super) fn session_rejected(
         &mut self,
         id: u64,
@@ -81,11 +160,19 @@ impl Connection {
         list: FieldList,
     ) -> Result<Step<'static>, Stop>
         ensures keeps { Keeps (said_by result) self.old self.new }
-        ensures silent { IfOk result IsSilent }
+        ensures hands { IfOk result (λ s. Hands id (Section (headers.Response status) list ∷ []) (told_in s)
+            self.old.streams.entries self.new.streams.entries) }
+    {
+        self.note_refused(id)?;
+        self.tell_read(id, EventKind::Response(status, list))
+    }
+
+    // The session was refused: nothing more is sent on its own stream.
+    fn note_refused(&mut self, id: u64) -> Result<(), AllocError>
+        ensures keeps { Keeps [] self.old self.new }
     {
         self.end_own(id);
-        self.end_session(id)?;
-        Ok(self.tell(id, EventKind::Response(status, list)))
+        self.end_session(id)
     }
 
     // Returns what is known of the session that a stream names: it is refused if the stream has waited for too long.
@@ -146,6 +233,11 @@ impl Connection {
         ensures wakes { is_over self.old ≡ false → LooksAtAll self.new }
         ensures ages { is_over self.old ≡ false → self.old.datagrams.opened.items ≡ []
             → (self.new.datagrams.aged ≡ self.old.datagrams.early) × (self.new.datagrams.early ≡ []) }
+        ensures others { is_over self.old ≡ false → self.new ≡ record self.old {
+          ticks = self.new.ticks;
+          datagrams = record self.old.datagrams { early = self.new.datagrams.early; aged = self.new.datagrams.aged };
+          pending = record self.old.pending { is_woken = true; cursor = 0 };
+        } }
     {
         if self.ended.is_some() {
             return;
@@ -180,13 +272,15 @@ impl Connection {
     /// # Errors
     ///
     /// Nothing changes. `Closed`; `SessionGone`; `NotOpen`; and `Memory`.
-    #[tactic(auto, using(crate::proofs::KeepsLemmas::kept, std::proofs::lemmas::Map::Steps::set_value_same, crate::proofs::GoesLemmas::goes_set))]
+    #[tactic(auto, using(crate::proofs::KeepsLemmas::kept, crate::proofs::TheirsLemmas::left_set, std::proofs::lemmas::Map::Steps::set_value_same, crate::proofs::GoesLemmas::goes_set))]
     pub fn drain_session(&mut self, session: u64) -> Result<(), Refused>
         ensures open { OnOk result (open_session self.old session ≡ Ok tt) }
         ensures ok { OnOk result (Changes session Drains self.old self.new) }
         ensures why { IfErr result (λ e. (open_session self.old session ≡ Err e)
             ⊎ IsWhy RefusesDrain self.old session e) }
         ensures kept { OnErr result (IsStill self.old self.new) }
+        ensures left { Left self.old.streams.entries self.new.streams.entries }
+        ensures config { self.new.config ≡ self.old.config }
         ensures goes { GoesOn [] self.old self.new }
     {
         self.check_session(session)?;
@@ -213,6 +307,7 @@ impl Connection {
         ensures refused { IfErr result (λ e. IsRefused e self.old self.new) }
         ensures own { UntouchedBut session self.old.streams.entries self.new.streams.entries }
         ensures left { Left self.old.streams.entries self.new.streams.entries }
+        ensures config { self.new.config ≡ self.old.config }
         ensures goes { GoesOn [] self.old self.new }
         ensures closes { OnOk result (ChangesThen session (ClosesSession code reason.now) self.old self.new) }
     {

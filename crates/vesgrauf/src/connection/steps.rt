@@ -5,7 +5,8 @@ ghost use Rattle.vesgrauf.specs.Keeps.{Keeps, KeepsOwn};
 ghost use Rattle.vesgrauf.specs.Progress.{IsSettled};
 ghost use Rattle.vesgrauf.specs.State.{is_over, is_last, go_on, IsAfterEnd, IsSomeOk, IsTold};
 ghost use Rattle.vesgrauf.specs.Told.{ends, word_of, said_by, told_now, told_by_call};
-ghost use Rattle.vesgrauf.specs.Theirs.{Accepts, Tells, TellsAll, told_by, told_in, piece_of};
+ghost use Rattle.vesgrauf.specs.Items.{items_told};
+ghost use Rattle.vesgrauf.specs.Theirs.{Accepts, Tells, TellsAll, told_by, told_in};
 
 use crate::connection::{Connection, Step, Stop};
 use crate::event::{Event, EventKind};
@@ -140,10 +141,10 @@ impl Connection {
         }
     }
 
-    // Takes the first event that is queued. Content never is.
+    // Takes the first event that is queued. What is read of a stream never is.
     #[tactic(auto, using(crate::proofs::KeepsLemmas::keep, crate::proofs::GoesSteps::goes_told_first, crate::proofs::GoesSteps::goes_dropped))]
     fn first_queued<'a>(&mut self) -> Option<Event<'a>>
-        ensures silent { IfSome result (λ e. piece_of e.kind ≡ []) }
+        ensures silent { IfSome result (λ e. items_told e.kind ≡ []) }
         ensures last { go_on self.old.events.items ≡ false → IfSome result (λ e. is_last e.kind ≡ true) }
         ensures events { go_on self.old.events.items ≡ false → go_on self.new.events.items ≡ false }
         ensures streams { self.new.streams ≡ self.old.streams }
@@ -152,7 +153,7 @@ impl Connection {
         ensures keeps { Keeps (told_now result) self.old self.new }
     {
         let event = self.events.pop_front()?;
-        if is_content(&event) {
+        if tells_items(&event) {
             return None;
         }
         Some(self.numbered(event))
@@ -164,20 +165,37 @@ impl Connection {
         ensures stream { result.stream ≡ event.entry.stream }
     {
         let mut event = event;
-        if let (EventKind::Stopped(_), Some(entry)) = (
-            &event.kind,
-            self.streams.get(&event.stream),
-        ) {
-            event.user = entry.user;
+        if is_of_stream(&event) {
+            if let Some(entry) = self.streams.get(&event.stream) {
+                event.user = entry.user;
+            }
         }
         event
     }
 }
 
-// Returns whether an event tells content.
-fn is_content(event: &Event<'_>) -> bool
-    ensures silent { result ≡ false → piece_of event.now.kind ≡ [] }
+// Returns whether an event that was queued is one of a stream.
+fn is_of_stream(event: &Event<'_>) -> bool {
+    matches!(
+        event.kind,
+        EventKind::Stopped(_) | EventKind::Reset(_) | EventKind::Failed(_) | EventKind::Closed(_)
+    )
+}
+
+// Returns whether an event tells what was read of a stream.
+fn tells_items(event: &Event<'_>) -> bool
+    ensures silent { result ≡ false → items_told event.now.kind ≡ [] }
     ensures goes_on { result ≡ true → ends (word_of event.now.kind) ≡ false }
 {
-    matches!(event.kind, EventKind::Data(_))
+    matches!(
+        event.kind,
+        EventKind::Data(_)
+            | EventKind::Request(_)
+            | EventKind::Connect(_, _)
+            | EventKind::Interim(_, _)
+            | EventKind::Response(_, _)
+            | EventKind::Trailers(_)
+            | EventKind::Draining
+            | EventKind::End
+    )
 }

@@ -1,7 +1,8 @@
 //! The own streams of QPACK (RFC 9204, sections 4.2 to 4.4).
 ghost use Rattle.std.specs.Prelude.{◌≡◌, OnOk, IfErr, []};
 ghost use Rattle.vesgrauf.specs.Keeps.{Keeps};
-ghost use Rattle.vesgrauf.specs.State.{IsStill, Instructs, SaysAll, SaysOrWaits, view_of, with_begun};
+ghost use Rattle.vesgrauf.specs.Own.{is_sent};
+ghost use Rattle.vesgrauf.specs.State.{stream_at, IsStill, Instructs, SaysAll, SaysOrWaits, view_of, with_begun};
 ghost use Rattle.vesgrauf.specs.declared.connection.Stop.TheVariants as stop;
 ghost use Rattle.vesgrauf.specs.Bounds.{InstructionsFit};
 ghost use Rattle.vesgrauf.specs.Told.{GoesOn};
@@ -153,8 +154,10 @@ impl Connection {
     }
 
     // Tells the peer's encoder that a stream is left, once (RFC 9204, section 2.2.2.2).
+    #[tactic(auto, using(crate::proofs::KeepsLemmas::keep, crate::proofs::ReadsLemmas::set_here))]
     pub(super) fn cancel(&mut self, id: u64) -> Result<(), AllocError>
         ensures keeps { Keeps [] self.old self.new }
+        ensures sent { is_sent (stream_at self.new id) ≡ is_sent (stream_at self.old id) }
     {
         let Some(entry) = self.streams.get_mut(&id) else {
             return Ok(());

@@ -1,8 +1,7 @@
 //! Streams that wait.
-ghost use Rattle.std.specs.Prelude.{◌≡◌, []};
+ghost use Rattle.std.specs.Prelude.{◌≡◌, true, []};
 ghost use Rattle.vesgrauf.specs.Keeps.{Keeps};
-ghost use Rattle.vesgrauf.specs.State.{IsStill, known_in};
-ghost use Rattle.vesgrauf.specs.Order.{LooksAtAll};
+ghost use Rattle.vesgrauf.specs.State.{known_in};
 ghost use Rattle.vesgrauf.specs.Theirs.{IsSilent};
 ghost use Rattle.vesgrauf.specs.Told.{said_in};
 
@@ -118,11 +117,9 @@ impl Connection {
 
     // Looks at the streams that wait once more.
     pub(super) fn wake(&mut self)
-        ensures still { IsStill self.old self.new }
-        ensures wakes { LooksAtAll self.new }
-        ensures ticks { self.new.ticks ≡ self.old.ticks }
-        ensures waiting { self.new.waiting ≡ self.old.waiting }
-        ensures datagrams { self.new.datagrams ≡ self.old.datagrams }
+        ensures { self.new ≡ record self.old {
+          pending = record self.old.pending { is_woken = true; cursor = 0 };
+        } }
     {
         self.pending.is_woken = true;
         self.pending.cursor = 0;
@@ -130,7 +127,7 @@ impl Connection {
 
     // Looks at them once more, if there are any.
     pub(super) fn wake_waiting(&mut self)
-        ensures { IsStill self.old self.new }
+        ensures { self.new ≡ record self.old { pending = self.new.pending } }
     {
         if !self.waiting.is_empty() {
             self.wake();

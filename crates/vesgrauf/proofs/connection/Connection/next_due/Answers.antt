@@ -1,4 +1,5 @@
-use Rattle.vesgrauf.specs.Theirs.{Tells, TellsAll, content_on, told_by}
+use Rattle.vesgrauf.specs.Items.{content}
+use Rattle.vesgrauf.specs.Theirs.{Tells, TellsAll, items_on, told_by}
 use Rattle.vesgrauf.proofs.TellsLemmas.{all_of}
 use Rattle.vesgrauf.proofs.StepLemmas.{ok_map}
 use Rattle.vesgrauf.proofs.PieceLemmas.{no_piece_all}
@@ -9,7 +10,7 @@ use Rattle.vesgrauf.proofs.connection.Connection.next_due.Goals as goal
 
 pub returns-in-Some-clause-told : goal.returns-in-Some-clause-told
 returns-in-Some-clause-told c = λ h.
-    let t : Tells (content_on c.in-Some.piece.stream c.in-Some.piece.bytes.now) c.args.self.now.streams.entries
+    let t : Tells (items_on c.in-Some.piece.stream (content c.in-Some.piece.bytes.now)) c.args.self.now.streams.entries
     c.args.input.now c.piece_due.new.self.streams.entries c.piece_due.new.input
     = rw c.in-Some.is at c.piece_due.ensures.tells in
     all_of c.args.self.now.ids _ c.args.self.now.streams.entries c.piece_due.new.self.streams.entries c.args.input.now

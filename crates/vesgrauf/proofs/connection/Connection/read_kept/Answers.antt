@@ -1,4 +1,5 @@
-use Rattle.vesgrauf.specs.Theirs.{Hands, TellsKept, content_in, told_in}
+use Rattle.vesgrauf.specs.Items.{items_in}
+use Rattle.vesgrauf.specs.Theirs.{Hands, TellsKept, told_in}
 use Rattle.vesgrauf.proofs.ReadsLemmas.{kept_hands}
 use Rattle.vesgrauf.proofs.TellsLemmas.{more_kept, none_kept}
 use Rattle.vesgrauf.proofs.StepLemmas.{ok_map}
@@ -14,10 +15,10 @@ returns-in-None-clause-tells c =
 
 pub returns-in-Some-clause-tells : goal.returns-in-Some-clause-tells
 returns-in-Some-clause-tells c = ok_map c.heard_in_kept.result
-    (λ s. Hands c.args.id (content_in c.in-Some.heard) (told_in s) c.read_rest.new.self.streams.entries
+    (λ s. Hands c.args.id (items_in c.in-Some.heard) (told_in s) c.read_rest.new.self.streams.entries
     c.heard_in_kept.new.self.streams.entries)
     (λ s. TellsKept (told_in s) c.args.self.now.streams.entries c.heard_in_kept.new.self.streams.entries)
-    (λ s p. kept_hands c.args.id (content_in c.in-Some.heard) (told_in s) c.args.self.now.streams.entries
+    (λ s p. kept_hands c.args.id (items_in c.in-Some.heard) (told_in s) c.args.self.now.streams.entries
     c.read_rest.new.self.streams.entries c.heard_in_kept.new.self.streams.entries
     (rw c.in-Some.is at c.in_ok-read_rest.ensures.reads) p)
     c.heard_in_kept.ensures.hands

@@ -1,13 +1,14 @@
-use Rattle.std.proofs.Common.{◌≡◌, true, [], refl, ap, sym, ◌∙◌}
+use Rattle.std.proofs.Common.{◌≡◌, true, [], refl, ap, sym, ◌∙◌, arith}
 use Rattle.vesgrauf_stream.specs.Headers.{request_at, SendsHeaders}
 use Rattle.vesgrauf.specs.Ids.{next_own}
 use Rattle.vesgrauf.specs.Own.{entry_at}
 use Rattle.vesgrauf.specs.State.{IsStill, knows_of}
+use Rattle.vesgrauf.specs.Told.{GoesOn}
 use Rattle.vesgrauf.specs.declared.connection.Connection.{Connection}
 use Rattle.vesgrauf.specs.declared.output.StreamKind.TheVariants as kind
 use Rattle.vesgrauf.proofs.GoesLemmas.{goes_still, goes_same}
 use Rattle.vesgrauf.proofs.GoesSteps.{goes_on}
-use Rattle.vesgrauf.proofs.IdLemmas.{goes_opens}
+use Rattle.vesgrauf.proofs.IdLemmas.{goes_opens, goes_undone}
 use Rattle.vesgrauf.proofs.MessageLemmas.{same_but, requests}
 use Rattle.vesgrauf.proofs.connection.Connection.request.Goals as goal
 
@@ -45,3 +46,17 @@ returns-clause-begins c = requests c.args.self.now c.choose_policy.new.self c.op
     c.choose_policy.ensures.instructions)
     c.in_ok-open_request.ensures.begins c.open_request.ensures.view refl c.queue_due.ensures.due
     c.count_session.ensures.others
+
+pub returns-in_err-open_request-clause-kept : goal.returns-in_err-open_request-clause-kept
+returns-in_err-open_request-clause-kept c =
+    let later : IsStill c.check_room.new.self c.choose_policy.new.self
+    = c.choose_policy.ensures.still ∙ c.reserve.ensures.still in
+    let h : GoesOn [] c.args.self.now c.open_request.new.self =
+    goes_on [] c.args.self.now c.choose_policy.new.self c.open_request.new.self
+    (goes_still c.args.self.now c.choose_policy.new.self (later ∙ c.check_room.ensures.still))
+    (rw (c.open_request.ensures.ids, ap (λ d. d.items) c.open_request.ensures.events)
+    (goes_undone c.choose_policy.new.self.streams.entries c.open_request.new.self.streams.entries
+    c.choose_policy.new.self.ids c.choose_policy.new.self.events.items kind.Bidirectional c.in-Some.id
+    (c.in-Some.ensures.0 ∙ ap (λ v. next_own v.ids kind.Bidirectional) (sym later))
+    c.in_err-open_request.ensures.refused)) in
+    grind (arith, h)

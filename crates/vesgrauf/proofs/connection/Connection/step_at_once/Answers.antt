@@ -1,5 +1,6 @@
 use Rattle.std.proofs.Common.{◌∙◌, refl, None, Some}
-use Rattle.vesgrauf.specs.Theirs.{content_found, told_if}
+use Rattle.vesgrauf.specs.Items.{items_found}
+use Rattle.vesgrauf.specs.Theirs.{told_if}
 use Rattle.vesgrauf.proofs.ReadsLemmas.{reads_pass}
 use Rattle.vesgrauf.proofs.TellsLemmas.{reads_tell}
 use Rattle.vesgrauf.proofs.connection.Connection.step_at_once.Goals as goal
@@ -11,7 +12,7 @@ returns-in-None-clause-tells c = λ h. reads_tell c.args.id (told_if None) c.arg
     h h (λ k. refl) (rw c.in-None.is at c.in_ok-read_plain.ensures.reads)
 
 pub returns-in_ok-found_in_input-in-Some-clause-tells : goal.returns-in_ok-found_in_input-in-Some-clause-tells
-returns-in_ok-found_in_input-in-Some-clause-tells c = λ h. reads_pass c.args.id (content_found c.in-Some.found)
+returns-in_ok-found_in_input-in-Some-clause-tells c = λ h. reads_pass c.args.id (items_found c.in-Some.found)
     (told_if (Some c.in_ok-found_in_input-in-Some.field-0)) c.args.self.now.streams.entries
     c.read_plain.new.self.streams.entries c.found_in_input.new.self.streams.entries c.args.input.now c.count.new.self
     c.found_in_input.new.input h (c.count.ensures.report ∙ h)

@@ -5,7 +5,7 @@ use Rattle.vesgrauf.specs.State.{is_over, IsAfterEnd}
 use Rattle.vesgrauf.specs.Theirs.{Tells, told_by}
 use Rattle.vesgrauf.proofs.connection.Connection.take_steps.Given as goal
 
--- so far no byte was added or taken, and no content was told, and no more is kept than may
+-- so far no byte was added or taken, and nothing was told, and no more is kept than may
 abbrev pub invariant-loop-step : goal.invariant-loop-step
 invariant-loop-step l = record {
   keeps : KeepsOwn [] l.initial.self l.self;

@@ -1,0 +1,28 @@
+use Rattle.std.proofs.Common.{[], ◌∷◌}
+use Rattle.wtp_webtransport.specs.declared.event.HeadersKind.TheVariants as headers
+use Rattle.vesgrauf.specs.Items.{Section}
+use Rattle.vesgrauf.specs.Theirs.{Hands, told_in}
+use Rattle.vesgrauf.proofs.KeepsLemmas.{keeps_left}
+use Rattle.vesgrauf.proofs.StepLemmas.{ok_map}
+use Rattle.vesgrauf.proofs.TellsLemmas.{left_then_hands}
+use Rattle.vesgrauf.proofs.connection.Connection.tell_request.Goals as goal
+
+pub returns-then-eq-clause-hands : goal.returns-then-eq-clause-hands
+returns-then-eq-clause-hands c = ok_map c.tell_read.result
+    (λ s. Hands c.args.id (Section headers.Request c.args.list ∷ []) (told_in s) c.begin_request.new.self.streams.entries
+    c.tell_read.new.self.streams.entries)
+    (λ s. Hands c.args.id (Section headers.Request c.args.list ∷ []) (told_in s) c.args.self.now.streams.entries
+    c.tell_read.new.self.streams.entries)
+    (λ s p. left_then_hands c.args.id (Section headers.Request c.args.list ∷ []) s c.args.self.now.streams.entries
+    c.begin_request.new.self.streams.entries c.tell_read.new.self.streams.entries (keeps_left c.begin_request.ensures.keeps) p)
+    c.tell_read.ensures.hands
+
+pub returns-else-eq-clause-hands : goal.returns-else-eq-clause-hands
+returns-else-eq-clause-hands c = ok_map c.tell_read-else-eq.result
+    (λ s. Hands c.args.id (Section headers.Request c.args.list ∷ []) (told_in s) c.begin_request.new.self.streams.entries
+    c.tell_read-else-eq.new.self.streams.entries)
+    (λ s. Hands c.args.id (Section headers.Request c.args.list ∷ []) (told_in s) c.args.self.now.streams.entries
+    c.tell_read-else-eq.new.self.streams.entries)
+    (λ s p. left_then_hands c.args.id (Section headers.Request c.args.list ∷ []) s c.args.self.now.streams.entries
+    c.begin_request.new.self.streams.entries c.tell_read-else-eq.new.self.streams.entries (keeps_left c.begin_request.ensures.keeps) p)
+    c.tell_read-else-eq.ensures.hands
