@@ -9,4 +9,6 @@ mod link;
 pub mod network;
 pub mod random;
 mod receive;
+#[cfg(test)]
+mod refused_memory;
 mod wire;
