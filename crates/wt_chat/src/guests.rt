@@ -4,10 +4,10 @@ use anyhow::Result;
 use std::alloc::Global;
 use std::collections::{BTreeMap, VecDeque};
 use test_network::handler::Handler;
-use vesgrauf::FieldList;
 use vesgrauf::code::StreamCode;
 use vesgrauf::connection::Connection;
 use vesgrauf::event::{Event, EventKind};
+use vesgrauf::fields;
 use vesgrauf::output::StreamKind;
 
 /// What is to be done on a connection.
@@ -156,16 +156,8 @@ impl Guests {
         path: &str,
         origin: &str,
     ) -> Result<()> {
-        let mut list = FieldList::from_fields(
-            self.alloc,
-            &[
-                (b":method", b"CONNECT"),
-                (b":protocol", b"webtransport"),
-                (b":scheme", b"https"),
-                (b":authority", b"chat.example"),
-            ],
-        )?;
-        list.append(b":path", path.as_bytes())?;
+        let mut list = fields::request(self.alloc, "CONNECT", "chat.example", path)?;
+        list.append(b":protocol", b"webtransport")?;
         list.append(b"origin", origin.as_bytes())?;
         let id = on.request(&list, false)?;
         self.begin(id, name, true)
@@ -189,15 +181,7 @@ impl Guests {
 
     /// Asks for a page.
     fn get(&mut self, on: &mut Connection, path: &'static str) -> Result<()> {
-        let mut list = FieldList::from_fields(
-            self.alloc,
-            &[
-                (b":method", b"GET"),
-                (b":scheme", b"https"),
-                (b":authority", b"chat.example"),
-            ],
-        )?;
-        list.append(b":path", path.as_bytes())?;
+        let list = fields::request(self.alloc, "GET", "chat.example", path)?;
         match on.request(&list, true) {
             Ok(id) => self.begin(id, path, true),
             Err(refused) => {

@@ -3,9 +3,9 @@ use anyhow::Result;
 use std::alloc::Global;
 use std::collections::BTreeMap;
 use test_network::handler::Handler;
-use vesgrauf::FieldList;
 use vesgrauf::connection::Connection;
 use vesgrauf::event::{Event, EventKind};
+use vesgrauf::fields;
 use vesgrauf::output::{Shutdown, StreamKind};
 
 /// A stream, and what came on it.
@@ -65,46 +65,44 @@ impl Client {
 
     /// Asks, once SETTINGS of the server came.
     fn begin(&mut self, on: &mut Connection) -> Result<()> {
-        self.upload = self.ask(on, "POST /echo", &[b"POST", b"/echo"], false)?;
-        self.ask(on, "GET /", &[b"GET", b"/"], true)?;
-        self.ask(on, "GET /none", &[b"GET", b"/none"], true)?;
-        let unread = self.ask(on, "POST /none", &[b"POST", b"/none"], false)?;
+        self.upload = self.ask(on, "POST /echo", "POST", "/echo", false)?;
+        self.ask(on, "GET /", "GET", "/", true)?;
+        self.ask(on, "GET /none", "GET", "/none", true)?;
+        let unread = self.ask(on, "POST /none", "POST", "/none", false)?;
         on.send(unread, &[0x62; 3000], true)?;
-        self.ask(
-            on,
-            "session",
-            &[b"CONNECT", b"/echo", b"webtransport"],
-            false,
-        )?;
-        self.ask(
-            on,
-            "session at /none",
-            &[b"CONNECT", b"/none", b"webtransport"],
-            false,
-        )?;
-        self.ask(on, "tunnel", &[b"CONNECT", b"/echo", b"websocket"], false)?;
+        self.ask_tunnel(on, "session", "/echo", "webtransport")?;
+        self.ask_tunnel(on, "session at /none", "/none", "webtransport")?;
+        self.ask_tunnel(on, "tunnel", "/echo", "websocket")?;
         self.send_content(on)
     }
 
-    /// Sends a request with these values of its fields.
+    /// Sends a request.
     fn ask(
         &mut self,
         on: &mut Connection,
         name: &'static str,
-        values: &[&[u8]],
+        method: &str,
+        path: &str,
         fin: bool,
     ) -> Result<u64> {
-        let mut list = FieldList::from_fields(
-            self.alloc,
-            &[(b":scheme", b"https"), (b":authority", b"example.com")],
-        )?;
-        let names: [&[u8]; 3] = [b":method", b":path", b":protocol"];
-        for (name, value) in names.iter().zip(values) {
-            list.append(name, value)?;
-        }
+        let list = fields::request(self.alloc, method, "example.com", path)?;
         let id = on.request(&list, fin)?;
         self.begin_stream(id, name)?;
         Ok(id)
+    }
+
+    /// Sends a request for a session, or for another tunnel.
+    fn ask_tunnel(
+        &mut self,
+        on: &mut Connection,
+        name: &'static str,
+        path: &str,
+        protocol: &str,
+    ) -> Result<()> {
+        let mut list = fields::request(self.alloc, "CONNECT", "example.com", path)?;
+        list.append(b":protocol", protocol.as_bytes())?;
+        let id = on.request(&list, false)?;
+        self.begin_stream(id, name)
     }
 
     /// Sends content, until there is no room.
