@@ -12,8 +12,13 @@ use Rattle.vesgrauf.specs.declared.entry.Entry.{Entry}
 use Rattle.vesgrauf.specs.declared.event.Event.{Event}
 use Rattle.vesgrauf.specs.declared.connection.ids.Ids.{Ids}
 use Rattle.vesgrauf.specs.Ids.{was, own_bit, peer_bit, kind_by, kind_of, next_own, next_peer, taken, seen, opened, blocked}
-use Rattle.vesgrauf.specs.Own.{entry_at, own_in, UntouchedBut}
-use Rattle.vesgrauf.specs.State.{knows_of}
+use Rattle.vesgrauf.specs.declared.config.Config.{Config}
+use Rattle.vesgrauf.specs.declared.connection.Connection.{Connection}
+use Rattle.vesgrauf.specs.Keeps.{KeepsAll, Kept, Keeps}
+use Rattle.vesgrauf.specs.Own.{entry_at, own_in, IsUntouched, UntouchedBut}
+use Rattle.vesgrauf.specs.State.{knows_of, IsStill}
+use Rattle.vesgrauf.specs.Theirs.{theirs_in, IsLeft}
+use Rattle.vesgrauf.proofs.KeepsLemmas.{keeps_refl}
 use Rattle.vesgrauf.specs.Told.{Sets, AreOthers, IsUndone, AreIds, Stays, status_by, Goes}
 use Rattle.vesgrauf.proofs.GoesLemmas.{by_none, goes_refl, same_at, stays_refl}
 
@@ -307,6 +312,32 @@ goes_undone es fs ids q kd id at u = by_none es fs ids ids q (λ k w. w)
     })
     (λ s k. undone_by (is_at (nat_cmp id) k) (entry_at es k) (entry_at fs k) (was ids k)
     (λ t. (undone_here es fs id k t u, s.were k, rw (same_at id k t, at) (own_was ids kd s.ids_are))) (u.0 k))
+
+undone_is : (b : Bool) (id k : ℕ) (es fs : List (ℕ × Entry)) → is_at (nat_cmp id) k ≡ b → IsUndone id es fs
+    → (entry_at fs k ≡ entry_at es k) ⊎ (entry_at fs k ≡ None)
+undone_is true id k es fs t u = undone_here es fs id k t u
+undone_is false id k es fs t u = inl (u.0 k t)
+
+own_undone : (x y : Option Entry) → (y ≡ x) ⊎ (y ≡ None) → IsUntouched (own_in x) (own_in y)
+own_undone x y (inl h) = inl (ap own_in h)
+own_undone x y (inr h) = inr (ap own_in h)
+
+left_undone : (x y : Option Entry) → (y ≡ x) ⊎ (y ≡ None) → IsLeft (theirs_in x) (theirs_in y)
+left_undone x y (inl h) = inl (ap theirs_in h)
+left_undone x y (inr h) = inr (ap theirs_in h)
+
+-- and no byte of another stream is added or lost
+pub keeps_undone : (es fs : List (ℕ × Entry)) (ids : Ids) (q : List Event) (a b : Config) (k : StreamKind) (id : ℕ)
+    → id ≡ next_own ids k → IsUndone id es fs → b ≡ a → KeepsAll [] es ids q a fs ids q b
+keeps_undone es fs ids q a b kd id at u e = Kept
+    (record { each = λ k. own_undone (entry_at es k) (entry_at fs k) (undone_is (is_at (nat_cmp id) k) id k es fs refl u) })
+    (record { each = λ k. left_undone (entry_at es k) (entry_at fs k) (undone_is (is_at (nat_cmp id) k) id k es fs refl u) })
+    (goes_undone es fs ids q kd id at u) e
+
+-- nothing that the program or QUIC sees changes
+pub keeps_still : (c d : Connection) → IsStill c d → Keeps [] c d
+keeps_still c d h = rw (ap (λ v. v.streams) h, ap (λ v. v.ids) h, ap (λ v. v.events) h, ap (λ v. v.config) h)
+    (keeps_refl c.streams.entries c.ids c.events.items c.config)
 
 -- the program knows of a stream that it opened
 pub knows_here : (fs : List (ℕ × Entry)) (id : ℕ) (e : Entry) → entry_at fs id ≡ Some e → e.told ≡ told.Known

@@ -9,8 +9,9 @@ use wtp_fields::fields::FieldList;
 const ROOM: usize = 512;
 
 /// Returns the fields of a request (RFC 9114, section 4.3.1): `:method`, `:scheme`, which is `https`, `:authority` and
-/// `:path`, in this order. Append others by [`FieldList::push`]. Those of a request for a session at a URL are
-/// [`FieldList::request`].
+/// `:path`, in this order. Add others by [`FieldList::push`], and the `:protocol` of an extended CONNECT (RFC 9220, section
+/// 3) by [`FieldList::append`]; a CONNECT without one has other fields (RFC 9114, section 4.4). Those of a request for a
+/// session at a URL are [`FieldList::request`].
 ///
 /// # Errors
 ///

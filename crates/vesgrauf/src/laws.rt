@@ -4,6 +4,7 @@ ghost use Rattle.wtp_qpack.specs.Field.{Field};
 ghost use Rattle.wtp_webtransport.specs.Events as say;
 ghost use Rattle.wtp_webtransport.specs.declared.event.HeadersKind.TheVariants as headers;
 ghost use Rattle.vesgrauf.specs.declared.event.EventKind.TheVariants as event;
+ghost use Rattle.vesgrauf.specs.declared.event.Tunnel.TheVariants as tunnel;
 ghost use Rattle.vesgrauf.specs.Items.{content, items_of, items_told};
 ghost use Rattle.vesgrauf.specs.Theirs.{Theirs, Unread};
 ghost use Rattle.vesgrauf.specs.Runs.{Step, Leads, IsToldOf, came, ends, told};
@@ -13,16 +14,17 @@ ghost use Rattle.vesgrauf.specs.Told.{Says, Fails, Closes, Path, on, knows};
 ghost use Rattle.vesgrauf.specs.Calls.{Call, Run, told_in_all, opened_in, EndsOnce, says, closes};
 
 /// What events told of a stream - its field sections, each with its kind and fields, its content, and its end -, joined in
-/// their order, is what the layer below says of the bytes that came on it, read from the first on: nothing is skipped, and
-/// nothing is read twice, however the bytes were cut, kept, paused and resumed. What it says of the bytes that are left is
-/// still to be told, unless the stream is read no further.
+/// their order, is what calls of the layer below, each from some state, say of the bytes that came on it, read from the
+/// first on: no byte is skipped, and none is read twice, however the bytes were cut, kept, paused and resumed. What it says
+/// of the bytes that are left is still to be told, unless the stream is read no further.
 pub fn told_is_what_came()
     ensures { (steps : List Step) (y : Theirs) → Leads steps (Unread [] false) y
         → IsToldOf (came steps) (ends steps) (told steps) y }
 {}
 
 /// The definitions of what is told refuse an interim response as the final one, trailers as a head, a request for a session
-/// as another one, an end that did not come, and content that is left out. Content in pieces is what they are together.
+/// as another one or as one for another tunnel, an end or content for what says nothing, and content that is left out.
+/// Content in pieces is what they are together.
 pub fn wrong_tellings_are_refused()
     ensures interim_as_final { (status : ℕ) (fields : List Field)
         → items_told (event.Response status fields) ≡ items_of (say.Headers (headers.Interim status) fields) → ⊥ }
@@ -30,8 +32,11 @@ pub fn wrong_tellings_are_refused()
         → items_told (event.Response status fields) ≡ items_of (say.Headers headers.Trailers fields) → ⊥ }
     ensures session_as_request { (fields : List Field)
         → items_told (event.Request fields) ≡ items_of (say.SessionRequested fields) → ⊥ }
+    ensures session_as_tunnel { (fields : List Field)
+        → items_told (event.Connect tunnel.Other fields) ≡ items_of (say.SessionRequested fields) → ⊥ }
     ensures end_made_up { items_told event.End ≡ items_of say.More → ⊥ }
-    ensures content_left_out { (b : ℕ) (bytes : List ℕ) → content (b ∷ bytes) ≡ items_of (say.Data []) → ⊥ }
+    ensures content_made_up { (b : ℕ) (bytes : List ℕ) → content (b ∷ bytes) ≡ items_of say.More → ⊥ }
+    ensures content_left_out { (b : ℕ) (bytes : List ℕ) → [] ≡ items_of (say.Data (b ∷ bytes)) → ⊥ }
     ensures accepted { (status : ℕ) (fields : List Field)
         → items_told (event.Response status fields) ≡ items_of (say.SessionReady status fields) }
     ensures pieces { (first rest : List ℕ) → content (first ++ rest) ≡ content first ++ content rest }

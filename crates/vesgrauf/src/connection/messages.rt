@@ -305,6 +305,7 @@ impl Connection {
             → OnOk result (FinishesUnless (was_finished self.old id) id self.old self.new) }
         ensures session { is_ok (open_session self.old id) ≡ true
             → OnOk result (ChangesThen id (ClosesSession 0 []) self.old self.new) }
+        ensures own { UntouchedBut id self.old.streams.entries self.new.streams.entries }
         ensures left { Left self.old.streams.entries self.new.streams.entries }
         ensures config { self.new.config ≡ self.old.config }
         ensures goes { GoesOn [] self.old self.new }
@@ -321,6 +322,7 @@ impl Connection {
         ensures ok { OnOk result (FinishesUnless (was_finished self.old id) id self.old self.new) }
         ensures why { IfErr result (λ e. IsWhy RefusesEnd self.old id e) }
         ensures kept { OnErr result (IsStill self.old self.new) }
+        ensures own { UntouchedBut id self.old.streams.entries self.new.streams.entries }
         ensures left { Left self.old.streams.entries self.new.streams.entries }
         ensures config { self.new.config ≡ self.old.config }
         ensures goes { GoesOn [] self.old self.new }

@@ -179,7 +179,7 @@ impl Connection {
     /// Nothing changes. `Closed`; `SessionGone`; `NotOpen`; `Full` if as many own streams of this
     /// kind wait for QUIC as [`max_unopened`](crate::config::Config) says: an event
     /// [`Openable`](crate::event::EventKind) follows; `NoMoreIds`; and `Memory`.
-    #[tactic(auto, using(crate::proofs::KeepsLemmas::kept, crate::proofs::IdLemmas::goes_opens, crate::proofs::IdLemmas::knows_here, crate::proofs::GoesLemmas::goes_still))]
+    #[tactic(auto, using(crate::proofs::KeepsLemmas::kept, crate::proofs::IdLemmas::goes_opens, crate::proofs::IdLemmas::knows_here, crate::proofs::GoesLemmas::goes_still, crate::proofs::IdLemmas::keeps_still))]
     pub fn open_stream(&mut self, session: u64, kind: StreamKind) -> Result<u64, Refused>
         ensures refused { IfErr result (λ e. IsRefused e self.old self.new) }
         ensures id { IfOk result (λ id. id ≡ next_own self.old.ids kind) }
@@ -187,7 +187,7 @@ impl Connection {
         ensures own { IfOk result (λ id. UntouchedBut id self.old.streams.entries self.new.streams.entries) }
         ensures alone { IfOk result (λ id. AreOthers id self.old.streams.entries self.new.streams.entries) }
         ensures goes { IfOk result (λ id. GoesOn [] self.old self.new × (knows self.new id ≡ true)) }
-        ensures kept { OnErr result (GoesOn [] self.old self.new) }
+        ensures kept { OnErr result (Keeps [] self.old self.new) }
         ensures begins { IfOk result (λ id. (head : List ℕ) × Of (stream_at self.old session) (IsStreamHead kind head)
             × Of (stream_at self.new id) (IsMember self.old.config session kind head)) }
         ensures others { IfOk result (λ id. view_of self.new ≡ record (view_of self.old) {

@@ -2,6 +2,7 @@
 ghost use Rattle.std.specs.Prelude.{◌≡◌, false, true, is_some, Some, None, OnOk, OnErr, IfOk, IfErr, []};
 ghost use Rattle.vesgrauf_stream.specs.Headers.{request_at, SendsHeaders};
 ghost use Rattle.vesgrauf_stream.specs.Reading.{kept_of};
+ghost use Rattle.vesgrauf.specs.Keeps.{Keeps};
 ghost use Rattle.vesgrauf.specs.Messages.{allowed, Encodes, IsRequest};
 ghost use Rattle.vesgrauf.specs.Ids.{taken};
 ghost use Rattle.vesgrauf.specs.Streams.{new_entry};
@@ -35,13 +36,13 @@ impl Connection {
     /// allows; `Full` if as many requests wait for QUIC as [`max_unopened`](crate::config::Config) says: an event
     /// [`Openable`](crate::event::EventKind) follows; `NoMoreIds`; `Send` if it would be malformed or the peer does not
     /// support it; and `Memory`.
-    #[tactic(auto, using(crate::proofs::KeepsLemmas::kept, crate::proofs::IdLemmas::goes_opens, crate::proofs::GoesLemmas::goes_still))]
+    #[tactic(auto, using(crate::proofs::KeepsLemmas::kept, crate::proofs::IdLemmas::goes_opens, crate::proofs::GoesLemmas::goes_still, crate::proofs::IdLemmas::keeps_still))]
     pub fn request(&mut self, list: &FieldList, fin: bool) -> Result<u64, Refused>
         ensures id { IfOk result (λ id. id ≡ self.old.ids.bidirectional) }
         ensures room { IfOk result (λ id. may_wait self.old kinds.Bidirectional ≡ true) }
         ensures own { IfOk result (λ id. UntouchedBut id self.old.streams.entries self.new.streams.entries) }
         ensures alone { IfOk result (λ id. AreOthers id self.old.streams.entries self.new.streams.entries) }
-        ensures kept { OnErr result (GoesOn [] self.old self.new) }
+        ensures kept { OnErr result (Keeps [] self.old self.new) }
         ensures goes { IfOk result (λ id. GoesOn [] self.old self.new × (knows self.new id ≡ true)) }
         ensures begins { IfOk result (λ id. Of (stream_at self.new id) (λ e. Encodes (λ s t. IsRequest self.old.config
             (λ v w. SendsHeaders (request_at v id (allowed self.old)) list.now fin s t v w) e) self.old self.new)) }

@@ -3,12 +3,13 @@ use Rattle.vesgrauf_stream.specs.Headers.{request_at, SendsHeaders}
 use Rattle.vesgrauf.specs.Ids.{next_own}
 use Rattle.vesgrauf.specs.Own.{entry_at}
 use Rattle.vesgrauf.specs.State.{IsStill, knows_of}
-use Rattle.vesgrauf.specs.Told.{GoesOn}
+use Rattle.vesgrauf.specs.Keeps.{Keeps}
 use Rattle.vesgrauf.specs.declared.connection.Connection.{Connection}
 use Rattle.vesgrauf.specs.declared.output.StreamKind.TheVariants as kind
 use Rattle.vesgrauf.proofs.GoesLemmas.{goes_still, goes_same}
 use Rattle.vesgrauf.proofs.GoesSteps.{goes_on}
-use Rattle.vesgrauf.proofs.IdLemmas.{goes_opens, goes_undone}
+use Rattle.vesgrauf.proofs.IdLemmas.{goes_opens, keeps_undone, keeps_still}
+use Rattle.vesgrauf.proofs.KeepsLemmas.{keeps_then}
 use Rattle.vesgrauf.proofs.MessageLemmas.{same_but, requests}
 use Rattle.vesgrauf.proofs.connection.Connection.request.Goals as goal
 
@@ -51,12 +52,13 @@ pub returns-in_err-open_request-clause-kept : goal.returns-in_err-open_request-c
 returns-in_err-open_request-clause-kept c =
     let later : IsStill c.check_room.new.self c.choose_policy.new.self
     = c.choose_policy.ensures.still ∙ c.reserve.ensures.still in
-    let h : GoesOn [] c.args.self.now c.open_request.new.self =
-    goes_on [] c.args.self.now c.choose_policy.new.self c.open_request.new.self
-    (goes_still c.args.self.now c.choose_policy.new.self (later ∙ c.check_room.ensures.still))
-    (rw (c.open_request.ensures.ids, ap (λ d. d.items) c.open_request.ensures.events)
-    (goes_undone c.choose_policy.new.self.streams.entries c.open_request.new.self.streams.entries
-    c.choose_policy.new.self.ids c.choose_policy.new.self.events.items kind.Bidirectional c.in-Some.id
+    let last : Keeps [] c.choose_policy.new.self c.open_request.new.self =
+    rw (c.open_request.ensures.ids, ap (λ d. d.items) c.open_request.ensures.events)
+    (keeps_undone c.choose_policy.new.self.streams.entries c.open_request.new.self.streams.entries
+    c.choose_policy.new.self.ids c.choose_policy.new.self.events.items c.choose_policy.new.self.config
+    c.open_request.new.self.config kind.Bidirectional c.in-Some.id
     (c.in-Some.ensures.0 ∙ ap (λ v. next_own v.ids kind.Bidirectional) (sym later))
-    c.in_err-open_request.ensures.refused)) in
+    c.in_err-open_request.ensures.refused (ap (λ v. v.config) c.open_request.ensures.view)) in
+    let h : Keeps [] c.args.self.now c.open_request.new.self =
+    keeps_then (keeps_still c.args.self.now c.choose_policy.new.self (later ∙ c.check_room.ensures.still)) last in
     grind (arith, h)
