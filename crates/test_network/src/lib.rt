@@ -9,6 +9,4 @@ mod link;
 pub mod network;
 pub mod random;
 mod receive;
-#[cfg(test)]
-mod refused_memory;
 mod wire;
