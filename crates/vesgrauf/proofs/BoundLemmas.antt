@@ -101,7 +101,7 @@ left_all n c d l p = record { each = λ k. left_fits n (theirs_at c k) (theirs_a
 
 pub kept_all : (n : ℕ) (said : ℕ → List Item) (c d : List (ℕ × Entry)) → TellsKept said c d → AllFit n c → AllFit n d
 kept_all n said c d t p =
-    record { each = λ k. is_read_fits n (theirs_at c k) (theirs_at d k) (said k) (t.each k) (p.each k) }
+    record { each = λ k. is_read_fits n (theirs_at c k) (theirs_at d k) (said k) (t.each k).0 (p.each k) }
 
 pub start_all : (n : ℕ) (a b : Ids) (c d : List (ℕ × Entry)) → Accepts a c b d → AllFit n c → AllFit n d
 start_all n a b c d t p = record { each = λ k. start_fits n _ (theirs_at c k) (theirs_at d k) (t.each k) (p.each k) }

@@ -1,5 +1,5 @@
 -- A piece of items that is told at once.
-use Rattle.std.proofs.Common.{◌≡◌, ◌++◌, ◌∙◌, ℕ, List, [], ◌∷◌, Some, true, false, refl, sym, ap, inl, subst}
+use Rattle.std.proofs.Common.{◌≡◌, ◌++◌, ◌∙◌, ℕ, List, [], ◌∷◌, Some, Bool, true, false, cond, refl, sym, ap, inl, subst}
 use Rattle.std.specs.Prelude.{is_some}
 use Rattle.wtp_webtransport.specs.declared.connection.Connection.{Connection as Shared}
 use Rattle.wtp_webtransport.specs.declared.stream.Part.{Part}
@@ -26,8 +26,8 @@ use Rattle.vesgrauf.specs.Told.{ends, word_of}
 use Rattle.vesgrauf.specs.declared.config.Config.{Config}
 use Rattle.vesgrauf.specs.Inputs.{IsSameOrRead}
 use Rattle.vesgrauf.specs.State.{go_on, IsAfterEnd, IsStill}
-use Rattle.vesgrauf.specs.Items.{Item, Byte, content, items_found}
-use Rattle.vesgrauf.specs.Theirs.{theirs_of, IsRead, ReadsOn, Hands, Tells, TellsAll, with_chunk, items_on}
+use Rattle.vesgrauf.specs.Items.{Item, Byte, content, has_end, items_found}
+use Rattle.vesgrauf.specs.Theirs.{Theirs, theirs_of, theirs_at, IsRead, IsHanded, ReadsOn, Hands, Tells, TellsAll, with_chunk, items_on}
 use Rattle.vesgrauf.proofs.ReadsLemmas.{looked_plain, reads_pass}
 use Rattle.vesgrauf.proofs.TellsLemmas.{taken_passes}
 use Rattle.vesgrauf.proofs.StepLemmas.{all_same}
@@ -55,16 +55,27 @@ looked_piece e f c d i j b g n p q h =
     (looked_plain e f 0 c d i j (found.Heard (heard_piece e.reading.stream.part b)) g n p q (h 0))
 
 -- it is told, and nothing else is left of the input if all of its bytes were read
-told_itself : (id : ℕ) (items : List Item) (c : List (ℕ × Entry)) → Hands id items (items_on id items) c c
-told_itself id items c = record { each = λ k. inl (inl refl, refl) }
+itself_by : (b : Bool) (x : Theirs) (items : List Item) → has_end items ≡ false
+    → IsHanded x (cond b items []) (cond b items []) x
+itself_by true x items n = inl (inl refl, refl, λ e. absurd (let bad : false ≡ true = sym n ∙ e in cc))
+itself_by false x items n = inl (inl refl, refl, λ e. absurd (let bad : false ≡ true = e in cc))
+
+told_itself : (id : ℕ) (items : List Item) (c : List (ℕ × Entry)) → has_end items ≡ false
+    → Hands id items (items_on id items) c c
+told_itself id items c n = record { each = λ k. itself_by (is_at (nat_cmp id) k) (theirs_at c k) items n }
+
+-- content has no end
+pub content_goes_on : (bytes : List ℕ) → has_end (content bytes) ≡ false
+content_goes_on [] = refl
+content_goes_on (b ∷ bytes) = content_goes_on bytes
 
 pub piece_tells : (id stream : ℕ) (items : List Item) (c d : List (ℕ × Entry)) (i j l : Input) → stream ≡ id
     → i.report ≡ report.Stream id → j.report ≡ report.Stream id → ReadsOn id items c i.chunk d j.chunk
-    → IsSameOrRead j l → Tells (items_on stream items) c i d l
-piece_tells id stream items c d i j l same h g p t =
+    → IsSameOrRead j l → has_end items ≡ false → Tells (items_on stream items) c i d l
+piece_tells id stream items c d i j l same h g p t n =
     subst (λ n. Tells (items_on n items) c i d l) (sym same)
     (reads_pass id items (items_on id items) c d d i j l h g p
-    (taken_passes id items (items_on id items) d d j l t (told_itself id items d)))
+    (taken_passes id items (items_on id items) d d j l t (told_itself id items d n)))
 
 -- an event of its stream is told with it
 pub piece_keeps : (es : List (ℕ × Entry)) (ids : Ids) (q : List Event) (a : Config) (id : ℕ) (e f : Entry) (ev : Event)

@@ -24,8 +24,8 @@ use Rattle.vesgrauf.specs.declared.entry.Peer.TheVariants as peer
 use Rattle.vesgrauf.specs.declared.input.Input.{Input}
 use Rattle.vesgrauf.specs.declared.input.Report.{Report}
 use Rattle.vesgrauf.specs.declared.input.Report.TheVariants as report
-use Rattle.vesgrauf.specs.Items.{Item, items_of, items_found}
-use Rattle.vesgrauf.specs.Theirs.{Theirs, Gone, Unread, theirs_by, theirs_of, theirs_in, theirs_at, IsLeft, Left, Piece, IsCall, AreCalls, all_items, AreRead, IsReadTo, IsRead, Same, ReadsOn, ReadsKept, Hands, Passes, IsHanded, TellsKept, Tells, unread_at, with_input, with_chunk, items_on, is_of}
+use Rattle.vesgrauf.specs.Items.{Item, has_end, items_of, items_found}
+use Rattle.vesgrauf.specs.Theirs.{Theirs, Gone, Unread, theirs_by, theirs_of, theirs_in, theirs_at, IsLeft, Left, Piece, IsCall, AreCalls, all_items, AreRead, IsReadTo, IsRead, IsTold, Same, ReadsOn, ReadsKept, Hands, Passes, IsHanded, TellsKept, Tells, unread_at, with_input, with_chunk, items_on, is_of}
 
 -- ---- calls one after the other
 
@@ -141,9 +141,13 @@ read_steps x y z a b p q = steps_by x p.0 y z a b p.1 p.2 q
 pub read_then : (x y z : Theirs) (items : List Item) → IsRead x items y → IsLeft y z → IsRead x items z
 read_then x y z items p q = (p.0, p.1, left_steps p.0 y z p.2 q)
 
-pub hand_steps : (x y z : Theirs) (a b : List Item) → IsRead x a y → IsHanded y a b z → IsRead x b z
-hand_steps x y z a b p (inl q) = subst (λ l. IsRead x l z) (sym q.1) (read_then x y z a p q.0)
-hand_steps x y z a b p (inr q) = (x, inl (refl, q.1), inr q.0)
+pub none_ends : (items : List Item) → items ≡ [] → has_end items ≡ true → ⊥
+none_ends [] h e = let bad : false ≡ true = e in cc
+none_ends (i ∷ items) h e = cc h
+
+pub hand_steps : (x y z : Theirs) (a b : List Item) → IsRead x a y → IsHanded y a b z → IsTold x b z
+hand_steps x y z a b p (inl q) = (subst (λ l. IsRead x l z) (sym q.1) (read_then x y z a p q.0), q.2)
+hand_steps x y z a b p (inr q) = ((x, inl (refl, q.1), inr q.0), λ e. q.0)
 
 -- ---- with an input
 
@@ -168,8 +172,8 @@ same_steps c d e i j k p q =
 
 -- nothing is heard, and nothing is told
 passes_by : (b : Bool) (x y : Theirs) (said : List Item) → said ≡ [] → IsLeft x y → IsHanded x (cond b [] []) said y
-passes_by true x y said h p = inl (p, h)
-passes_by false x y said h p = inl (p, h)
+passes_by true x y said h p = inl (p, h, λ e. absurd (none_ends said h e))
+passes_by false x y said h p = inl (p, h, λ e. absurd (none_ends said h e))
 
 pub same_passes : (id : ℕ) (said : ℕ → List Item) (c d : List (ℕ × Entry)) (i j : Input) → ((k : ℕ) → said k ≡ [])
     → Same c i d j → Passes id [] said c i d j
@@ -179,7 +183,7 @@ same_passes id said c d i j h p = record {
 
 pub hand_with : (i : Input) (k : ℕ) (x y : Theirs) (a b : List Item) → IsHanded x a b y
     → IsHanded (with_input i k x) a b (with_input i k y)
-hand_with i k x y a b (inl p) = inl (left_with i k x y p.0, p.1)
+hand_with i k x y a b (inl p) = inl (left_with i k x y p.0, p.1, λ e. ap (with_input i k) (p.2 e) ∙ with_gone i k)
 hand_with i k x y a b (inr p) = inr (ap (with_input i k) p.0 ∙ with_gone i k, p.1)
 
 pub hands_passes : (id : ℕ) (items : List Item) (said : ℕ → List Item) (c d : List (ℕ × Entry)) (i : Input)
@@ -259,9 +263,12 @@ on_none false = refl
 pub kept_left : (id : ℕ) (said : ℕ → List Item) (c d e : List (ℕ × Entry)) → ((k : ℕ) → said k ≡ [])
     → ReadsKept id [] c d → Left d e → TellsKept said c e
 kept_left id said c d e h p q = record {
-  each = λ k. subst (λ a. IsRead (theirs_at c k) a (theirs_at e k)) (on_none (is_at (nat_cmp id) k) ∙ sym (h k))
-      (read_then (theirs_at c k) (theirs_at d k) (theirs_at e k) (items_on id [] k)
-      (kept_by (is_at (nat_cmp id) k) id k [] c d refl p) (q.each k));
+  each = λ k. (
+    subst (λ a. IsRead (theirs_at c k) a (theirs_at e k)) (on_none (is_at (nat_cmp id) k) ∙ sym (h k))
+        (read_then (theirs_at c k) (theirs_at d k) (theirs_at e k) (items_on id [] k)
+        (kept_by (is_at (nat_cmp id) k) id k [] c d refl p) (q.each k)),
+    λ x. absurd (none_ends (said k) (h k) x),
+  );
 }
 
 -- more bytes follow
@@ -325,7 +332,10 @@ with_read false x y items i p = p
 
 pub kept_tells : (said : ℕ → List Item) (c d : List (ℕ × Entry)) (i : Input) → TellsKept said c d → Tells said c i d i
 kept_tells said c d i p = record {
-  each = λ k. with_read (is_of i.report k) (theirs_at c k) (theirs_at d k) (said k) i.chunk (p.each k);
+  each = λ k. (
+    with_read (is_of i.report k) (theirs_at c k) (theirs_at d k) (said k) i.chunk (p.each k).0,
+    λ e. ap (with_input i k) ((p.each k).1 e) ∙ with_gone i k,
+  );
 }
 
 -- ---- steps
@@ -339,22 +349,31 @@ quiet_by x y z said (inr p) q =
 pub same_tells : (said : ℕ → List Item) (c d e : List (ℕ × Entry)) (i j l : Input)
     → Same c i d j → Tells said d j e l → Tells said c i e l
 same_tells said c d e i j l p q = record {
-  each = λ k. quiet_by (unread_at c i k) (unread_at d j k) (unread_at e l k) (said k) (p.each k) (q.each k);
+  each = λ k. (
+    quiet_by (unread_at c i k) (unread_at d j k) (unread_at e l k) (said k) (p.each k) (q.each k).0,
+    (q.each k).1,
+  );
 }
 
 -- nothing was told, and then this
 pub tells_steps : (quiet said : ℕ → List Item) (c d e : List (ℕ × Entry)) (i j l : Input) → ((k : ℕ) → quiet k ≡ [])
     → Tells quiet c i d j → Tells said d j e l → Tells said c i e l
 tells_steps quiet said c d e i j l h p q = record {
-  each = λ k. subst (λ a. IsRead (unread_at c i k) (a ++ said k) (unread_at e l k)) (h k)
-      (read_steps (unread_at c i k) (unread_at d j k) (unread_at e l k) (quiet k) (said k) (p.each k) (q.each k));
+  each = λ k. (
+    subst (λ a. IsRead (unread_at c i k) (a ++ said k) (unread_at e l k)) (h k)
+        (read_steps (unread_at c i k) (unread_at d j k) (unread_at e l k) (quiet k) (said k) (p.each k).0 (q.each k).0),
+    (q.each k).1,
+  );
 }
 
 pub same_tell : (said : ℕ → List Item) (c d : List (ℕ × Entry)) (i j : Input) → ((k : ℕ) → said k ≡ [])
     → Same c i d j → Tells said c i d j
 same_tell said c d i j h p = record {
-  each = λ k. subst (λ a. IsRead (unread_at c i k) a (unread_at d j k)) (sym (h k))
-      (read_left (unread_at c i k) (unread_at d j k) (p.each k));
+  each = λ k. (
+    subst (λ a. IsRead (unread_at c i k) a (unread_at d j k)) (sym (h k))
+        (read_left (unread_at c i k) (unread_at d j k) (p.each k)),
+    λ e. absurd (none_ends (said k) (h k) e),
+  );
 }
 
 -- ---- what calls write

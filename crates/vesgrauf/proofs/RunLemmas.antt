@@ -1,8 +1,8 @@
 -- What comes on one stream, call after call, and what is told of it.
 use Rattle.std.proofs.Common.{◌≡◌, ◌++◌, ◌||◌, ℕ, List, [], ◌∷◌, Bool, true, false, refl, inl, inr, sym, ap, ◌∙◌, append_assoc, append-nil, subst}
-use Rattle.vesgrauf.specs.Items.{Item}
+use Rattle.vesgrauf.specs.Items.{Item, has_end}
 use Rattle.vesgrauf.specs.Theirs.{Theirs, Gone, Unread, AreCalls, all_items, IsLeft, AreRead, IsReadTo}
-use Rattle.vesgrauf.specs.Runs.{Step, Comes, Tells, Rests, with_more, Leads, came, ends, told, IsToldOf}
+use Rattle.vesgrauf.specs.Runs.{Step, Comes, Tells, Rests, with_more, Does, Leads, came, ends, told, IsToldOf}
 use Rattle.vesgrauf.proofs.ReadsLemmas.{gone_left_by, gone_is_read, calls_join, calls_more, items_join}
 
 or_none : (a : Bool) → (a || false) ≡ a
@@ -19,7 +19,7 @@ gone_run [] x y g p = (p ∙ g, refl)
 gone_run (Comes bytes fin ∷ steps) x y g p =
     gone_run steps p.0 y (p.1 ∙ ap (λ t. with_more t bytes fin) g) p.2
 gone_run (Tells items ∷ steps) x y g p =
-    let q : (p.0 ≡ Gone) × (items ≡ []) = gone_is_read x p.0 items g p.1 in
+    let q : (p.0 ≡ Gone) × (items ≡ []) = gone_is_read x p.0 items g p.1.0 in
     let r : (y ≡ Gone) × (told steps ≡ []) = gone_run steps p.0 y q.0 p.2 in
     (r.0, ap (λ l. l ++ told steps) q.1 ∙ r.1)
 gone_run (Rests ∷ steps) x y g p = gone_run steps p.0 y (gone_left_by x p.0 g p.1) p.2
@@ -107,10 +107,15 @@ run_from (Comes more fin ∷ steps) bytes ended x y h p =
     (subst (λ l. IsToldOf l ((ended || fin) || ends steps) (told steps) y) (append_assoc bytes more (came steps))
     (run_from steps (bytes ++ more) (ended || fin) p.0 y (p.1 ∙ ap (λ t. with_more t more fin) h) p.2))
 run_from (Tells items ∷ steps) bytes ended x y h p =
-    read_run steps bytes ended items x p.1.0 p.0 y h p.1.1 p.1.2
+    read_run steps bytes ended items x p.1.0.0 p.0 y h p.1.0.1 p.1.0.2
     (λ l e. run_from steps l ended p.0 y e p.2) p.2
 run_from (Rests ∷ steps) bytes ended x y h p =
     rest_run steps bytes ended x p.0 y h p.1 (λ e. run_from steps bytes ended p.0 y e p.2) p.2
+
+-- nothing is told after the end
+pub end_is_last : (items : List Item) (steps : List Step) (x y z : Theirs) → Does (Tells items) x y
+    → has_end items ≡ true → Leads steps y z → told steps ≡ []
+end_is_last items steps x y z p e q = (gone_run steps y z (p.1 e) q).1
 
 pub run_tells : (steps : List Step) (y : Theirs) → Leads steps (Unread [] false) y
     → IsToldOf (came steps) (ends steps) (told steps) y

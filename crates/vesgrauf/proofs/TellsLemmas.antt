@@ -16,8 +16,8 @@ use Rattle.vesgrauf.specs.declared.connection.ids.Ids.{Ids}
 use Rattle.vesgrauf.specs.Ids.{was, seen, own_bit, kind_of, next_own, next_peer}
 use Rattle.vesgrauf.specs.declared.output.StreamKind.{StreamKind}
 use Rattle.vesgrauf.specs.declared.output.StreamKind.TheVariants as kind
-use Rattle.vesgrauf.specs.Items.{Item, items_of, items_told}
-use Rattle.vesgrauf.specs.Theirs.{Theirs, Gone, Unread, theirs_of, theirs_in, theirs_at, IsLeft, Left, IsRead, Same, ReadsOn, ReadsKept, Hands, Passes, IsHanded, TellsKept, Tells, IsStart, Accepts, TellsAll, unread_at, with_input, with_chunk, items_on, is_of, told_in, IsSilent, IsOf, OnlyAt}
+use Rattle.vesgrauf.specs.Items.{Item, has_end, items_of, items_told}
+use Rattle.vesgrauf.specs.Theirs.{Theirs, Gone, Unread, theirs_of, theirs_in, theirs_at, IsLeft, Left, IsRead, IsTold, Same, ReadsOn, ReadsKept, Hands, Passes, IsHanded, TellsKept, Tells, IsStart, Accepts, TellsAll, unread_at, with_input, with_chunk, items_on, is_of, told_in, IsSilent, IsOf, OnlyAt}
 use Rattle.vesgrauf.specs.Inputs.{IsSameOrRead}
 use Rattle.vesgrauf.specs.declared.connection.Step.{Step}
 use Rattle.vesgrauf.specs.declared.connection.Step.TheVariants as step
@@ -34,7 +34,7 @@ use Rattle.wtp_webtransport.specs.Joining.{Outcome, joins, joined_by, joined_tol
 use Rattle.wtp_webtransport.specs.Receiving.{closed_in}
 use Rattle.wtp_webtransport.specs.Fault.{scope_of}
 use Rattle.wtp_webtransport.specs.Streams.{with_streams}
-use Rattle.vesgrauf.proofs.ReadsLemmas.{same_key, read_left, gone_left_by, read_steps, gone_by, left_same, same_steps, same_passes, hand_with, input_by, chunk_none, none_left, on_none, kept_left, chunk_left, same_tell, set_here, set_there, left_steps, read_then, reads_at}
+use Rattle.vesgrauf.proofs.ReadsLemmas.{same_key, read_left, gone_left_by, read_steps, gone_by, left_same, same_steps, same_passes, hand_with, input_by, chunk_none, none_left, on_none, none_ends, kept_left, chunk_left, same_tell, set_here, set_there, left_steps, read_then, reads_at}
 
 -- ---- after a read
 
@@ -54,8 +54,11 @@ pub reads_tell : (id : ℕ) (said : ℕ → List Item) (c d : List (ℕ × Entry
     → i.report ≡ report.Stream id → j.report ≡ report.Stream id → ((k : ℕ) → said k ≡ [])
     → ReadsOn id [] c i.chunk d j.chunk → Tells said c i d j
 reads_tell id said c d i j h g silent p = record {
-  each = λ k. subst (λ a. IsRead (unread_at c i k) a (unread_at d j k)) (on_none (is_at (nat_cmp id) k) ∙ sym (silent k))
-      (reads_at id k [] c d i j h g p);
+  each = λ k. (
+    subst (λ a. IsRead (unread_at c i k) a (unread_at d j k)) (on_none (is_at (nat_cmp id) k) ∙ sym (silent k))
+        (reads_at id k [] c d i j h g p),
+    λ e. absurd (none_ends (said k) (silent k) e),
+  );
 }
 
 -- one stream changes, and no other
@@ -73,13 +76,13 @@ silent_none (step.Told e) k h = ap (λ l. items_on e.stream l k) h ∙ on_none (
 silent_none step.More k h = refl
 silent_none step.Nothing k h = refl
 
-handed_left : (x y : Theirs) (items said : List Item) → said ≡ items → IsLeft x y → IsHanded x items said y
-handed_left x y items said h p = inl (p, h)
+handed_left : (x y : Theirs) (items said : List Item) → said ≡ items → said ≡ [] → IsLeft x y → IsHanded x items said y
+handed_left x y items said h n p = inl (p, h, λ e. absurd (none_ends said n e))
 
 pub left_hands : (id : ℕ) (s : Step) (c d : List (ℕ × Entry)) → IsSilent s → Left c d → Hands id [] (told_in s) c d
 left_hands id s c d h p = record {
   each = λ k. handed_left (theirs_at c k) (theirs_at d k) (items_on id [] k) (told_in s k)
-      (silent_none s k h ∙ sym (on_none (is_at (nat_cmp id) k))) (p.each k);
+      (silent_none s k h ∙ sym (on_none (is_at (nat_cmp id) k))) (silent_none s k h) (p.each k);
 }
 
 pub silent_hands : (id : ℕ) (items : List Item) (s : Step) (c d : List (ℕ × Entry)) → items ≡ [] → IsSilent s → Left c d
@@ -286,26 +289,30 @@ more_kept id c d p =
     kept_left id (told_in step.More) c d d (λ k. refl) p (record { each = λ k. inl refl })
 
 pub none_kept : (c : List (ℕ × Entry)) → TellsKept (told_in step.More) c c
-none_kept c = record { each = λ k. read_left (theirs_at c k) (theirs_at c k) (inl refl) }
+none_kept c = record {
+  each = λ k. (read_left (theirs_at c k) (theirs_at c k) (inl refl), λ e. absurd (let bad : false ≡ true = e in cc));
+}
 
 -- items is told on its stream, or the stream is read no further
-hand_by : (b : Bool) (x : Theirs) (items : List Item) → IsHanded x (cond b items []) (cond b items []) x
-hand_by b x items = inl (inl refl, refl)
+hand_by : (b : Bool) (x : Theirs) (items : List Item) → has_end items ≡ false
+    → IsHanded x (cond b items []) (cond b items []) x
+hand_by true x items n = inl (inl refl, refl, λ e. absurd (let bad : false ≡ true = sym n ∙ e in cc))
+hand_by false x items n = inl (inl refl, refl, λ e. absurd (let bad : false ≡ true = e in cc))
 
 pub told_hands : (id : ℕ) (items : List Item) (e : Event) (c : List (ℕ × Entry)) → e.stream ≡ id
-    → items_told e.kind ≡ items → Hands id items (told_in (step.Told e)) c c
-told_hands id items e c p q = record {
-  each = λ k. rw (p, q) (hand_by (is_at (nat_cmp id) k) (theirs_at c k) items);
+    → items_told e.kind ≡ items → has_end items ≡ false → Hands id items (told_in (step.Told e)) c c
+told_hands id items e c p q n = record {
+  each = λ k. rw (p, q) (hand_by (is_at (nat_cmp id) k) (theirs_at c k) items n);
 }
 
 gone_by_id : (b : Bool) (id k : ℕ) (items : List Item) (c d : List (ℕ × Entry)) → is_at (nat_cmp id) k ≡ b
     → Left c d → theirs_at d id ≡ Gone → IsHanded (theirs_at c k) (cond b items []) [] (theirs_at d k)
 gone_by_id true id k items c d t p g =
     inr (subst (λ n. theirs_at d n ≡ Gone) (same_key id k t) g, refl)
-gone_by_id false id k items c d t p g = inl (p.each k, refl)
+gone_by_id false id k items c d t p g = inl (p.each k, refl, λ e. absurd (let bad : false ≡ true = e in cc))
 
 handed_then : (x y z : Theirs) (items said : List Item) → IsHanded x items said y → IsLeft y z → IsHanded x items said z
-handed_then x y z items said (inl p) q = inl (left_steps x y z p.0 q, p.1)
+handed_then x y z items said (inl p) q = inl (left_steps x y z p.0 q, p.1, λ e. gone_left_by y z (p.2 e) q)
 handed_then x y z items said (inr p) q = inr (gone_left_by y z p.0 q, p.1)
 
 -- and then nothing is read
@@ -317,7 +324,7 @@ hands_left id items s c d e p q = record {
 }
 
 then_handed : (x y z : Theirs) (items said : List Item) → IsLeft x y → IsHanded y items said z → IsHanded x items said z
-then_handed x y z items said q (inl p) = inl (left_steps x y z q p.0, p.1)
+then_handed x y z items said q (inl p) = inl (left_steps x y z q p.0, p.1, p.2)
 then_handed x y z items said q (inr p) = inr p
 
 -- nothing is read, and then this is told
@@ -334,23 +341,31 @@ gone_hands id items c d p g = record {
   each = λ k. gone_by_id (is_at (nat_cmp id) k) id k items c d refl p g;
 }
 
--- it is told on its stream; or the stream is read no further
+told_gone_by : (b : Bool) (x z : Theirs) (items : List Item) → (b ≡ true → z ≡ Gone) → IsLeft x z
+    → IsHanded x (cond b items []) (cond b items []) z
+told_gone_by true x z items g l = inl (l, refl, λ e. g refl)
+told_gone_by false x z items g l = inl (l, refl, λ e. absurd (let bad : false ≡ true = e in cc))
+
+-- it is told on its stream, which is read no further
 pub told_or_gone : (id : ℕ) (items : List Item) (s : Step) (c d : List (ℕ × Entry)) → IsOf id items s → Left c d
     → theirs_at d id ≡ Gone → Hands id items (told_in s) c d
-told_or_gone id items (step.Told e) c d p q g = hands_left id items (step.Told e) c c d (told_hands id items e c p.0 p.1) q
+told_or_gone id items (step.Told e) c d p q g = record {
+  each = λ k. rw (p.0, p.1) (told_gone_by (is_at (nat_cmp id) k) (theirs_at c k) (theirs_at d k) items
+      (λ t. subst (λ n. theirs_at d n ≡ Gone) (same_key id k t) g) (q.each k));
+}
 told_or_gone id items step.More c d p q g = gone_hands id items c d q g
 told_or_gone id items step.Nothing c d p q g = record { each = (gone_hands id items c d q g).each }
 
 -- nothing was read and told, and then this
 start_none : (s : Bool) (u v x y : Theirs) (f : Theirs → Theirs) (items : List Item) → IsRead (f u) [] (f v)
-    → IsStart s v x → IsRead (f x) items y → (t : Theirs) × IsStart s u t × IsRead (f t) items y
+    → IsStart s v x → IsTold (f x) items y → (t : Theirs) × IsStart s u t × IsTold (f t) items y
 start_none s u v x y f items p (inl h) r =
-    (u, inl refl, read_steps (f u) (f v) y [] items p (subst (λ t. IsRead (f t) items y) h r))
+    (u, inl refl, (read_steps (f u) (f v) y [] items p (subst (λ t. IsRead (f t) items y) h r.0), r.1))
 start_none s u v x y f items p (inr h) r = (x, inr h, r)
 
 pub none_all : (a : Ids) (quiet said : ℕ → List Item) (c d e : List (ℕ × Entry)) (i l : Input)
     → ((k : ℕ) → quiet k ≡ []) → Tells quiet c i d i → TellsAll a said d i e l → TellsAll a said c i e l
 none_all a quiet said c d e i l h p q = record {
   each = λ k. start_none (was a k) (theirs_at c k) (theirs_at d k) (q.each k).0 (unread_at e l k) (with_input i k)
-      (said k) (subst (λ b. IsRead (unread_at c i k) b (unread_at d i k)) (h k) (p.each k)) (q.each k).1 (q.each k).2;
+      (said k) (subst (λ b. IsRead (unread_at c i k) b (unread_at d i k)) (h k) (p.each k).0) (q.each k).1 (q.each k).2;
 }

@@ -1,5 +1,5 @@
 -- What is read of the peer's half of a stream, and told, item by item.
-use Rattle.std.specs.Prelude.{ℕ, List, [], ◌∷◌, Option, None, Some}
+use Rattle.std.specs.Prelude.{ℕ, Bool, true, false, List, [], ◌∷◌, Option, None, Some}
 use Rattle.wtp_qpack.specs.Field.{Field}
 use Rattle.wtp_webtransport.specs.declared.event.HeadersKind.{HeadersKind}
 use Rattle.wtp_webtransport.specs.declared.event.HeadersKind.TheVariants as headers
@@ -57,6 +57,12 @@ items_told (event.Trailers fields) = Section headers.Trailers fields ∷ []
 items_told event.Draining = Drains ∷ []
 items_told event.End = Ends ∷ []
 items_told other = []
+
+-- the end is among them
+abbrev pub has_end : List Item → Bool
+has_end [] = false
+has_end (Ends ∷ items) = true
+has_end (i ∷ items) = has_end items
 
 -- those that were heard
 abbrev pub items_in : Heard → List Item

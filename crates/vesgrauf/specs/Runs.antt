@@ -1,6 +1,6 @@
 -- What comes on one stream of the peer, call after call, and what is told of it.
 use Rattle.std.specs.Prelude.{◌≡◌, ◌⊎◌, ◌++◌, ◌||◌, ℕ, Bool, false, List, [], ◌∷◌}
-use Rattle.vesgrauf.specs.Theirs.{Theirs, Gone, Unread, Piece, AreCalls, all_items, IsLeft, IsRead}
+use Rattle.vesgrauf.specs.Theirs.{Theirs, Gone, Unread, Piece, AreCalls, all_items, IsLeft, IsTold}
 use Rattle.vesgrauf.specs.Items.{Item}
 
 -- Comes: these bytes of the stream are reported, and whether it ends after them. Tells: a call of `next_event` tells these
@@ -18,7 +18,7 @@ with_more (Unread before ended) bytes fin = Unread (before ++ bytes) (ended || f
 -- what a step does to the bytes that are unread: as the contracts of the calls say
 abbrev pub Does : Step → Theirs → Theirs → Type 0
 Does (Comes bytes fin) x y = y ≡ with_more x bytes fin
-Does (Tells items) x y = IsRead x items y
+Does (Tells items) x y = IsTold x items y
 Does Rests x y = IsLeft x y
 
 abbrev pub Leads : List Step → Theirs → Theirs → Type 0

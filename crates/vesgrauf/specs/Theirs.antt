@@ -21,7 +21,7 @@ use Rattle.vesgrauf.specs.declared.input.Input.{Input}
 use Rattle.vesgrauf.specs.declared.input.Report.{Report}
 use Rattle.vesgrauf.specs.declared.input.Report.TheVariants as report
 use Rattle.vesgrauf.specs.Ids.{was}
-use Rattle.vesgrauf.specs.Items.{Item, items_of, items_told}
+use Rattle.vesgrauf.specs.Items.{Item, has_end, items_of, items_told}
 use Rattle.vesgrauf.specs.Own.{entry_at}
 
 -- Gone: the stream is not read, or is forgotten, or there is none yet; or its bytes are instructions for the own encoder.
@@ -128,6 +128,14 @@ IsReadTo x items y = ((y ≡ x) × (items ≡ [])) ⊎ AreRead x items y
 abbrev pub IsRead : Theirs → List Item → Theirs → Type 0
 IsRead x items y = (z : Theirs) × IsReadTo x items z × IsLeft z y
 
+-- where the end is told, the stream is read no further
+abbrev pub IsEndedBy : List Item → Theirs → Type 0
+IsEndedBy items y = has_end items ≡ true → y ≡ Gone
+
+-- bytes are read, and these items are told, of which the end is the last
+abbrev pub IsTold : Theirs → List Item → Theirs → Type 0
+IsTold x items y = IsRead x items y × IsEndedBy items y
+
 -- no byte is read of any stream, nor lost
 pub record Same (c : List (ℕ × Entry)) (i : Input) (d : List (ℕ × Entry)) (j : Input) : Type 0 where
   pub each : (id : ℕ) → IsLeft (unread_at c i id) (unread_at d j id)
@@ -178,7 +186,7 @@ IsOf id items other = Unit {0}
 
 -- no byte is read nor lost, and what was heard is told; or the stream is read no further, and nothing is told
 abbrev pub IsHanded : Theirs → List Item → List Item → Theirs → Type 0
-IsHanded x items said y = (IsLeft x y × (said ≡ items)) ⊎ ((y ≡ Gone) × (said ≡ []))
+IsHanded x items said y = (IsLeft x y × (said ≡ items) × IsEndedBy said y) ⊎ ((y ≡ Gone) × (said ≡ []))
 
 -- these items were heard on this stream, and none on any other
 pub record Hands (id : ℕ) (items : List Item) (said : ℕ → List Item) (c d : List (ℕ × Entry)) : Type 0 where
@@ -191,12 +199,12 @@ pub record Passes (id : ℕ) (items : List Item) (said : ℕ → List Item) (c :
 
 -- of each stream, bytes that are kept are read, and the items are told that they say
 pub record TellsKept (said : ℕ → List Item) (c d : List (ℕ × Entry)) : Type 0 where
-  pub each : (id : ℕ) → IsRead (theirs_at c id) (said id) (theirs_at d id)
+  pub each : (id : ℕ) → IsTold (theirs_at c id) (said id) (theirs_at d id)
 
 -- of each stream, bytes that are kept and those of the input are read, and the items are told that they say
 pub record Tells (said : ℕ → List Item) (c : List (ℕ × Entry)) (i : Input) (d : List (ℕ × Entry)) (j : Input)
     : Type 0 where
-  pub each : (id : ℕ) → IsRead (unread_at c i id) (said id) (unread_at d j id)
+  pub each : (id : ℕ) → IsTold (unread_at c i id) (said id) (unread_at d j id)
 
 -- ---- streams that come to be
 
@@ -215,4 +223,4 @@ pub record Accepts (a : Ids) (c : List (ℕ × Entry)) (b : Ids) (d : List (ℕ 
 pub record TellsAll (a : Ids) (said : ℕ → List Item) (c : List (ℕ × Entry)) (i : Input) (d : List (ℕ × Entry)) (j : Input)
     : Type 0 where
   pub each : (id : ℕ) → (x : Theirs) × IsStart (was a id) (theirs_at c id) x
-      × IsRead (with_input i id x) (said id) (unread_at d j id)
+      × IsTold (with_input i id x) (said id) (unread_at d j id)

@@ -5,9 +5,9 @@ ghost use Rattle.wtp_webtransport.specs.Events as say;
 ghost use Rattle.wtp_webtransport.specs.declared.event.HeadersKind.TheVariants as headers;
 ghost use Rattle.vesgrauf.specs.declared.event.EventKind.TheVariants as event;
 ghost use Rattle.vesgrauf.specs.declared.event.Tunnel.TheVariants as tunnel;
-ghost use Rattle.vesgrauf.specs.Items.{content, items_of, items_told};
+ghost use Rattle.vesgrauf.specs.Items.{Item, content, has_end, items_of, items_told};
 ghost use Rattle.vesgrauf.specs.Theirs.{Theirs, Unread};
-ghost use Rattle.vesgrauf.specs.Runs.{Step, Leads, IsToldOf, came, ends, told};
+ghost use Rattle.vesgrauf.specs.Runs.{Step, Tells, Does, Leads, IsToldOf, came, ends, told};
 ghost use Rattle.vesgrauf.specs.declared.connection.Connection.{Connection};
 ghost use Rattle.vesgrauf.specs.declared.entry.Told.TheVariants as entry;
 ghost use Rattle.vesgrauf.specs.Told.{Says, Fails, Closes, Path, on, knows};
@@ -20,6 +20,12 @@ ghost use Rattle.vesgrauf.specs.Calls.{Call, Run, told_in_all, opened_in, EndsOn
 pub fn told_is_what_came()
     ensures { (steps : List Step) (y : Theirs) → Leads steps (Unread [] false) y
         → IsToldOf (came steps) (ends steps) (told steps) y }
+{}
+
+/// After the end of a stream nothing is told of what came on it, and the end is told once.
+pub fn the_end_is_last()
+    ensures { (items : List Item) (steps : List Step) (x y z : Theirs) → Does (Tells items) x y → has_end items ≡ true
+        → Leads steps y z → told steps ≡ [] }
 {}
 
 /// The definitions of what is told refuse an interim response as the final one, trailers as a head, a request for a session

@@ -3,7 +3,7 @@ ghost use Rattle.std.specs.Prelude.{◌≡◌, [], ◌∷◌, false, IfOk, OnOk}
 ghost use Rattle.vesgrauf.specs.Keeps.{Keeps, KeepsOwn};
 ghost use Rattle.vesgrauf.specs.Told.{ends, word_of, said_by, said_in};
 ghost use Rattle.vesgrauf.specs.State.{stream_at, told_on};
-ghost use Rattle.vesgrauf.specs.Items.{Section, Ends, items_in, items_of, items_told};
+ghost use Rattle.vesgrauf.specs.Items.{Section, Ends, has_end, items_in, items_of, items_told};
 ghost use Rattle.wtp_webtransport.specs.declared.event.HeadersKind.TheVariants as headers;
 ghost use Rattle.vesgrauf.specs.Theirs.{Left, Hands, Gone, IsSilent, IsOf, theirs_at, told_in};
 ghost use Rattle.wtp_webtransport.specs.Events.{told_of};
@@ -45,7 +45,7 @@ pub(super) fn says_items(event: &Said<'_>) -> bool
 #[tactic(auto, using(crate::proofs::KeepsLemmas::keep))]
 impl Connection {
     // Handles what was heard on a stream.
-    #[tactic(auto, using(crate::proofs::KeepsLemmas::hold, crate::proofs::TellsLemmas::left_hands))]
+    #[tactic(auto, using(crate::proofs::KeepsLemmas::hold, crate::proofs::TellsLemmas::left_hands, crate::proofs::PieceLemmas::content_goes_on))]
     pub(super) fn heard<'a>(&mut self, id: u64, heard: Heard<'a>) -> Result<Step<'a>, Stop>
         ensures keeps { KeepsOwn (said_by result) self.old self.new }
         ensures left { Left self.old.streams.entries self.new.streams.entries }
@@ -65,7 +65,8 @@ impl Connection {
     pub(super) fn tell_read<'a>(&mut self, id: u64, kind: EventKind<'a>) -> Result<Step<'a>, Stop>
         ensures keeps { ends (word_of kind.entry) ≡ false → Keeps (said_by result) self.old self.new }
         ensures quiet { Keeps [] self.old self.new }
-        ensures hands { IfOk result (λ s. Hands id (items_told kind.entry) (told_in s)
+        ensures hands { has_end (items_told kind.entry) ≡ false
+            → IfOk result (λ s. Hands id (items_told kind.entry) (told_in s)
             self.old.streams.entries self.new.streams.entries) }
     {
         match self.tell(id, kind) {

@@ -182,7 +182,7 @@ impl Connection {
     }
 
     // Tells a piece of content. Nothing follows it but more bytes, or the end.
-    #[tactic(auto, using(crate::proofs::KeepsLemmas::hold, crate::proofs::TellsLemmas::taken_passes, crate::proofs::BoundLemmas::bound, crate::proofs::BoundLemmas::bound_left))]
+    #[tactic(auto, using(crate::proofs::KeepsLemmas::hold, crate::proofs::TellsLemmas::taken_passes, crate::proofs::PieceLemmas::content_goes_on, crate::proofs::BoundLemmas::bound, crate::proofs::BoundLemmas::bound_left))]
     fn piece_came<'a>(
         &mut self,
         id: u64,

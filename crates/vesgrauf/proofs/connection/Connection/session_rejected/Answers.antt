@@ -1,4 +1,4 @@
-use Rattle.std.proofs.Common.{[], ◌∷◌}
+use Rattle.std.proofs.Common.{[], ◌∷◌, refl}
 use Rattle.wtp_webtransport.specs.declared.event.HeadersKind.TheVariants as headers
 use Rattle.vesgrauf.specs.Items.{Section}
 use Rattle.vesgrauf.specs.Theirs.{Hands, told_in}
@@ -15,4 +15,4 @@ returns-clause-hands c = ok_map c.tell_read.result
     c.tell_read.new.self.streams.entries)
     (λ s p. left_then_hands c.args.id (Section (headers.Response c.args.status) c.args.list ∷ []) s c.args.self.now.streams.entries
     c.note_refused.new.self.streams.entries c.tell_read.new.self.streams.entries (keeps_left c.note_refused.ensures.keeps) p)
-    c.tell_read.ensures.hands
+    (c.tell_read.ensures.hands refl)

@@ -7,6 +7,6 @@ pub returns-in_ok-drop_rest-in_default : goal.returns-in_ok-drop_rest-in_default
 returns-in_ok-drop_rest-in_default c = record {
   keeps = λ n. c.drop_rest.ensures.keeps;
   quiet = c.drop_rest.ensures.keeps;
-  hands = gone_hands c.args.id (items_told c.args.kind) c.args.self.now.streams.entries
+  hands = λ n. gone_hands c.args.id (items_told c.args.kind) c.args.self.now.streams.entries
       c.drop_rest.new.self.streams.entries (keeps_left c.drop_rest.ensures.keeps) c.in_ok-drop_rest-in_default.ensures.gone;
 }

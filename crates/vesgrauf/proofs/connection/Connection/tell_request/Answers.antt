@@ -1,4 +1,4 @@
-use Rattle.std.proofs.Common.{[], ◌∷◌}
+use Rattle.std.proofs.Common.{[], ◌∷◌, refl}
 use Rattle.wtp_webtransport.specs.declared.event.HeadersKind.TheVariants as headers
 use Rattle.vesgrauf.specs.Items.{Section}
 use Rattle.vesgrauf.specs.Theirs.{Hands, told_in}
@@ -15,7 +15,7 @@ returns-then-eq-clause-hands c = ok_map c.tell_read.result
     c.tell_read.new.self.streams.entries)
     (λ s p. left_then_hands c.args.id (Section headers.Request c.args.list ∷ []) s c.args.self.now.streams.entries
     c.begin_request.new.self.streams.entries c.tell_read.new.self.streams.entries (keeps_left c.begin_request.ensures.keeps) p)
-    c.tell_read.ensures.hands
+    (c.tell_read.ensures.hands refl)
 
 pub returns-else-eq-clause-hands : goal.returns-else-eq-clause-hands
 returns-else-eq-clause-hands c = ok_map c.tell_read-else-eq.result
@@ -25,4 +25,4 @@ returns-else-eq-clause-hands c = ok_map c.tell_read-else-eq.result
     c.tell_read-else-eq.new.self.streams.entries)
     (λ s p. left_then_hands c.args.id (Section headers.Request c.args.list ∷ []) s c.args.self.now.streams.entries
     c.begin_request.new.self.streams.entries c.tell_read-else-eq.new.self.streams.entries (keeps_left c.begin_request.ensures.keeps) p)
-    c.tell_read-else-eq.ensures.hands
+    (c.tell_read-else-eq.ensures.hands refl)

@@ -1,4 +1,4 @@
-use Rattle.std.proofs.Common.{[], ◌∷◌}
+use Rattle.std.proofs.Common.{[], ◌∷◌, refl}
 use Rattle.vesgrauf.specs.Items.{Asks}
 use Rattle.vesgrauf.specs.Theirs.{Hands, told_in}
 use Rattle.vesgrauf.proofs.KeepsLemmas.{keeps_left}
@@ -14,4 +14,4 @@ returns-clause-hands c = ok_map c.tell_read.result
     c.tell_read.new.self.streams.entries)
     (λ s p. left_then_hands c.args.id (Asks c.args.list ∷ []) s c.args.self.now.streams.entries
     c.begin_session.new.self.streams.entries c.tell_read.new.self.streams.entries (keeps_left c.begin_session.ensures.keeps) p)
-    c.tell_read.ensures.hands
+    (c.tell_read.ensures.hands refl)
