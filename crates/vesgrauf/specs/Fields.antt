@@ -5,5 +5,5 @@ use Rattle.wtp_qpack.specs.Field.{Field}
 -- one of the scheme https
 abbrev pub request_of : (method authority path : List ℕ) → List Field
 request_of method authority path =
-    (codes ":method", method) ∷ (codes ":scheme", codes "https") ∷ (codes ":authority", authority) ∷ (codes ":path", path)
-    ∷ []
+    (codes ":method", method) ∷ (codes ":scheme", codes "https")
+    ∷ (codes ":authority", authority) ∷ (codes ":path", path) ∷ []

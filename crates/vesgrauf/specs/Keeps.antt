@@ -21,7 +21,8 @@ pub data KeepsAll : (said : List Event)
       → KeepsAll said es ids q a fs jds r b
 
 abbrev pub Keeps : List Event → Connection → Connection → Type 0
-Keeps said c d = KeepsAll said c.streams.entries c.ids c.events.items c.config d.streams.entries d.ids d.events.items d.config
+Keeps said c d =
+    KeepsAll said c.streams.entries c.ids c.events.items c.config d.streams.entries d.ids d.events.items d.config
 
 -- The same of a step in which bytes of the peer may be read, and in which a malformed message may be answered, if the
 -- configuration says so.
@@ -30,7 +31,8 @@ pub data KeepsOwnAll : (said : List Event)
     → (fs : List (ℕ × Entry)) (jds : Ids) (r : List Event) (b : Config) → Type 0 where
   KeptOwn : {said : List Event} {es : List (ℕ × Entry)} {ids : Ids} {q : List Event} {a : Config}
       {fs : List (ℕ × Entry)} {jds : Ids} {r : List Event} {b : Config}
-      → (own : a.on_malformed ≡ chosen.Reset → UntouchedOrNew ids es fs) → (goes : Goes said es ids q fs jds r) → (config : b ≡ a)
+      → (own : a.on_malformed ≡ chosen.Reset → UntouchedOrNew ids es fs) → (goes : Goes said es ids q fs jds r)
+      → (config : b ≡ a)
       → KeepsOwnAll said es ids q a fs jds r b
 
 abbrev pub KeepsOwn : List Event → Connection → Connection → Type 0
