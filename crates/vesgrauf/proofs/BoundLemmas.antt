@@ -17,6 +17,7 @@ use Rattle.vesgrauf.specs.Items.{Item}
 use Rattle.vesgrauf.specs.Theirs.{Theirs, Gone, theirs_by, theirs_of, theirs_in, theirs_at, IsLeft, Left, Piece, AreCalls, AreRead, IsReadTo, IsRead, TellsKept, IsStart, Accepts, OnlyAt}
 use Rattle.vesgrauf.specs.Bounds.{most_kept, Fits, AllFit, KeepsFit, StillFits, KeepsBoundAll, StillBounded, KeepsBound}
 use Rattle.vesgrauf.specs.declared.event.Event.{Event}
+use Rattle.vesgrauf.specs.declared.connection.Ended.{Ended}
 use Rattle.vesgrauf.specs.Keeps.{KeepsAll, Keeps, KeepsOwnAll}
 use Rattle.vesgrauf.specs.State.{IsStill}
 use Rattle.vesgrauf.proofs.KeepsLemmas.{keeps_left, keeps_config, holds_config}
@@ -184,13 +185,14 @@ pub bound_left : (a : Config) (es : List (ℕ × Entry)) (b : Config) (fs : List
 bound_left a es b fs l e = StillBounded (λ p. subst (λ x. AllFit (most_kept x) fs) (sym e)
     (left_all (most_kept a) es fs l p))
 
-pub bound_keeps : {said : List Event} {es fs : List (ℕ × Entry)} {ids jds : Ids} {q r : List Event} {a b : Config}
-    → KeepsAll said es ids q a fs jds r b → KeepsBoundAll a es b fs
-bound_keeps {said} {es} {fs} {ids} {jds} {q} {r} {a} {b} k = bound_left a es b fs (keeps_left k) (keeps_config k)
+pub bound_keeps : {but : Option ℕ} {said : List Event} {es fs : List (ℕ × Entry)} {ids jds : Ids} {q r : List Event}
+    {a b : Config} {x y : Option Ended} → KeepsAll but said es ids q a x fs jds r b y → KeepsBoundAll a es b fs
+bound_keeps {but} {said} {es} {fs} {ids} {jds} {q} {r} {a} {b} k = bound_left a es b fs (keeps_left k) (keeps_config k)
 
-pub bound_holds : {said : List Event} {es fs : List (ℕ × Entry)} {ids jds : Ids} {q r : List Event} {a b : Config}
-    → Left es fs → KeepsOwnAll said es ids q a fs jds r b → KeepsBoundAll a es b fs
-bound_holds {said} {es} {fs} {ids} {jds} {q} {r} {a} {b} l k = bound_left a es b fs l (holds_config k)
+pub bound_holds : {but : Option ℕ} {said : List Event} {es fs : List (ℕ × Entry)} {ids jds : Ids} {q r : List Event}
+    {a b : Config} {x y : Option Ended} → Left es fs → KeepsOwnAll but said es ids q a x fs jds r b y
+    → KeepsBoundAll a es b fs
+bound_holds {but} {said} {es} {fs} {ids} {jds} {q} {r} {a} {b} l k = bound_left a es b fs l (holds_config k)
 
 pub bound_kept : (said : ℕ → List Item) (a : Config) (es : List (ℕ × Entry)) (b : Config) (fs : List (ℕ × Entry))
     → TellsKept said es fs → b ≡ a → KeepsBoundAll a es b fs

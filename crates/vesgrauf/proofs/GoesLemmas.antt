@@ -272,7 +272,7 @@ at_is true c g h = g refl
 at_is false c g h = h refl
 
 -- the test of an ID by a map is that of the words
-at_test : (id k : ℕ) → (id == k) ≡ is_at (nat_cmp id) k
+pub at_test : (id k : ℕ) → (id == k) ≡ is_at (nat_cmp id) k
 at_test id k = at_is (is_at (nat_cmp id) k) (id == k) (λ at. rw (same_at id k at) (itself id)) (other_at id k)
 
 path_at : (es : List (ℕ × Entry)) (ids : Ids) (id k : ℕ) (w : Word) (v : Option Entry)

@@ -1,5 +1,5 @@
 -- Streams that are opened, and their IDs.
-use Rattle.std.proofs.Common.{◌≡◌, ◌==◌, ◌+◌, ◌%◌, ◌<◌, ◌^◌, ℕ, List, [], Option, None, Some, Bool, true, false, cond, refl, arith, sym, ap, ◌∙◌, ◌⊎◌, inl, inr}
+use Rattle.std.proofs.Common.{◌≡◌, ◌==◌, ◌+◌, ◌%◌, ◌<◌, ◌^◌, ℕ, List, [], Option, None, Some, Bool, true, false, cond, refl, arith, sym, ap, subst, ◌∙◌, ◌⊎◌, inl, inr}
 use Rattle.std.specs.Prelude.{is_some, nat_lt, if◌then◌else◌}
 use Rattle.std.specs.Ordering.{nat_cmp}
 use Rattle.std.specs.BTreeMap.{is_at}
@@ -14,12 +14,15 @@ use Rattle.vesgrauf.specs.declared.connection.ids.Ids.{Ids}
 use Rattle.vesgrauf.specs.Ids.{was, own_bit, peer_bit, kind_by, kind_of, next_own, next_peer, taken, seen, opened, blocked}
 use Rattle.vesgrauf.specs.declared.config.Config.{Config}
 use Rattle.vesgrauf.specs.declared.connection.Connection.{Connection}
+use Rattle.vesgrauf.specs.declared.connection.Ended.{Ended}
+use Rattle.vesgrauf.specs.Halves.{halves_in, halves_at, Holds, Lasts}
 use Rattle.vesgrauf.specs.Keeps.{KeepsAll, Kept, Keeps}
 use Rattle.vesgrauf.specs.Own.{entry_at, own_in, IsUntouched, UntouchedBut}
 use Rattle.vesgrauf.specs.State.{knows_of, IsStill}
 use Rattle.vesgrauf.specs.Theirs.{theirs_in, IsLeft}
+use Rattle.vesgrauf.proofs.HalvesLemmas.{holds_refl, lasts_still, not_there}
 use Rattle.vesgrauf.proofs.KeepsLemmas.{keeps_refl}
-use Rattle.vesgrauf.specs.Told.{Sets, AreOthers, IsUndone, AreIds, Stays, status_by, Goes}
+use Rattle.vesgrauf.specs.Told.{Sets, AreOthers, IsUndone, AreIds, Sound, Stays, status_by, Goes}
 use Rattle.vesgrauf.proofs.GoesLemmas.{by_none, goes_refl, same_at, stays_refl}
 
 -- ---- IDs that are taken
@@ -326,18 +329,36 @@ left_undone : (x y : Option Entry) → (y ≡ x) ⊎ (y ≡ None) → IsLeft (th
 left_undone x y (inl h) = inl (ap theirs_in h)
 left_undone x y (inr h) = inr (ap theirs_in h)
 
+halves_none : (x y : Option Entry) → x ≡ None → Holds (halves_in x) (halves_in y)
+halves_none x y h = subst (λ o. Holds (halves_in o) (halves_in y)) (sym h) tt
+
+halves_by : (b : Bool) (es fs : List (ℕ × Entry)) (ids : Ids) (id k : ℕ) (kd : StreamKind) → is_at (nat_cmp id) k ≡ b
+    → id ≡ next_own ids kd → Sound es ids → IsUndone id es fs → Holds (halves_at es k) (halves_at fs k)
+halves_by true es fs ids id k kd t at s u = halves_none (entry_at es k) (entry_at fs k)
+    (not_there es ids k s (rw (same_at id k t, at) (own_was ids kd s.ids_are)))
+halves_by false es fs ids id k kd t at s u = subst (λ o. Holds (halves_at es k) (halves_in o)) (sym (u.0 k t))
+    (holds_refl (halves_at es k))
+
 -- and no byte of another stream is added or lost
-pub keeps_undone : (es fs : List (ℕ × Entry)) (ids : Ids) (q : List Event) (a b : Config) (k : StreamKind) (id : ℕ)
-    → id ≡ next_own ids k → IsUndone id es fs → b ≡ a → KeepsAll [] es ids q a fs ids q b
-keeps_undone es fs ids q a b kd id at u e = Kept
+pub keeps_undone : (es fs : List (ℕ × Entry)) (ids : Ids) (q : List Event) (a b : Config) (x : Option Ended)
+    (k : StreamKind) (id : ℕ)
+    → id ≡ next_own ids k → IsUndone id es fs → b ≡ a → KeepsAll None [] es ids q a x fs ids q b x
+keeps_undone es fs ids q a b x kd id at u e = Kept
     (record { each = λ k. own_undone (entry_at es k) (entry_at fs k) (undone_is (is_at (nat_cmp id) k) id k es fs refl u) })
     (record { each = λ k. left_undone (entry_at es k) (entry_at fs k) (undone_is (is_at (nat_cmp id) k) id k es fs refl u) })
-    (goes_undone es fs ids q kd id at u) e
+    (goes_undone es fs ids q kd id at u) e (λ n. n)
+    (λ n s. lasts_still None es fs q (λ k. halves_by (is_at (nat_cmp id) k) es fs ids id k kd refl at s u))
 
 -- nothing that the program or QUIC sees changes
 pub keeps_still : (c d : Connection) → IsStill c d → Keeps [] c d
-keeps_still c d h = rw (ap (λ v. v.streams) h, ap (λ v. v.ids) h, ap (λ v. v.events) h, ap (λ v. v.config) h)
-    (keeps_refl c.streams.entries c.ids c.events.items c.config)
+keeps_still c d h = rw (
+  ap (λ v. v.streams) h,
+  ap (λ v. v.ids) h,
+  ap (λ v. v.events) h,
+  ap (λ v. v.config) h,
+  ap (λ v. v.ended) h,
+)
+    (keeps_refl None c.streams.entries c.ids c.events.items c.config c.ended)
 
 -- the program knows of a stream that it opened
 pub knows_here : (fs : List (ℕ × Entry)) (id : ℕ) (e : Entry) → entry_at fs id ≡ Some e → e.told ≡ told.Known

@@ -1,5 +1,5 @@
 -- What steps and calls of a connection keep.
-use Rattle.std.proofs.Common.{◌≡◌, ◌++◌, Equal, ℕ, List, [], ◌∷◌, Option, Some, None, Bool, true, false, cond, refl, inl, inr, sym, ap, ◌∙◌}
+use Rattle.std.proofs.Common.{◌≡◌, ◌==◌, ◌++◌, Equal, ℕ, List, [], ◌∷◌, Option, Some, None, Bool, true, false, cond, refl, inl, inr, sym, ap, subst, ◌∙◌}
 use Rattle.std.specs.Prelude.{is_some}
 use Rattle.std.specs.Cmp.{nat_cmp_is}
 use Rattle.std.specs.Ordering.{nat_cmp, is_eq}
@@ -8,176 +8,442 @@ use Rattle.std.specs.BTreeMap.{is_at}
 use Rattle.vesgrauf.specs.declared.config.Config.{Config}
 use Rattle.vesgrauf.specs.declared.config.OnMalformed.TheVariants as chosen
 use Rattle.vesgrauf.specs.declared.connection.Connection.{Connection}
+use Rattle.vesgrauf.specs.declared.connection.Ended.{Ended}
 use Rattle.vesgrauf.specs.declared.connection.ids.Ids.{Ids}
 use Rattle.vesgrauf.specs.declared.entry.Entry.{Entry}
 use Rattle.vesgrauf.specs.declared.event.Event.{Event}
 use Rattle.vesgrauf.specs.State.{IsStill, knows_of}
-use Rattle.vesgrauf.specs.Own.{Own, Over, EndsOwn, own_in, own_at, entry_at, IsUntouched, Untouched, UntouchedOrNew}
+use Rattle.vesgrauf.specs.declared.entry.Peer.{Peer}
+use Rattle.vesgrauf.specs.Own.{Own, Over, own_of, EndsOwn, own_in, own_at, entry_at, IsUntouched, Untouched, UntouchedOrNew}
 use Rattle.vesgrauf.specs.Theirs.{Gone, theirs_in, theirs_at, IsLeft, Left}
-use Rattle.vesgrauf.specs.Told.{Sets, Closes, word_of, status_in, ended_by, ended_at, Goes}
+use Rattle.vesgrauf.specs.declared.event.EventKind.{EventKind}
+use Rattle.vesgrauf.specs.declared.event.EventKind.TheVariants as event
+use Rattle.vesgrauf.specs.Told.{Sets, Says, Fails, Closes, word_of, ends, status_in, ended_by, ended_at, Goes, Sound, is_told_over}
+use Rattle.vesgrauf.specs.Halves.{Halves, NotKnown, Ending, OfOwn, OfPeer, OfBoth, reads_by, reads_in, halves_in, halves_at, ending_queued, ending_told, after, after_if, after_queued, Holds, but_for, Lasts}
+use Rattle.vesgrauf.specs.Streams.{is_known, becomes_known}
 use Rattle.vesgrauf.specs.declared.entry.Told.TheVariants as told
 use Rattle.vesgrauf.specs.Keeps.{KeepsAll, Kept, Keeps, KeepsOwnAll, KeptOwn, KeepsOwn}
 use Rattle.vesgrauf.proofs.OwnLemmas.{untouched_refl, untouched_trans, untouched_set, new_of, new_trans}
 use Rattle.vesgrauf.proofs.TheirsLemmas.{left_set}
 use Rattle.vesgrauf.proofs.StepLemmas.{left_trans}
 use Rattle.vesgrauf.proofs.TellsLemmas.{gone_left}
-use Rattle.vesgrauf.proofs.GoesLemmas.{goes_refl, goes_then, goes_after, goes_set, goes_still, goes_removed, goes_over, goes_closed, goes_last, set_sets}
+use Rattle.vesgrauf.proofs.GoesLemmas.{goes_refl, goes_then, goes_after, goes_set, goes_known, goes_queued, goes_tells, goes_still, goes_removed, goes_over, goes_closed, goes_last, set_sets}
+use Rattle.vesgrauf.proofs.GoesSteps.{goes_told_first, goes_dropped}
+use Rattle.vesgrauf.proofs.HalvesLemmas.{Adds, adds_none, adds_queued, adds_told, adds_first, adds_dropped, IsLasting, holds_closed, holds_by_word, holds_unknown, holds_stopped, holds_ended, reads_gone, lasts_refl, lasts_trans, lasts_after, lasts_adds, lasts_sets, lasts_set, lasts_but_set, lasts_weak, lasts_unknown, lasts_known, lasts_queued_set, lasts_told_set}
 
 left_all : (es : List (ℕ × Entry)) → Left es es
 left_all es = record { each = λ id. inl refl }
 
 -- ---- nothing of the peer's is read
 
-pub keeps_of : (said : List Event) (es fs : List (ℕ × Entry)) (ids jds : Ids) (q r : List Event) (a b : Config)
-    → Untouched es fs → Left es fs → Goes said es ids q fs jds r → b ≡ a → KeepsAll said es ids q a fs jds r b
-keeps_of said es fs ids jds q r a b o l g e = Kept o l g e
+pub keeps_of : (but : Option ℕ) (said : List Event) (es fs : List (ℕ × Entry)) (ids jds : Ids) (q r : List Event)
+    (a b : Config) (x y : Option Ended)
+    → Untouched es fs → Left es fs → Goes said es ids q fs jds r → b ≡ a → (is_some x ≡ true → is_some y ≡ true)
+    → (is_some y ≡ false → Sound es ids → Lasts but said es q fs r)
+    → KeepsAll but said es ids q a x fs jds r b y
+keeps_of but said es fs ids jds q r a b x y o l g e n h = Kept o l g e n h
 
-pub keeps_refl : (es : List (ℕ × Entry)) (ids : Ids) (q : List Event) (a : Config) → KeepsAll [] es ids q a es ids q a
-keeps_refl es ids q a = Kept (untouched_refl es) (left_all es) (goes_refl es ids q) refl
+pub keeps_refl : (but : Option ℕ) (es : List (ℕ × Entry)) (ids : Ids) (q : List Event) (a : Config) (x : Option Ended)
+    → KeepsAll but [] es ids q a x es ids q a x
+keeps_refl but es ids q a x =
+    Kept (untouched_refl es) (left_all es) (goes_refl es ids q) refl (λ h. h) (λ n s. lasts_refl but es q)
 
-pub keeps_trans : (said : List Event) (es fs gs : List (ℕ × Entry)) (ids jds kds : Ids) (q r s : List Event)
-    (a b c : Config) → KeepsAll [] es ids q a fs jds r b → KeepsAll said fs jds r b gs kds s c
-    → KeepsAll said es ids q a gs kds s c
-keeps_trans said es fs gs ids jds kds q r s a b c (Kept o l g e) (Kept p m h f) =
-    Kept (untouched_trans o p) (left_trans l m) (goes_then [] said es fs gs ids jds kds q r s g h) (f ∙ e)
+-- a connection that is not over was not before
+was_not : (x y : Bool) → (x ≡ true → y ≡ true) → y ≡ false → x ≡ false
+was_not true y h n = absurd (let on : y ≡ true = h refl in let bad : true ≡ false = sym on ∙ n in cc)
+was_not false y h n = refl
 
-pub keeps_after : (said : List Event) (es fs gs : List (ℕ × Entry)) (ids jds kds : Ids) (q r s : List Event)
-    (a b c : Config) → KeepsAll said es ids q a fs jds r b → KeepsAll [] fs jds r b gs kds s c
-    → KeepsAll said es ids q a gs kds s c
-keeps_after said es fs gs ids jds kds q r s a b c (Kept o l g e) (Kept p m h f) =
-    Kept (untouched_trans o p) (left_trans l m) (goes_after said es fs gs ids jds kds q r s g h) (f ∙ e)
+pub keeps_trans : (but : Option ℕ) (said : List Event) (es fs gs : List (ℕ × Entry)) (ids jds kds : Ids)
+    (q r s : List Event) (a b c : Config) (x y z : Option Ended)
+    → KeepsAll but [] es ids q a x fs jds r b y → KeepsAll but said fs jds r b y gs kds s c z
+    → KeepsAll but said es ids q a x gs kds s c z
+keeps_trans but said es fs gs ids jds kds q r s a b c x y z (Kept o l g e m h) (Kept p k i f n j) =
+    Kept (untouched_trans o p) (left_trans l k) (goes_then [] said es fs gs ids jds kds q r s g i) (f ∙ e) (λ t. n (m t))
+    (λ t v. lasts_trans but said es fs gs q r s (h (was_not (is_some y) (is_some z) n t) v) (j t (g.sound v)))
 
--- one stream changes, of which the program knows what it knew
-pub keeps_set : (es : List (ℕ × Entry)) (ids : Ids) (q : List Event) (a : Config) (id : ℕ) (f : Entry)
+pub keeps_after : (but : Option ℕ) (said : List Event) (es fs gs : List (ℕ × Entry)) (ids jds kds : Ids)
+    (q r s : List Event) (a b c : Config) (x y z : Option Ended)
+    → KeepsAll but said es ids q a x fs jds r b y → KeepsAll but [] fs jds r b y gs kds s c z
+    → KeepsAll but said es ids q a x gs kds s c z
+keeps_after but said es fs gs ids jds kds q r s a b c x y z (Kept o l g e m h) (Kept p k i f n j) =
+    Kept (untouched_trans o p) (left_trans l k) (goes_after said es fs gs ids jds kds q r s g i) (f ∙ e) (λ t. n (m t))
+    (λ t v. lasts_after but said es fs gs q r s (h (was_not (is_some y) (is_some z) n t) v) (j t (g.sound v)))
+
+-- one stream changes, of which the program knows what it knew, and whose halves go on
+pub keeps_set : (but : Option ℕ) (es : List (ℕ × Entry)) (ids : Ids) (q : List Event) (a : Config) (x : Option Ended)
+    (id : ℕ) (f : Entry)
     → IsUntouched (own_at es id) (own_in (Some f)) → IsLeft (theirs_at es id) (theirs_in (Some f))
-    → status_in (entry_at es id) ≡ Some f.told
-    → KeepsAll [] es ids q a (set_value (is_at (nat_cmp id)) es f) ids q a
-keeps_set es ids q a id f o l t = Kept (untouched_set es id f o) (left_set es id f l) (goes_set es ids q id f t) refl
+    → status_in (entry_at es id) ≡ Some f.told → IsLasting (entry_at es id) (Some f)
+    → KeepsAll but [] es ids q a x (set_value (is_at (nat_cmp id)) es f) ids q a x
+keeps_set but es ids q a x id f o l t h = Kept (untouched_set es id f o) (left_set es id f l) (goes_set es ids q id f t) refl
+    (λ n. n) (λ n s. lasts_set but es q id f t h)
 
--- one stream changes, and what is told goes on
-pub keeps_by_set : (said : List Event) (es : List (ℕ × Entry)) (ids jds : Ids) (q r : List Event) (a : Config) (id : ℕ)
-    (f : Entry) → Goes said es ids q (set_value (is_at (nat_cmp id)) es f) jds r
-    → IsUntouched (own_at es id) (own_in (Some f)) → IsLeft (theirs_at es id) (theirs_in (Some f))
-    → KeepsAll said es ids q a (set_value (is_at (nat_cmp id)) es f) jds r a
-keeps_by_set said es ids jds q r a id f g o l = Kept (untouched_set es id f o) (left_set es id f l) g refl
+-- one becomes known
+pub keeps_known : (but : Option ℕ) (es : List (ℕ × Entry)) (ids : Ids) (q : List Event) (a : Config) (x : Option Ended)
+    (id : ℕ) (e f : Entry) → entry_at es id ≡ Some e → f.told ≡ becomes_known e.told
+    → own_in (Some f) ≡ own_in (Some e) → theirs_in (Some f) ≡ theirs_in (Some e) → reads_in (Some f) ≡ reads_in (Some e)
+    → KeepsAll but [] es ids q a x (set_value (is_at (nat_cmp id)) es f) ids q a x
+keeps_known but es ids q a x id e f h t o l r = Kept
+    (untouched_set es id f (inl (o ∙ sym (ap own_in h)))) (left_set es id f (inl (l ∙ sym (ap theirs_in h))))
+    (goes_known es ids q id e f h t) refl (λ n. n) (λ n s. lasts_known but es q id e f h t o r)
+
+-- an event of the queue is told
+pub keeps_told_first : (es : List (ℕ × Entry)) (ids : Ids) (ev said : Event) (q r : List Event) (a : Config)
+    (x : Option Ended) → q ≡ ev ∷ r → said.stream ≡ ev.stream → said.kind ≡ ev.kind
+    → KeepsAll None (said ∷ []) es ids q a x es ids r a x
+keeps_told_first es ids ev said q r a x h stream kind = Kept (untouched_refl es) (left_all es)
+    (goes_told_first es ids ev said q r h stream kind) refl (λ n. n)
+    (λ n s. lasts_adds None es (adds_first q r ev said h stream kind))
+
+word_same : (id : ℕ) (h : Halves) (m n : ℕ) (j k : EventKind) → m ≡ n → j ≡ k
+    → after_if (m == id) (ending_told j) h ≡ after_if (n == id) (ending_told k) h
+word_same id h m n j k at kind = rw (at, kind) refl
+
+lasts_as : (but : Option ℕ) (es fs : List (ℕ × Entry)) (q r : List Event) (ev said : Event)
+    → said.stream ≡ ev.stream → said.kind ≡ ev.kind → Lasts but (ev ∷ []) es q fs r → Lasts but (said ∷ []) es q fs r
+lasts_as but es fs q r ev said at kind g = record {
+  holds = λ id h p. subst (λ y. Holds (after_queued id r y) (but_for but id (halves_at fs id)))
+      (sym (word_same id (but_for but id h) said.stream ev.stream said.kind ev.kind at kind)) (g.holds id h p);
+  over = λ id h p. ap (λ y. after_queued id r y) (word_same id h said.stream ev.stream said.kind ev.kind at kind)
+      ∙ g.over id h p;
+}
+
+goes_as : (es fs : List (ℕ × Entry)) (ids jds : Ids) (q r : List Event) (ev said : Event)
+    → said.stream ≡ ev.stream → said.kind ≡ ev.kind → Goes (ev ∷ []) es ids q fs jds r → Goes (said ∷ []) es ids q fs jds r
+goes_as es fs ids jds q r ev said at kind g = record {
+  seen = g.seen;
+  sound = g.sound;
+  told = λ s id p a. rw (at, kind) (g.told s id p a);
+}
+
+-- an event is told that says the same of the same stream
+pub keeps_as : (es fs : List (ℕ × Entry)) (ids jds : Ids) (q r : List Event) (a b : Config) (x y : Option Ended)
+    (ev said : Event) → said.stream ≡ ev.stream → said.kind ≡ ev.kind
+    → KeepsAll None (ev ∷ []) es ids q a x fs jds r b y → KeepsAll None (said ∷ []) es ids q a x fs jds r b y
+keeps_as es fs ids jds q r a b x y ev said at kind (Kept o l g e n h) = Kept o l
+    (goes_as es fs ids jds q r ev said at kind g) e n (λ t s. lasts_as None es fs q r ev said at kind (h t s))
+
+-- one that says nothing of halves is dropped
+pub keeps_dropped : (es : List (ℕ × Entry)) (ids : Ids) (ev : Event) (q r : List Event) (a : Config) (x : Option Ended)
+    → q ≡ ev ∷ r → ends (word_of ev.kind) ≡ false → ending_queued ev.kind ≡ None
+    → KeepsAll None [] es ids q a x es ids r a x
+keeps_dropped es ids ev q r a x h n w = Kept (untouched_refl es) (left_all es) (goes_dropped es ids ev q r h n) refl
+    (λ n. n) (λ n s. lasts_adds None es (adds_dropped q r ev h w))
 
 -- no stream changes, and what is told goes on
-pub keeps_by_goes : (said : List Event) (es : List (ℕ × Entry)) (ids jds : Ids) (q r : List Event) (a : Config)
-    → Goes said es ids q es jds r → KeepsAll said es ids q a es jds r a
-keeps_by_goes said es ids jds q r a g = Kept (untouched_refl es) (left_all es) g refl
+pub keeps_by_goes : (but : Option ℕ) (said : List Event) (es : List (ℕ × Entry)) (ids jds : Ids) (q r : List Event)
+    (a : Config) (x : Option Ended) → Goes said es ids q es jds r → Adds said q r
+    → KeepsAll but said es ids q a x es jds r a x
+keeps_by_goes but said es ids jds q r a x g h = Kept (untouched_refl es) (left_all es) g refl (λ n. n)
+    (λ n s. lasts_adds but es h)
 
-pub keeps_own : {said : List Event} {es fs : List (ℕ × Entry)} {ids jds : Ids} {q r : List Event} {a b : Config}
-    → KeepsAll said es ids q a fs jds r b → Untouched es fs
-keeps_own (Kept o l g e) = o
+-- the connection ends
+pub keeps_at_end : (but : Option ℕ) (said : List Event) (es : List (ℕ × Entry)) (ids jds : Ids) (q r : List Event)
+    (a : Config) (x y : Option Ended) → Goes said es ids q es jds r → is_some y ≡ true
+    → KeepsAll but said es ids q a x es jds r a y
+keeps_at_end but said es ids jds q r a x y g over = Kept (untouched_refl es) (left_all es) g refl (λ h. over)
+    (λ n s. absurd (let bad : true ≡ false = sym over ∙ n in cc))
 
-pub keeps_left : {said : List Event} {es fs : List (ℕ × Entry)} {ids jds : Ids} {q r : List Event} {a b : Config}
-    → KeepsAll said es ids q a fs jds r b → Left es fs
-keeps_left (Kept o l g e) = l
+pub keeps_own : {but : Option ℕ} {said : List Event} {es fs : List (ℕ × Entry)} {ids jds : Ids} {q r : List Event}
+    {a b : Config} {x y : Option Ended} → KeepsAll but said es ids q a x fs jds r b y → Untouched es fs
+keeps_own (Kept o l g e n h) = o
 
-pub keeps_goes : {said : List Event} {es fs : List (ℕ × Entry)} {ids jds : Ids} {q r : List Event} {a b : Config}
-    → KeepsAll said es ids q a fs jds r b → Goes said es ids q fs jds r
-keeps_goes (Kept o l g e) = g
+pub keeps_left : {but : Option ℕ} {said : List Event} {es fs : List (ℕ × Entry)} {ids jds : Ids} {q r : List Event}
+    {a b : Config} {x y : Option Ended} → KeepsAll but said es ids q a x fs jds r b y → Left es fs
+keeps_left (Kept o l g e n h) = l
 
-pub keeps_config : {said : List Event} {es fs : List (ℕ × Entry)} {ids jds : Ids} {q r : List Event} {a b : Config}
-    → KeepsAll said es ids q a fs jds r b → b ≡ a
-keeps_config (Kept o l g e) = e
+pub keeps_goes : {but : Option ℕ} {said : List Event} {es fs : List (ℕ × Entry)} {ids jds : Ids} {q r : List Event}
+    {a b : Config} {x y : Option Ended} → KeepsAll but said es ids q a x fs jds r b y → Goes said es ids q fs jds r
+keeps_goes (Kept o l g e n h) = g
+
+pub keeps_config : {but : Option ℕ} {said : List Event} {es fs : List (ℕ × Entry)} {ids jds : Ids} {q r : List Event}
+    {a b : Config} {x y : Option Ended} → KeepsAll but said es ids q a x fs jds r b y → b ≡ a
+keeps_config (Kept o l g e n h) = e
+
+pub keeps_lasts : {but : Option ℕ} {said : List Event} {es fs : List (ℕ × Entry)} {ids jds : Ids} {q r : List Event}
+    {a b : Config} {x y : Option Ended} → KeepsAll but said es ids q a x fs jds r b y
+    → is_some y ≡ false → Sound es ids → Lasts but said es q fs r
+keeps_lasts (Kept o l g e n h) = h
 
 -- on a stream that is over nothing is sent later
-pub keeps_over_own : {said : List Event} {es fs : List (ℕ × Entry)} {ids jds : Ids} {q r : List Event} {a b : Config}
-    (id : ℕ) → own_at es id ≡ Over → KeepsAll said es ids q a fs jds r b → own_at fs id ≡ Over
-keeps_over_own {said} {es} {fs} id h (Kept o l g e) = own_over (own_at es id) (own_at fs id) h (o.each id)
+pub keeps_over_own : {but : Option ℕ} {said : List Event} {es fs : List (ℕ × Entry)} {ids jds : Ids} {q r : List Event}
+    {a b : Config} {x y : Option Ended} (id : ℕ) → own_at es id ≡ Over → KeepsAll but said es ids q a x fs jds r b y
+    → own_at fs id ≡ Over
+keeps_over_own {but} {said} {es} {fs} id h k = own_over (own_at es id) (own_at fs id) h ((keeps_own k).each id)
   where
     own_over : (x y : Own) → x ≡ Over → IsUntouched x y → y ≡ Over
     own_over x y h (inl p) = p ∙ h
     own_over x y h (inr p) = p
 
-pub keeps_ends : (ds : List (ℕ × Entry)) {said : List Event} {es fs : List (ℕ × Entry)} {ids jds : Ids} {q r : List Event}
-    {a b : Config} (id : ℕ) → EndsOwn id ds es → KeepsAll said es ids q a fs jds r b → EndsOwn id ds fs
+pub keeps_ends : (ds : List (ℕ × Entry)) {but : Option ℕ} {said : List Event} {es fs : List (ℕ × Entry)} {ids jds : Ids}
+    {q r : List Event} {a b : Config} {x y : Option Ended} (id : ℕ) → EndsOwn id ds es
+    → KeepsAll but said es ids q a x fs jds r b y → EndsOwn id ds fs
 keeps_ends ds id (inl h) k = inl (keeps_over_own id h k)
 keeps_ends ds id (inr h) k = inr h
 
 -- what is read no further is not read later
-pub keeps_gone : {said : List Event} {es fs : List (ℕ × Entry)} {ids jds : Ids} {q r : List Event} {a b : Config} (id : ℕ)
-    → theirs_at es id ≡ Gone → KeepsAll said es ids q a fs jds r b → theirs_at fs id ≡ Gone
-keeps_gone {said} {es} {fs} id h k = gone_left es fs id h (keeps_left k)
+pub keeps_gone : {but : Option ℕ} {said : List Event} {es fs : List (ℕ × Entry)} {ids jds : Ids} {q r : List Event}
+    {a b : Config} {x y : Option Ended} (id : ℕ)
+    → theirs_at es id ≡ Gone → KeepsAll but said es ids q a x fs jds r b y → theirs_at fs id ≡ Gone
+keeps_gone {but} {said} {es} {fs} id h k = gone_left es fs id h (keeps_left k)
+
+-- ---- halves that end
+
+-- an event of one half is not the last one of its stream
+ends_not : (k : EventKind) (w : Ending) → ending_queued k ≡ Some w → (w ≡ OfBoth → ⊥) → ends (word_of k) ≡ false
+ends_not (event.Stopped code) w h n = refl
+ends_not (event.Reset code) w h n = refl
+ends_not (event.Closed why) w h n = absurd (n (let same : w ≡ OfBoth = cc in same))
+ends_not other w h n = absurd (let bad : None ≡ Some w = h in cc)
+
+-- a stream changes of whose halves nothing is said
+pub keeps_but_set : (es : List (ℕ × Entry)) (ids : Ids) (q : List Event) (a : Config) (x : Option Ended) (id : ℕ) (f : Entry)
+    → IsUntouched (own_at es id) (own_in (Some f)) → IsLeft (theirs_at es id) (theirs_in (Some f))
+    → status_in (entry_at es id) ≡ Some f.told
+    → KeepsAll (Some id) [] es ids q a x (set_value (is_at (nat_cmp id)) es f) ids q a x
+keeps_but_set es ids q a x id f o l t = Kept (untouched_set es id f o) (left_set es id f l) (goes_set es ids q id f t) refl
+    (λ n. n) (λ n s. lasts_but_set es q id f t)
+
+-- what is kept of all streams is of all but one
+pub keeps_weak : (id : ℕ) {es fs : List (ℕ × Entry)} {ids jds : Ids} {q r : List Event} {a b : Config} {x y : Option Ended}
+    → KeepsAll None [] es ids q a x fs jds r b y → KeepsAll (Some id) [] es ids q a x fs jds r b y
+keeps_weak id {es} {fs} {ids} {jds} {q} {r} (Kept o l g e n h) =
+    Kept o l g e n (λ t s. lasts_weak id es fs q r (h t s))
+
+-- what is kept, and then what is kept but for one stream
+pub keeps_then_but : (id : ℕ) (es fs gs : List (ℕ × Entry)) (ids jds kds : Ids) (q r s : List Event) (a b c : Config)
+    (x y z : Option Ended) → KeepsAll None [] es ids q a x fs jds r b y → KeepsAll (Some id) [] fs jds r b y gs kds s c z
+    → KeepsAll (Some id) [] es ids q a x gs kds s c z
+keeps_then_but id es fs gs ids jds kds q r s a b c x y z g h =
+    keeps_trans (Some id) [] es fs gs ids jds kds q r s a b c x y z (keeps_weak id g) h
+
+-- and of that one, too, if the program does not know of it
+pub keeps_unknown : (id : ℕ) {es fs : List (ℕ × Entry)} {ids jds : Ids} {q r : List Event} {a b : Config}
+    {x y : Option Ended} → knows_of (entry_at es id) ≡ false → KeepsAll (Some id) [] es ids q a x fs jds r b y
+    → KeepsAll None [] es ids q a x fs jds r b y
+keeps_unknown id {es} {fs} {ids} {jds} {q} {r} u (Kept o l g e n h) =
+    Kept o l g e n (λ t s. lasts_unknown id es fs q r u (h t s))
+
+-- that the own half is stopped is queued, and it ends
+stopped_at : (es : List (ℕ × Entry)) (ids : Ids) (q : List Event) (a : Config) (x : Option Ended) (ev : Event)
+    (e f : Entry) → entry_at es ev.stream ≡ Some e → is_known e.told ≡ true → ending_queued ev.kind ≡ Some OfOwn
+    → f.told ≡ e.told → own_in (Some f) ≡ Over → theirs_in (Some f) ≡ theirs_in (Some e)
+    → reads_in (Some f) ≡ reads_in (Some e)
+    → KeepsAll None [] es ids q a x (set_value (is_at (nat_cmp ev.stream)) es f) ids (q ++ (ev ∷ [])) a x
+stopped_at es ids q a x ev e f there known word t o l r = Kept
+    (untouched_set es ev.stream f (inr o)) (left_set es ev.stream f (inl (l ∙ sym (ap theirs_in there))))
+    (goes_then [] [] es es (set_value (is_at (nat_cmp ev.stream)) es f) ids ids ids q (q ++ (ev ∷ [])) (q ++ (ev ∷ []))
+    (goes_queued es ids q ev (ap knows_of there ∙ known) (ends_not ev.kind OfOwn word (λ h. let bad : OfOwn ≡ OfBoth = h in cc)))
+    (goes_set es ids (q ++ (ev ∷ [])) ev.stream f (ap status_in there ∙ ap Some (sym t))))
+    refl (λ n. n)
+    (λ n s. lasts_queued_set es q ev e f there
+    (holds_by_word (ending_queued ev.kind) (Some OfOwn) (halves_in (Some e)) (halves_in (Some f)) word
+    (holds_stopped e f t r)))
+
+pub keeps_stopped : (es fs : List (ℕ × Entry)) (ids : Ids) (q r : List Event) (a : Config) (x : Option Ended) (id : ℕ)
+    (ev : Event) (e f : Entry) → r ≡ q ++ (ev ∷ []) → ev.stream ≡ id → fs ≡ set_value (is_at (nat_cmp id)) es f
+    → entry_at es id ≡ Some e → is_known e.told ≡ true → ending_queued ev.kind ≡ Some OfOwn
+    → f.told ≡ e.told → own_in (Some f) ≡ Over → theirs_in (Some f) ≡ theirs_in (Some e)
+    → reads_in (Some f) ≡ reads_in (Some e) → KeepsAll None [] es ids q a x fs ids r a x
+keeps_stopped es fs ids q r a x id ev e f queued at set there known word t o l n =
+    subst (λ z. KeepsAll None [] es ids q a x fs ids z a x) (sym queued)
+    (subst (λ z. KeepsAll None [] es ids q a x z ids (q ++ (ev ∷ [])) a x)
+    (ap (λ m. set_value (is_at (nat_cmp m)) es f) at ∙ sym set)
+    (stopped_at es ids q a x ev e f (ap (λ m. entry_at es m) at ∙ there) known word t o l n))
+
+-- that the peer's half is reset is queued, and it is read no further
+reset_at : (es : List (ℕ × Entry)) (ids : Ids) (q : List Event) (a : Config) (x : Option Ended) (ev : Event)
+    (e f : Entry) → entry_at es ev.stream ≡ Some e → is_known e.told ≡ true → ending_queued ev.kind ≡ Some OfPeer
+    → f.told ≡ e.told → own_in (Some f) ≡ own_in (Some e) → theirs_in (Some f) ≡ Gone
+    → KeepsAll None [] es ids q a x (set_value (is_at (nat_cmp ev.stream)) es f) ids (q ++ (ev ∷ [])) a x
+reset_at es ids q a x ev e f there known word t o l = Kept
+    (untouched_set es ev.stream f (inl (o ∙ sym (ap own_in there)))) (left_set es ev.stream f (inr l))
+    (goes_then [] [] es es (set_value (is_at (nat_cmp ev.stream)) es f) ids ids ids q (q ++ (ev ∷ [])) (q ++ (ev ∷ []))
+    (goes_queued es ids q ev (ap knows_of there ∙ known) (ends_not ev.kind OfPeer word (λ h. let bad : OfPeer ≡ OfBoth = h in cc)))
+    (goes_set es ids (q ++ (ev ∷ [])) ev.stream f (ap status_in there ∙ ap Some (sym t))))
+    refl (λ n. n)
+    (λ n s. lasts_queued_set es q ev e f there
+    (holds_by_word (ending_queued ev.kind) (Some OfPeer) (halves_in (Some e)) (halves_in (Some f)) word
+    (holds_ended e f t o)))
+
+pub keeps_reset : (es fs : List (ℕ × Entry)) (ids : Ids) (q r : List Event) (a : Config) (x : Option Ended) (id : ℕ)
+    (ev : Event) (e f : Entry) → r ≡ q ++ (ev ∷ []) → ev.stream ≡ id → fs ≡ set_value (is_at (nat_cmp id)) es f
+    → entry_at es id ≡ Some e → is_known e.told ≡ true → ending_queued ev.kind ≡ Some OfPeer
+    → f.told ≡ e.told → own_in (Some f) ≡ own_in (Some e) → theirs_in (Some f) ≡ Gone
+    → KeepsAll None [] es ids q a x fs ids r a x
+keeps_reset es fs ids q r a x id ev e f queued at set there known word t o l =
+    subst (λ z. KeepsAll None [] es ids q a x fs ids z a x) (sym queued)
+    (subst (λ z. KeepsAll None [] es ids q a x z ids (q ++ (ev ∷ [])) a x)
+    (ap (λ m. set_value (is_at (nat_cmp m)) es f) at ∙ sym set)
+    (reset_at es ids q a x ev e f (ap (λ m. entry_at es m) at ∙ there) known word t o l))
+
+-- the end of the peer's half is told, and it is read no further
+end_at : (es : List (ℕ × Entry)) (ids : Ids) (q : List Event) (a : Config) (x : Option Ended) (ev : Event)
+    (e f : Entry) → entry_at es ev.stream ≡ Some e → is_known e.told ≡ true → ev.kind ≡ event.End
+    → f.told ≡ e.told → own_in (Some f) ≡ own_in (Some e) → theirs_in (Some f) ≡ Gone
+    → KeepsAll None (ev ∷ []) es ids q a x (set_value (is_at (nat_cmp ev.stream)) es f) ids q a x
+end_at es ids q a x ev e f there known kind t o l = Kept
+    (untouched_set es ev.stream f (inl (o ∙ sym (ap own_in there)))) (left_set es ev.stream f (inr l))
+    (goes_after (ev ∷ []) es es (set_value (is_at (nat_cmp ev.stream)) es f) ids ids ids q q q
+    (goes_tells es ids q ev (ap knows_of there ∙ known) (ap (λ k. ends (word_of k)) kind))
+    (goes_set es ids q ev.stream f (ap status_in there ∙ ap Some (sym t))))
+    refl (λ n. n)
+    (λ n s. lasts_told_set es q ev e f there
+    (holds_by_word (ending_told ev.kind) (Some OfPeer) (halves_in (Some e)) (halves_in (Some f))
+    (ap (λ k. ending_told k) kind) (holds_ended e f t o)))
+
+pub keeps_end : (es fs : List (ℕ × Entry)) (ids : Ids) (q : List Event) (a : Config) (x : Option Ended) (id : ℕ)
+    (ev : Event) (e f : Entry) → ev.stream ≡ id → fs ≡ set_value (is_at (nat_cmp id)) es f
+    → entry_at es id ≡ Some e → is_known e.told ≡ true → ev.kind ≡ event.End
+    → f.told ≡ e.told → own_in (Some f) ≡ own_in (Some e) → theirs_in (Some f) ≡ Gone
+    → KeepsAll None (ev ∷ []) es ids q a x fs ids q a x
+keeps_end es fs ids q a x id ev e f at set there known kind t o l =
+    subst (λ z. KeepsAll None (ev ∷ []) es ids q a x z ids q a x)
+    (ap (λ m. set_value (is_at (nat_cmp m)) es f) at ∙ sym set)
+    (end_at es ids q a x ev e f (ap (λ m. entry_at es m) at ∙ there) known kind t o l)
+
+-- a half that is read no further may be dropped
+pub keeps_gone_set : (es : List (ℕ × Entry)) (ids : Ids) (q : List Event) (a : Config) (x : Option Ended) (id : ℕ) (f : Entry)
+    → theirs_at es id ≡ Gone → theirs_in (Some f) ≡ Gone → own_in (Some f) ≡ own_at es id
+    → status_in (entry_at es id) ≡ Some f.told
+    → KeepsAll None [] es ids q a x (set_value (is_at (nat_cmp id)) es f) ids q a x
+keeps_gone_set es ids q a x id f before now o t = Kept
+    (untouched_set es id f (inl o)) (left_set es id f (inr now)) (goes_set es ids q id f t) refl (λ n. n)
+    (λ n s. lasts_set None es q id f t (inr (o, reads_gone (Some f) now ∙ sym (reads_gone (entry_at es id) before))))
 
 -- ---- bytes of the peer may be read
 
-pub holds_of : (said : List Event) (es fs : List (ℕ × Entry)) (ids jds : Ids) (q r : List Event) (a b : Config)
+pub holds_of : (but : Option ℕ) (said : List Event) (es fs : List (ℕ × Entry)) (ids jds : Ids) (q r : List Event)
+    (a b : Config) (x y : Option Ended)
     → (a.on_malformed ≡ chosen.Reset → UntouchedOrNew ids es fs) → Goes said es ids q fs jds r → b ≡ a
-    → KeepsOwnAll said es ids q a fs jds r b
-holds_of said es fs ids jds q r a b o g e = KeptOwn o g e
+    → (is_some x ≡ true → is_some y ≡ true)
+    → (a.on_malformed ≡ chosen.Reset → is_some y ≡ false → Sound es ids → Lasts but said es q fs r)
+    → KeepsOwnAll but said es ids q a x fs jds r b y
+holds_of but said es fs ids jds q r a b x y o g e n h = KeptOwn o g e n h
 
-pub keeps_holds : {said : List Event} {es fs : List (ℕ × Entry)} {ids jds : Ids} {q r : List Event} {a b : Config}
-    → KeepsAll said es ids q a fs jds r b → KeepsOwnAll said es ids q a fs jds r b
-keeps_holds {said} {es} {fs} {ids} (Kept o l g e) = KeptOwn (λ m. new_of ids o) g e
+pub keeps_holds : {but : Option ℕ} {said : List Event} {es fs : List (ℕ × Entry)} {ids jds : Ids} {q r : List Event}
+    {a b : Config} {x y : Option Ended} → KeepsAll but said es ids q a x fs jds r b y
+    → KeepsOwnAll but said es ids q a x fs jds r b y
+keeps_holds {but} {said} {es} {fs} {ids} (Kept o l g e n h) = KeptOwn (λ m. new_of ids o) g e n (λ m. h)
 
-pub holds_refl : (es : List (ℕ × Entry)) (ids : Ids) (q : List Event) (a : Config) → KeepsOwnAll [] es ids q a es ids q a
-holds_refl es ids q a = keeps_holds (keeps_refl es ids q a)
+pub holds_refl : (but : Option ℕ) (es : List (ℕ × Entry)) (ids : Ids) (q : List Event) (a : Config) (x : Option Ended)
+    → KeepsOwnAll but [] es ids q a x es ids q a x
+holds_refl but es ids q a x = keeps_holds (keeps_refl but es ids q a x)
 
-pub holds_trans : (said : List Event) (es fs gs : List (ℕ × Entry)) (ids jds kds : Ids) (q r s : List Event)
-    (a b c : Config) → KeepsOwnAll [] es ids q a fs jds r b → KeepsOwnAll said fs jds r b gs kds s c
-    → KeepsOwnAll said es ids q a gs kds s c
-holds_trans said es fs gs ids jds kds q r s a b c (KeptOwn o g e) (KeptOwn p h f) =
-    KeptOwn (λ m. new_trans g.seen (o m) (p (rw e m))) (goes_then [] said es fs gs ids jds kds q r s g h) (f ∙ e)
+pub holds_trans : (but : Option ℕ) (said : List Event) (es fs gs : List (ℕ × Entry)) (ids jds kds : Ids)
+    (q r s : List Event) (a b c : Config) (x y z : Option Ended) → KeepsOwnAll but [] es ids q a x fs jds r b y
+    → KeepsOwnAll but said fs jds r b y gs kds s c z → KeepsOwnAll but said es ids q a x gs kds s c z
+holds_trans but said es fs gs ids jds kds q r s a b c x y z (KeptOwn o g e m h) (KeptOwn p i f n j) =
+    KeptOwn (λ k. new_trans g.seen (o k) (p (rw e k))) (goes_then [] said es fs gs ids jds kds q r s g i) (f ∙ e)
+    (λ t. n (m t))
+    (λ k t v. lasts_trans but said es fs gs q r s (h k (was_not (is_some y) (is_some z) n t) v) (j (rw e k) t (g.sound v)))
 
-pub holds_after : (said : List Event) (es fs gs : List (ℕ × Entry)) (ids jds kds : Ids) (q r s : List Event)
-    (a b c : Config) → KeepsOwnAll said es ids q a fs jds r b → KeepsOwnAll [] fs jds r b gs kds s c
-    → KeepsOwnAll said es ids q a gs kds s c
-holds_after said es fs gs ids jds kds q r s a b c (KeptOwn o g e) (KeptOwn p h f) =
-    KeptOwn (λ m. new_trans g.seen (o m) (p (rw e m))) (goes_after said es fs gs ids jds kds q r s g h) (f ∙ e)
+pub holds_after : (but : Option ℕ) (said : List Event) (es fs gs : List (ℕ × Entry)) (ids jds kds : Ids)
+    (q r s : List Event) (a b c : Config) (x y z : Option Ended) → KeepsOwnAll but said es ids q a x fs jds r b y
+    → KeepsOwnAll but [] fs jds r b y gs kds s c z → KeepsOwnAll but said es ids q a x gs kds s c z
+holds_after but said es fs gs ids jds kds q r s a b c x y z (KeptOwn o g e m h) (KeptOwn p i f n j) =
+    KeptOwn (λ k. new_trans g.seen (o k) (p (rw e k))) (goes_after said es fs gs ids jds kds q r s g i) (f ∙ e)
+    (λ t. n (m t))
+    (λ k t v. lasts_after but said es fs gs q r s (h k (was_not (is_some y) (is_some z) n t) v) (j (rw e k) t (g.sound v)))
 
--- one stream changes, of which the program knows what it knew
-pub holds_set : (es : List (ℕ × Entry)) (ids : Ids) (q : List Event) (a : Config) (id : ℕ) (f : Entry)
+-- one stream changes, of which the program knows what it knew, and whose halves go on
+pub holds_set : (but : Option ℕ) (es : List (ℕ × Entry)) (ids : Ids) (q : List Event) (a : Config) (x : Option Ended)
+    (id : ℕ) (f : Entry)
     → IsUntouched (own_at es id) (own_in (Some f)) → status_in (entry_at es id) ≡ Some f.told
-    → KeepsOwnAll [] es ids q a (set_value (is_at (nat_cmp id)) es f) ids q a
-holds_set es ids q a id f o t = KeptOwn (λ m. new_of ids (untouched_set es id f o)) (goes_set es ids q id f t) refl
+    → IsLasting (entry_at es id) (Some f)
+    → KeepsOwnAll but [] es ids q a x (set_value (is_at (nat_cmp id)) es f) ids q a x
+holds_set but es ids q a x id f o t h = KeptOwn (λ m. new_of ids (untouched_set es id f o)) (goes_set es ids q id f t) refl
+    (λ n. n) (λ m n s. lasts_set but es q id f t h)
 
-pub holds_own : {said : List Event} {es fs : List (ℕ × Entry)} {ids jds : Ids} {q r : List Event} {a b : Config}
-    → KeepsOwnAll said es ids q a fs jds r b → a.on_malformed ≡ chosen.Reset → UntouchedOrNew ids es fs
-holds_own (KeptOwn o g e) m = o m
+reads_same : (p r : Peer) (b c : Bool) → r ≡ p → c ≡ b → reads_by r c ≡ reads_by p b
+reads_same p r b c h g = rw (h, g) refl
 
-pub holds_goes : {said : List Event} {es fs : List (ℕ × Entry)} {ids jds : Ids} {q r : List Event} {a b : Config}
-    → KeepsOwnAll said es ids q a fs jds r b → Goes said es ids q fs jds r
-holds_goes (KeptOwn o g e) = g
+-- bytes of one stream are read
+pub holds_looked : (but : Option ℕ) (es : List (ℕ × Entry)) (ids : Ids) (q : List Event) (a : Config) (x : Option Ended)
+    (id : ℕ) (e f : Entry) → entry_at es id ≡ Some e → f.told ≡ e.told → f.writing ≡ e.writing → f.peer ≡ e.peer
+    → f.is_decoder ≡ e.is_decoder
+    → KeepsOwnAll but [] es ids q a x (set_value (is_at (nat_cmp id)) es f) ids q a x
+holds_looked but es ids q a x id e f there told own peer decoder = holds_set but es ids q a x id f
+    (inl (ap own_of own ∙ sym (ap own_in there))) (ap status_in there ∙ ap Some (sym told))
+    (inr (
+      ap own_of own ∙ sym (ap own_in there),
+      reads_same e.peer f.peer e.is_decoder f.is_decoder peer decoder ∙ sym (ap reads_in there),
+    ))
 
-pub holds_config : {said : List Event} {es fs : List (ℕ × Entry)} {ids jds : Ids} {q r : List Event} {a b : Config}
-    → KeepsOwnAll said es ids q a fs jds r b → b ≡ a
-holds_config (KeptOwn o g e) = e
+pub holds_own : {but : Option ℕ} {said : List Event} {es fs : List (ℕ × Entry)} {ids jds : Ids} {q r : List Event}
+    {a b : Config} {x y : Option Ended} → KeepsOwnAll but said es ids q a x fs jds r b y → a.on_malformed ≡ chosen.Reset
+    → UntouchedOrNew ids es fs
+holds_own (KeptOwn o g e n h) m = o m
+
+pub holds_goes : {but : Option ℕ} {said : List Event} {es fs : List (ℕ × Entry)} {ids jds : Ids} {q r : List Event}
+    {a b : Config} {x y : Option Ended} → KeepsOwnAll but said es ids q a x fs jds r b y → Goes said es ids q fs jds r
+holds_goes (KeptOwn o g e n h) = g
+
+pub holds_config : {but : Option ℕ} {said : List Event} {es fs : List (ℕ × Entry)} {ids jds : Ids} {q r : List Event}
+    {a b : Config} {x y : Option Ended} → KeepsOwnAll but said es ids q a x fs jds r b y → b ≡ a
+holds_config (KeptOwn o g e n h) = e
+
+pub holds_lasts : {but : Option ℕ} {said : List Event} {es fs : List (ℕ × Entry)} {ids jds : Ids} {q r : List Event}
+    {a b : Config} {x y : Option Ended} → KeepsOwnAll but said es ids q a x fs jds r b y
+    → a.on_malformed ≡ chosen.Reset → is_some y ≡ false → Sound es ids → Lasts but said es q fs r
+holds_lasts (KeptOwn o g e n h) = h
+
+-- a malformed message is answered, since the configuration says so
+pub holds_answered : (but : Option ℕ) (said : List Event) (es fs : List (ℕ × Entry)) (ids jds : Ids) (q r : List Event)
+    (a b : Config) (x y : Option Ended) → (a.on_malformed ≡ chosen.Reset → ⊥)
+    → Goes said es ids q fs jds r → b ≡ a → (is_some x ≡ true → is_some y ≡ true)
+    → KeepsOwnAll but said es ids q a x fs jds r b y
+holds_answered but said es fs ids jds q r a b x y other g e n =
+    KeptOwn (λ m. absurd (other m)) g e n (λ m. absurd (other m))
+
+-- what is kept of all streams is of all but one
+pub holds_weak : (id : ℕ) {es fs : List (ℕ × Entry)} {ids jds : Ids} {q r : List Event} {a b : Config}
+    {x y : Option Ended} → KeepsOwnAll None [] es ids q a x fs jds r b y
+    → KeepsOwnAll (Some id) [] es ids q a x fs jds r b y
+holds_weak id {es} {fs} {ids} {jds} {q} {r} (KeptOwn o g e n h) =
+    KeptOwn o g e n (λ m t s. lasts_weak id es fs q r (h m t s))
+
+-- and of that one, too, if the program does not know of it
+pub hold_unknown : (id : ℕ) {es fs : List (ℕ × Entry)} {ids jds : Ids} {q r : List Event} {a b : Config}
+    {x y : Option Ended} → knows_of (entry_at es id) ≡ false → KeepsOwnAll (Some id) [] es ids q a x fs jds r b y
+    → KeepsOwnAll None [] es ids q a x fs jds r b y
+hold_unknown id {es} {fs} {ids} {jds} {q} {r} u (KeptOwn o g e n h) =
+    KeptOwn o g e n (λ m t s. lasts_unknown id es fs q r u (h m t s))
 
 -- ---- for proofs by hand
 
-pub keeps_then : {said : List Event} {es fs gs : List (ℕ × Entry)} {ids jds kds : Ids} {q r s : List Event}
-    {a b c : Config} → KeepsAll [] es ids q a fs jds r b → KeepsAll said fs jds r b gs kds s c
-    → KeepsAll said es ids q a gs kds s c
-keeps_then {said} {es} {fs} {gs} {ids} {jds} {kds} {q} {r} {s} {a} {b} {c} g h =
-    keeps_trans said es fs gs ids jds kds q r s a b c g h
+pub keeps_then : {but : Option ℕ} {said : List Event} {es fs gs : List (ℕ × Entry)} {ids jds kds : Ids}
+    {q r s : List Event} {a b c : Config} {x y z : Option Ended}
+    → KeepsAll but [] es ids q a x fs jds r b y → KeepsAll but said fs jds r b y gs kds s c z
+    → KeepsAll but said es ids q a x gs kds s c z
+keeps_then {but} {said} {es} {fs} {gs} {ids} {jds} {kds} {q} {r} {s} {a} {b} {c} {x} {y} {z} g h =
+    keeps_trans but said es fs gs ids jds kds q r s a b c x y z g h
 
-pub holds_then : {said : List Event} {es fs gs : List (ℕ × Entry)} {ids jds kds : Ids} {q r s : List Event}
-    {a b c : Config} → KeepsOwnAll [] es ids q a fs jds r b → KeepsOwnAll said fs jds r b gs kds s c
-    → KeepsOwnAll said es ids q a gs kds s c
-holds_then {said} {es} {fs} {gs} {ids} {jds} {kds} {q} {r} {s} {a} {b} {c} g h =
-    holds_trans said es fs gs ids jds kds q r s a b c g h
+pub holds_then : {but : Option ℕ} {said : List Event} {es fs gs : List (ℕ × Entry)} {ids jds kds : Ids}
+    {q r s : List Event} {a b c : Config} {x y z : Option Ended} → KeepsOwnAll but [] es ids q a x fs jds r b y
+    → KeepsOwnAll but said fs jds r b y gs kds s c z → KeepsOwnAll but said es ids q a x gs kds s c z
+holds_then {but} {said} {es} {fs} {gs} {ids} {jds} {kds} {q} {r} {s} {a} {b} {c} {x} {y} {z} g h =
+    holds_trans but said es fs gs ids jds kds q r s a b c x y z g h
 
 -- ---- whole connections
 
 untouched_same : (es fs : List (ℕ × Entry)) → fs ≡ es → Untouched es fs
 untouched_same es fs h = rw h (untouched_refl es)
 
+lasts_same : (es fs : List (ℕ × Entry)) (q r : List Event) → fs ≡ es → r ≡ q → Lasts None [] es q fs r
+lasts_same es fs q r h g = rw (h, g) (lasts_refl None es q)
+
 -- nothing changes, and then that
 pub holds_still : (said : List Event) (c d e : Connection) → IsStill c d → KeepsOwn said d e → KeepsOwn said c e
-holds_still said c d e h k = holds_trans said c.streams.entries d.streams.entries e.streams.entries c.ids d.ids e.ids
-    c.events.items d.events.items e.events.items c.config d.config e.config
-    (KeptOwn (λ m. new_of c.ids (untouched_same c.streams.entries d.streams.entries (ap (λ v. v.streams) h))) (goes_still c d h)
-    (ap (λ v. v.config) h)) k
+holds_still said c d e h k = holds_then
+    (KeptOwn (λ m. new_of c.ids (untouched_same c.streams.entries d.streams.entries (ap (λ v. v.streams) h)))
+    (goes_still c d h) (ap (λ v. v.config) h) (λ n. ap (λ v. is_some v.ended) h ∙ n)
+    (λ m n s. lasts_same c.streams.entries d.streams.entries c.events.items d.events.items (ap (λ v. v.streams) h)
+    (ap (λ v. v.events) h))) k
 
 -- an event of the queue is dropped, and then that
 pub holds_popped : (c d e f : Connection) → KeepsOwn [] c d → Keeps [] d e → KeepsOwn [] e f → KeepsOwn [] c f
-holds_popped c d e f g h k =
-    holds_trans [] c.streams.entries e.streams.entries f.streams.entries c.ids e.ids f.ids
-    c.events.items e.events.items f.events.items c.config e.config f.config
-    (holds_trans [] c.streams.entries d.streams.entries e.streams.entries c.ids d.ids e.ids
-    c.events.items d.events.items e.events.items c.config d.config e.config g (keeps_holds h)) k
+holds_popped c d e f g h k = holds_then (holds_then g (keeps_holds h)) k
 
 -- ---- a stream is forgotten
 
@@ -189,12 +455,14 @@ left_gone : (b : Bool) (x : Option Entry) → IsLeft (theirs_in x) (theirs_in (c
 left_gone true x = inr refl
 left_gone false x = inl refl
 
-pub keeps_removed : (es fs : List (ℕ × Entry)) (ids : Ids) (q : List Event) (a : Config) (id : ℕ) → Sets id None es fs
-    → is_some (entry_at es id) ≡ true → knows_of (entry_at es id) ≡ false → KeepsAll [] es ids q a fs ids q a
-keeps_removed es fs ids q a id sets have n = Kept
+pub keeps_removed : (es fs : List (ℕ × Entry)) (ids : Ids) (q : List Event) (a : Config) (x : Option Ended) (id : ℕ)
+    → Sets id None es fs → is_some (entry_at es id) ≡ true → knows_of (entry_at es id) ≡ false
+    → KeepsAll None [] es ids q a x fs ids q a x
+keeps_removed es fs ids q a x id sets have n = Kept
     (record { each = λ k. rw (sets k) (own_gone (is_at (nat_cmp id) k) (entry_at es k)) })
     (record { each = λ k. rw (sets k) (left_gone (is_at (nat_cmp id) k) (entry_at es k)) })
-    (goes_removed es fs ids q id sets have n) refl
+    (goes_removed es fs ids q id sets have n) refl (λ h. h)
+    (λ h s. lasts_sets None es fs q id None sets (holds_unknown (entry_at es id) (halves_in None) n))
 
 -- ---- a stream is over
 
@@ -212,59 +480,93 @@ unknown_by (Some e) es id h =
 pub ended_unknown : (es : List (ℕ × Entry)) (id : ℕ) → knows_of (entry_at (ended_at es id) id) ≡ false
 ended_unknown es id = unknown_by (entry_at es id) es id refl
 
-over_by : (o : Option Entry) (es fs : List (ℕ × Entry)) (ids : Ids) (q : List Event) (a : Config) (id : ℕ)
-    → entry_at es id ≡ o → knows_of o ≡ false → fs ≡ ended_by o id es → KeepsAll [] es ids q a fs ids q a
-over_by None es fs ids q a id there n h = rw h (keeps_refl es ids q a)
-over_by (Some e) es fs ids q a id there n h =
+over_by : (o : Option Entry) (es fs : List (ℕ × Entry)) (ids : Ids) (q : List Event) (a : Config) (x : Option Ended)
+    (id : ℕ) → entry_at es id ≡ o → knows_of o ≡ false → fs ≡ ended_by o id es → KeepsAll None [] es ids q a x fs ids q a x
+over_by None es fs ids q a x id there n h = rw h (keeps_refl None es ids q a x)
+over_by (Some e) es fs ids q a x id there n h =
     let f : Entry = record e { told = told.Over } in
     rw h (Kept (untouched_set es id f (rw there (inl refl))) (left_set es id f (rw there (inl refl)))
-    (goes_over es ids q id e f there n refl) refl)
+    (goes_over es ids q id e f there n refl) refl (λ g. g)
+    (λ g s. lasts_sets None es (set_value (is_at (nat_cmp id)) es f) q id (Some f) (set_sets es id e f there)
+    (holds_unknown (entry_at es id) (halves_in (Some f)) (ap knows_of there ∙ n))))
 
 -- one that the program does not know of
-pub keeps_over : (es fs : List (ℕ × Entry)) (ids : Ids) (q : List Event) (a : Config) (id : ℕ)
-    → knows_of (entry_at es id) ≡ false → fs ≡ ended_at es id → KeepsAll [] es ids q a fs ids q a
-keeps_over es fs ids q a id n h = over_by (entry_at es id) es fs ids q a id refl n h
+pub keeps_over : (es fs : List (ℕ × Entry)) (ids : Ids) (q : List Event) (a : Config) (x : Option Ended) (id : ℕ)
+    → knows_of (entry_at es id) ≡ false → fs ≡ ended_at es id → KeepsAll None [] es ids q a x fs ids q a x
+keeps_over es fs ids q a x id n h = over_by (entry_at es id) es fs ids q a x id refl n h
 
-closed_by : (o : Option Entry) (es fs : List (ℕ × Entry)) (ids : Ids) (q : List Event) (a : Config) (ev : Event)
-    → entry_at es ev.stream ≡ o → knows_of o ≡ true → word_of ev.kind ≡ Some Closes → fs ≡ ended_by o ev.stream es
-    → KeepsAll [] es ids q a fs ids (q ++ (ev ∷ [])) a
-closed_by None es fs ids q a ev there n word h = absurd (let bad : false ≡ true = n in cc)
-closed_by (Some e) es fs ids q a ev there n word h =
+closed_ends : (k : EventKind) → word_of k ≡ Some Closes → ending_queued k ≡ Some OfBoth
+closed_ends (event.Closed why) h = refl
+closed_ends (event.Ready a) h = absurd (let bad : None ≡ Some Closes = h in cc)
+closed_ends (event.GoAway a) h = absurd (let bad : None ≡ Some Closes = h in cc)
+closed_ends event.Idle h = absurd (let bad : None ≡ Some Closes = h in cc)
+closed_ends (event.ConnectionClosed a b) h = absurd (let bad : None ≡ Some Closes = h in cc)
+closed_ends event.DatagramsWritable h = absurd (let bad : None ≡ Some Closes = h in cc)
+closed_ends (event.Openable a) h = absurd (let bad : None ≡ Some Closes = h in cc)
+closed_ends (event.Failed a) h = absurd (let bad : Some Fails ≡ Some Closes = h in cc)
+closed_ends other h = absurd (let bad : Some Says ≡ Some Closes = h in cc)
+
+closed_told : (k : EventKind) → word_of k ≡ Some Closes → ending_told k ≡ Some OfBoth
+closed_told (event.Closed why) h = refl
+closed_told (event.Ready a) h = absurd (let bad : None ≡ Some Closes = h in cc)
+closed_told (event.GoAway a) h = absurd (let bad : None ≡ Some Closes = h in cc)
+closed_told event.Idle h = absurd (let bad : None ≡ Some Closes = h in cc)
+closed_told (event.ConnectionClosed a b) h = absurd (let bad : None ≡ Some Closes = h in cc)
+closed_told event.DatagramsWritable h = absurd (let bad : None ≡ Some Closes = h in cc)
+closed_told (event.Openable a) h = absurd (let bad : None ≡ Some Closes = h in cc)
+closed_told (event.Failed a) h = absurd (let bad : Some Fails ≡ Some Closes = h in cc)
+closed_told other h = absurd (let bad : Some Says ≡ Some Closes = h in cc)
+
+closed_by : (o : Option Entry) (es fs : List (ℕ × Entry)) (ids : Ids) (q : List Event) (a : Config) (x : Option Ended)
+    (ev : Event) → entry_at es ev.stream ≡ o → knows_of o ≡ true → word_of ev.kind ≡ Some Closes
+    → fs ≡ ended_by o ev.stream es → KeepsAll None [] es ids q a x fs ids (q ++ (ev ∷ [])) a x
+closed_by None es fs ids q a x ev there n word h = absurd (let bad : false ≡ true = n in cc)
+closed_by (Some e) es fs ids q a x ev there n word h =
     let f : Entry = record e { told = told.Over } in
     rw h (Kept (untouched_set es ev.stream f (rw there (inl refl))) (left_set es ev.stream f (rw there (inl refl)))
-    (goes_closed es ids q ev f (rw there n) word refl) refl)
+    (goes_closed es ids q ev f (rw there n) word refl) refl (λ g. g)
+    (λ g s. lasts_queued_set es q ev e f there
+    (holds_closed (ending_queued ev.kind) (halves_in (Some e)) (halves_in (Some f)) (closed_ends ev.kind word))))
 
 -- its last event is queued
-pub keeps_closed : (es fs : List (ℕ × Entry)) (ids : Ids) (q : List Event) (a : Config) (ev : Event)
+pub keeps_closed : (es fs : List (ℕ × Entry)) (ids : Ids) (q : List Event) (a : Config) (x : Option Ended) (ev : Event)
     → knows_of (entry_at es ev.stream) ≡ true → word_of ev.kind ≡ Some Closes → fs ≡ ended_at es ev.stream
-    → KeepsAll [] es ids q a fs ids (q ++ (ev ∷ [])) a
-keeps_closed es fs ids q a ev n word h = closed_by (entry_at es ev.stream) es fs ids q a ev refl n word h
+    → KeepsAll None [] es ids q a x fs ids (q ++ (ev ∷ [])) a x
+keeps_closed es fs ids q a x ev n word h = closed_by (entry_at es ev.stream) es fs ids q a x ev refl n word h
 
-last_by : (o : Option Entry) (es fs : List (ℕ × Entry)) (ids : Ids) (q : List Event) (a : Config) (ev : Event)
-    → entry_at es ev.stream ≡ o → knows_of o ≡ true → word_of ev.kind ≡ Some Closes → q ≡ []
-    → fs ≡ ended_by o ev.stream es → KeepsAll (ev ∷ []) es ids q a fs ids q a
-last_by None es fs ids q a ev there n word none h = absurd (let bad : false ≡ true = n in cc)
-last_by (Some e) es fs ids q a ev there n word none h =
+last_by : (o : Option Entry) (es fs : List (ℕ × Entry)) (ids : Ids) (q : List Event) (a : Config) (x : Option Ended)
+    (ev : Event) → entry_at es ev.stream ≡ o → knows_of o ≡ true → word_of ev.kind ≡ Some Closes → q ≡ []
+    → fs ≡ ended_by o ev.stream es → KeepsAll None (ev ∷ []) es ids q a x fs ids q a x
+last_by None es fs ids q a x ev there n word none h = absurd (let bad : false ≡ true = n in cc)
+last_by (Some e) es fs ids q a x ev there n word none h =
     let f : Entry = record e { told = told.Over } in
     rw h (Kept (untouched_set es ev.stream f (rw there (inl refl))) (left_set es ev.stream f (rw there (inl refl)))
-    (goes_last es ids q ev f (rw there n) word refl none) refl)
+    (goes_last es ids q ev f (rw there n) word refl none) refl (λ g. g)
+    (λ g s. lasts_told_set es q ev e f there
+    (holds_closed (ending_told ev.kind) (halves_in (Some e)) (halves_in (Some f)) (closed_told ev.kind word))))
 
 -- its last event is told, where none is queued
-pub keeps_last : (es fs : List (ℕ × Entry)) (ids : Ids) (q : List Event) (a : Config) (ev : Event)
+pub keeps_last : (es fs : List (ℕ × Entry)) (ids : Ids) (q : List Event) (a : Config) (x : Option Ended) (ev : Event)
     → knows_of (entry_at es ev.stream) ≡ true → word_of ev.kind ≡ Some Closes → q ≡ [] → fs ≡ ended_at es ev.stream
-    → KeepsAll (ev ∷ []) es ids q a fs ids q a
-keeps_last es fs ids q a ev n word none h = last_by (entry_at es ev.stream) es fs ids q a ev refl n word none h
+    → KeepsAll None (ev ∷ []) es ids q a x fs ids q a x
+keeps_last es fs ids q a x ev n word none h = last_by (entry_at es ev.stream) es fs ids q a x ev refl n word none h
 
 -- ---- sets for tactics
 
 -- to show that a step keeps all of that
-pub ruleset keep = (keeps_refl, keeps_trans, keeps_after, keeps_set, keeps_by_set, keeps_by_goes)
+pub ruleset keep = (keeps_refl, keeps_trans, keeps_after, keeps_set, keeps_by_goes, adds_none, adds_queued, adds_told)
 
 -- what follows from it
-pub ruleset kept = (keeps_own, keeps_left, keeps_goes, keeps_config)
+pub ruleset kept = (keeps_own, keeps_left, keeps_goes, keeps_config, keeps_lasts)
+
+-- to show that it does but for one stream
+pub ruleset but = (keeps_then_but, keeps_weak, keeps_trans, keeps_refl)
 
 -- to show it of a step that may read
 pub ruleset hold = (keeps_holds, keeps_left, holds_refl, holds_trans, holds_after, holds_set)
 
+-- to show that it does but for one stream
+pub ruleset hold_but = (holds_weak, keeps_holds)
+
 -- what follows from that
-pub ruleset held = (holds_own, holds_goes, holds_config)
+pub ruleset held = (holds_own, holds_goes, holds_config, holds_lasts)

@@ -2,6 +2,7 @@ pub mod BoundLemmas
 pub mod CallLemmas
 pub mod GoesLemmas
 pub mod GoesSteps
+pub mod HalvesLemmas
 pub mod IdLemmas
 pub mod KeepsLemmas
 pub mod MessageLemmas

@@ -1,5 +1,5 @@
 -- A piece of items that is told at once.
-use Rattle.std.proofs.Common.{◌≡◌, ◌++◌, ◌∙◌, ℕ, List, [], ◌∷◌, Some, Bool, true, false, cond, refl, sym, ap, inl, subst}
+use Rattle.std.proofs.Common.{◌≡◌, ◌++◌, ◌∙◌, ℕ, List, [], ◌∷◌, Option, Some, None, Bool, true, false, cond, refl, sym, ap, inl, inr, subst}
 use Rattle.std.specs.Prelude.{is_some}
 use Rattle.wtp_webtransport.specs.declared.connection.Connection.{Connection as Shared}
 use Rattle.wtp_webtransport.specs.declared.stream.Part.{Part}
@@ -21,7 +21,10 @@ use Rattle.vesgrauf.specs.declared.connection.ids.Ids.{Ids}
 use Rattle.vesgrauf.specs.declared.event.Event.{Event}
 use Rattle.vesgrauf.specs.Own.{entry_at}
 use Rattle.vesgrauf.specs.Streams.{is_known}
+use Rattle.vesgrauf.specs.declared.connection.Ended.{Ended}
+use Rattle.vesgrauf.specs.Halves.{reads_in}
 use Rattle.vesgrauf.specs.Keeps.{KeepsOwnAll, KeptOwn}
+use Rattle.vesgrauf.proofs.HalvesLemmas.{adds_told, lasts_adds, lasts_after, lasts_set}
 use Rattle.vesgrauf.specs.Told.{ends, word_of}
 use Rattle.vesgrauf.specs.declared.config.Config.{Config}
 use Rattle.vesgrauf.specs.Inputs.{IsSameOrRead}
@@ -78,16 +81,20 @@ piece_tells id stream items c d i j l same h g p t n =
     (taken_passes id items (items_on id items) d d j l t (told_itself id items d n)))
 
 -- an event of its stream is told with it
-pub piece_keeps : (es : List (ℕ × Entry)) (ids : Ids) (q : List Event) (a : Config) (id : ℕ) (e f : Entry) (ev : Event)
-    → entry_at es id ≡ Some e → is_known e.told ≡ true → f.told ≡ e.told → f.writing ≡ e.writing → ev.stream ≡ id
-    → ends (word_of ev.kind) ≡ false
-    → KeepsOwnAll (ev ∷ []) es ids q a (set_value (is_at (nat_cmp id)) es f) ids q a
-piece_keeps es ids q a id e f ev there known same own at n = KeptOwn
+pub piece_keeps : (es : List (ℕ × Entry)) (ids : Ids) (q : List Event) (a : Config) (x : Option Ended) (id : ℕ)
+    (e f : Entry) (ev : Event)
+    → entry_at es id ≡ Some e → is_known e.told ≡ true → f.told ≡ e.told → f.writing ≡ e.writing
+    → reads_in (Some f) ≡ reads_in (Some e) → ev.stream ≡ id → ends (word_of ev.kind) ≡ false
+    → KeepsOwnAll None (ev ∷ []) es ids q a x (set_value (is_at (nat_cmp id)) es f) ids q a x
+piece_keeps es ids q a x id e f ev there known same own reads at n = KeptOwn
     (λ m. new_of ids (untouched_set es id f (rw (there, own) (inl refl))))
     (goes_after (ev ∷ []) es es (set_value (is_at (nat_cmp id)) es f) ids ids ids q q q
     (goes_tells es ids q ev (rw (at, there) known) n)
     (goes_set es ids q id f (rw (there, same) refl)))
-    refl
+    refl (λ h. h)
+    (λ m h s. lasts_after None (ev ∷ []) es es (set_value (is_at (nat_cmp id)) es f) q q q
+    (lasts_adds None es (adds_told q q ev refl))
+    (lasts_set None es q id f (rw (there, same) refl) (inr (rw (there, own) refl, rw there reads))))
 
 -- there is no piece, and then this is told
 pub no_piece_all : (said : ℕ → List Item) (c d : Connection) {e : List (ℕ × Entry)} {i j l : Input} → IsStill c d → j ≡ i

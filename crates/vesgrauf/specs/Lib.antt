@@ -4,6 +4,7 @@ pub mod Closes
 pub mod Codes
 pub mod Config
 pub mod Fields
+pub mod Halves
 pub mod Ids
 pub mod Inputs
 pub mod Items

@@ -234,6 +234,7 @@ enum Step<'a> {
 #[tactic(auto, using(crate::proofs::KeepsLemmas::keep))]
 impl Connection {
     ghost use Rattle.vesgrauf.specs.Keeps.{Keeps, KeepsOwn};
+    ghost use Rattle.vesgrauf.specs.Halves.{LastsOn};
     ghost use Rattle.vesgrauf.specs.Bounds.{InstructionsFit, IsBounded, KeepsBound};
     ghost use Rattle.vesgrauf.specs.Progress.{IsSettled};
     ghost use Rattle.vesgrauf.specs.Own.{UntouchedOrNew};
@@ -333,6 +334,7 @@ impl Connection {
             self.old.streams.entries input.old self.new.streams.entries input.new) }
         ensures config { self.new.config ≡ self.old.config }
         ensures goes { GoesOn (told_by_call result) self.old self.new }
+        ensures lasts { self.old.config.on_malformed ≡ chosen.Reset → LastsOn (told_by_call result) self.old self.new }
         ensures settled { result ≡ Ok None → IsSettled self.new input.new }
         ensures bounded { IsBounded self.old → is_over self.new ≡ false → OnOk result (IsBounded self.new) }
     {

@@ -68,8 +68,10 @@ pub enum EventKind<'a> {
     Draining,
     /// The peer reset the stream, with this code.
     Reset(StreamCode),
-    /// The peer asked to stop the own half, with this code. It is reset. With H3_NO_ERROR a server needs no more of a
-    /// request: its response still comes (RFC 9114, section 4.1).
+    /// Nothing more is sent on the own half: the peer asked to stop it, with this code, and it is reset. With H3_NO_ERROR a
+    /// server needs no more of a request: its response still comes (RFC 9114, section 4.1). It is told, too, where the
+    /// session of the stream is over, with WEBTRANSPORT_SESSION_GONE, and where QUIC closed the stream before its end, with
+    /// H3_REQUEST_CANCELLED.
     Stopped(StreamCode),
     /// The peer violated a rule on the stream, of which the program may not know yet. It comes if
     /// [`tells_failures`](crate::config::Config) is set, before the `Closed` of a stream that the program knows of, and

@@ -1,5 +1,5 @@
 //! Laws of all runs of a connection. Each function does nothing: its contract is the law.
-ghost use Rattle.std.specs.Prelude.{◌≡◌, ◌++◌, ℕ, List, [], ◌∷◌, true, false};
+ghost use Rattle.std.specs.Prelude.{◌≡◌, ◌++◌, ℕ, Bool, List, [], ◌∷◌, Some, true, false};
 ghost use Rattle.wtp_qpack.specs.Field.{Field};
 ghost use Rattle.wtp_webtransport.specs.Events as say;
 ghost use Rattle.wtp_webtransport.specs.declared.event.HeadersKind.TheVariants as headers;
@@ -11,6 +11,9 @@ ghost use Rattle.vesgrauf.specs.Runs.{Step, Tells, Does, Leads, IsToldOf, came, 
 ghost use Rattle.vesgrauf.specs.declared.connection.Connection.{Connection};
 ghost use Rattle.vesgrauf.specs.declared.entry.Told.TheVariants as entry;
 ghost use Rattle.vesgrauf.specs.Told.{Says, Fails, Closes, Path, on, knows};
+ghost use Rattle.vesgrauf.specs.declared.event.Event.{Event as EventOf};
+ghost use Rattle.vesgrauf.specs.Halves.{Hears, Holds, NotKnown, Has, OfOwn, OfPeer, OfBoth, after, after_told, after_queued, halves_at, told_by_all};
+ghost use Rattle.vesgrauf.specs.Told.{Sound};
 ghost use Rattle.vesgrauf.specs.Calls.{Call, Run, told_in_all, opened_in, EndsOnce, says, closes};
 
 /// What events told of a stream - its field sections, each with its kind and fields, its content, and its end -, joined in
@@ -82,4 +85,29 @@ pub fn wrong_endings_are_refused()
     ensures whole { Path entry.NotYet (Says ∷ Says ∷ Closes ∷ []) entry.Over }
     ensures opened { Path entry.Known (Closes ∷ []) entry.Over }
     ensures failure { Path entry.NotYet (Fails ∷ []) entry.NotYet }
+{}
+
+/// Over calls of `next_event` that do not end the connection: of a stream that the program knows of, no half ends unless
+/// the program is told so, or an event that says so is queued. For the own half that is `Stopped`, for the peer's `End` or
+/// `Reset`, and for both `Closed`.
+#[tactic(auto, using(crate::proofs::HalvesLemmas::halves_go_on))]
+pub fn halves_go_on()
+    ensures { (calls : List (List EventOf)) (c : Connection) (d : Connection) → Sound c.streams.entries c.ids
+        → Hears calls c d → (id : ℕ)
+        → Holds (after_queued id d.events.items (after_told id (told_by_all calls) (halves_at c.streams.entries id)))
+        (halves_at d.streams.entries id) }
+{}
+
+/// The definitions refuse that a half ends of which nothing is said, where only the other one is said to, and that a stream is
+/// forgotten. They allow what is said, and anything of a stream that is not known, or was said to be over.
+pub fn wrong_halves_are_refused()
+    ensures own { (r : Bool) → Holds (Has true r) (Has false r) → ⊥ }
+    ensures peer { (s : Bool) → Holds (Has s true) (Has s false) → ⊥ }
+    ensures own_by_peer { (r : Bool) → Holds (after (Some OfPeer) (Has true r)) (Has false false) → ⊥ }
+    ensures peer_by_own { (s : Bool) → Holds (after (Some OfOwn) (Has s true)) (Has false false) → ⊥ }
+    ensures forgotten { Holds (Has true true) NotKnown → ⊥ }
+    ensures stopped { Holds (after (Some OfOwn) (Has true true)) (Has false true) }
+    ensures ended { Holds (after (Some OfPeer) (Has true true)) (Has true false) }
+    ensures closed { Holds (after (Some OfBoth) (Has true true)) NotKnown }
+    ensures unknown { (s : Bool) (r : Bool) → Holds NotKnown (Has s r) }
 {}

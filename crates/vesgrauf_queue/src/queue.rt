@@ -315,6 +315,18 @@ impl Queue {
         Ok(())
     }
 
+    /// The peer has all bytes that QUIC took. If they are kept, their blocks are freed.
+    #[tactic(auto, using(crate::proofs::QueueLemmas::queue_steps))]
+    pub fn acked_all(&mut self, spares: &mut Spares)
+        ensures { Does (Acknowledges (self.old.put - self.old.acked)) self.old self.new }
+    {
+        let len = self.put - self.acked;
+        if self.config.keep_until_acked {
+            self.blocks.free(spares, len as usize);
+        }
+        self.acked = self.put;
+    }
+
     /// Returns the first of the bytes that are kept, as far as they lie in one slice. They stay there until they are
     /// acknowledged.
     pub fn first_kept(&self) -> &[u8]

@@ -1,6 +1,7 @@
 //! Calls on one stream.
 ghost use Rattle.std.specs.Prelude.{◌≡◌, is_some, is_ok, true, false, Some, None, OnOk, OnErr, IfErr, []};
-ghost use Rattle.vesgrauf.specs.Keeps.{Keeps};
+ghost use Rattle.vesgrauf.specs.Halves.{LastsBut};
+ghost use Rattle.vesgrauf.specs.Keeps.{KeepsBut};
 ghost use Rattle.vesgrauf.specs.State.{code_on, named_at, Becomes, Pauses, Prioritizes, IsStill, IsRefusedBy, IsWhyNamed};
 ghost use Rattle.vesgrauf.specs.declared.refused.Refused.TheVariants as refused;
 ghost use Rattle.vesgrauf.specs.Own.{EndsOwn, Untouched};
@@ -24,7 +25,7 @@ impl Connection {
     /// # Errors
     ///
     /// Nothing changes. `Closed`; `NoStream`; `WrongCode`; and `Memory`.
-    #[tactic(auto, using(crate::proofs::KeepsLemmas::kept))]
+    #[tactic(auto, using(crate::proofs::KeepsLemmas::kept, crate::proofs::HalvesLemmas::lasts_refl))]
     pub fn reset(&mut self, id: u64, code: StreamCode) -> Result<(), Refused>
         ensures ends { OnOk result (EndsOwn id self.old.streams.entries self.new.streams.entries) }
         ensures fits { OnOk result (is_ok (code_on self.old id code) ≡ true) }
@@ -33,17 +34,27 @@ impl Connection {
         ensures left { Left self.old.streams.entries self.new.streams.entries }
         ensures config { self.new.config ≡ self.old.config }
         ensures goes { GoesOn [] self.old self.new }
+        ensures lasts { LastsBut id self.old self.new }
     {
         let code = self.code_for(id, code)?;
         self.reserve()?;
+        Ok(self.reset_now(id, code)?)
+    }
+
+    // Ends the own half of a stream, and the session whose own stream it is, and forgets the stream if both halves are over.
+    #[tactic(auto, using(crate::proofs::KeepsLemmas::but, crate::proofs::KeepsLemmas::keeps_ends))]
+    fn reset_now(&mut self, id: u64, code: u64) -> Result<(), AllocError>
+        ensures keeps { KeepsBut id self.old self.new }
+        ensures ends { OnOk result (EndsOwn id self.old.streams.entries self.new.streams.entries) }
+    {
         self.reset_fully(id, code)?;
-        Ok(self.remove_if_done(id)?)
+        self.remove_if_done(id)
     }
 
     // Ends the own half of a stream, and the session whose own stream it is.
-    #[tactic(auto, using(crate::proofs::KeepsLemmas::keep, crate::proofs::KeepsLemmas::keeps_ends))]
+    #[tactic(auto, using(crate::proofs::KeepsLemmas::but, crate::proofs::KeepsLemmas::keeps_ends))]
     fn reset_fully(&mut self, id: u64, code: u64) -> Result<(), AllocError>
-        ensures keeps { Keeps [] self.old self.new }
+        ensures keeps { KeepsBut id self.old self.new }
         ensures ends { OnOk result (EndsOwn id self.old.streams.entries self.new.streams.entries) }
     {
         self.reset_own(id, code)?;
@@ -58,7 +69,7 @@ impl Connection {
     /// # Errors
     ///
     /// As of [`reset`](Self::reset).
-    #[tactic(auto, using(crate::proofs::KeepsLemmas::kept, crate::proofs::KeepsLemmas::keeps_gone))]
+    #[tactic(auto, using(crate::proofs::KeepsLemmas::kept, crate::proofs::HalvesLemmas::lasts_refl))]
     pub fn stop_sending(&mut self, id: u64, code: StreamCode) -> Result<(), Refused>
         ensures gone { OnOk result (theirs_at self.new.streams.entries id ≡ Gone) }
         ensures fits { OnOk result (is_ok (code_on self.old id code) ≡ true) }
@@ -67,13 +78,33 @@ impl Connection {
         ensures left { Left self.old.streams.entries self.new.streams.entries }
         ensures config { self.new.config ≡ self.old.config }
         ensures goes { GoesOn [] self.old self.new }
+        ensures lasts { LastsBut id self.old self.new }
     {
         let code = self.code_for(id, code)?;
         self.reserve()?;
+        Ok(self.stop_now(id, code)?)
+    }
+
+    // Asks the peer to stop its half of a stream, ends the session whose own stream it is, and forgets the stream if both
+    // halves are over.
+    #[tactic(auto, using(crate::proofs::KeepsLemmas::but, crate::proofs::KeepsLemmas::keeps_gone))]
+    fn stop_now(&mut self, id: u64, code: u64) -> Result<(), AllocError>
+        ensures keeps { KeepsBut id self.old self.new }
+        ensures gone { OnOk result (theirs_at self.new.streams.entries id ≡ Gone) }
+    {
+        self.stop_fully(id, code)?;
+        self.remove_if_done(id)
+    }
+
+    // Asks the peer to stop its half of a stream, and ends the session whose own stream it is.
+    #[tactic(auto, using(crate::proofs::KeepsLemmas::but))]
+    fn stop_fully(&mut self, id: u64, code: u64) -> Result<(), AllocError>
+        ensures keeps { KeepsBut id self.old self.new }
+        ensures gone { OnOk result (theirs_at self.new.streams.entries id ≡ Gone) }
+    {
         self.cancel(id)?;
         self.end_if_session(id, code, !self.is_server())?;
-        self.stop_peer(id, code)?;
-        Ok(self.remove_if_done(id)?)
+        self.stop_peer(id, code)
     }
 
     /// Resets the own half of a stream and asks the peer to stop its half, with one code, as [`reset`](Self::reset) and
@@ -82,7 +113,7 @@ impl Connection {
     /// # Errors
     ///
     /// As of [`reset`](Self::reset).
-    #[tactic(auto, using(crate::proofs::KeepsLemmas::kept, crate::proofs::KeepsLemmas::keeps_gone))]
+    #[tactic(auto, using(crate::proofs::KeepsLemmas::kept, crate::proofs::HalvesLemmas::lasts_refl))]
     pub fn abort(&mut self, id: u64, code: StreamCode) -> Result<(), Refused>
         ensures ends { OnOk result (EndsOwn id self.old.streams.entries self.new.streams.entries) }
         ensures gone { OnOk result (theirs_at self.new.streams.entries id ≡ Gone) }
@@ -92,17 +123,28 @@ impl Connection {
         ensures left { Left self.old.streams.entries self.new.streams.entries }
         ensures config { self.new.config ≡ self.old.config }
         ensures goes { GoesOn [] self.old self.new }
+        ensures lasts { LastsBut id self.old self.new }
     {
         let code = self.code_for(id, code)?;
         self.reserve()?;
+        Ok(self.abort_now(id, code)?)
+    }
+
+    // Ends both halves of a stream, and the session whose own stream it is, and forgets the stream.
+    #[tactic(auto, using(crate::proofs::KeepsLemmas::but, crate::proofs::KeepsLemmas::keeps_ends, crate::proofs::KeepsLemmas::keeps_gone))]
+    fn abort_now(&mut self, id: u64, code: u64) -> Result<(), AllocError>
+        ensures keeps { KeepsBut id self.old self.new }
+        ensures ends { OnOk result (EndsOwn id self.old.streams.entries self.new.streams.entries) }
+        ensures gone { OnOk result (theirs_at self.new.streams.entries id ≡ Gone) }
+    {
         self.abort_halves(id, code)?;
-        Ok(self.remove_if_done(id)?)
+        self.remove_if_done(id)
     }
 
     // Ends both halves of a stream, and the session whose own stream it is.
-    #[tactic(auto, using(crate::proofs::KeepsLemmas::keep, crate::proofs::KeepsLemmas::keeps_ends))]
+    #[tactic(auto, using(crate::proofs::KeepsLemmas::but, crate::proofs::KeepsLemmas::keeps_ends))]
     fn abort_halves(&mut self, id: u64, code: u64) -> Result<(), AllocError>
-        ensures keeps { Keeps [] self.old self.new }
+        ensures keeps { KeepsBut id self.old self.new }
         ensures ends { OnOk result (EndsOwn id self.old.streams.entries self.new.streams.entries) }
         ensures gone { OnOk result (theirs_at self.new.streams.entries id ≡ Gone) }
     {
@@ -113,8 +155,9 @@ impl Connection {
 
     // Ends the session whose own stream this is, if it is one that is open or, with `always`, to come; and both halves of
     // the stream.
+    #[tactic(auto, using(crate::proofs::KeepsLemmas::but))]
     fn end_if_session(&mut self, id: u64, code: u64, always: bool) -> Result<(), AllocError>
-        ensures keeps { Keeps [] self.old self.new }
+        ensures keeps { KeepsBut id self.old self.new }
     {
         let has_session = match self.streams.get(&id) {
             Some(entry) => entry.has_session,

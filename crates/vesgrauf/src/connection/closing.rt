@@ -2,13 +2,14 @@
 ghost use Rattle.std.specs.Prelude.{◌≡◌, Bool, [], true, false, not, OnOk};
 ghost use Rattle.vesgrauf.specs.Own.{Over, EndsOwn, is_sent, own_at};
 ghost use Rattle.vesgrauf_stream.specs.declared.reading.Reading.{Reading as ReadingOf};
-ghost use Rattle.vesgrauf.specs.Keeps.{Keeps};
+ghost use Rattle.vesgrauf.specs.Keeps.{Keeps, KeepsBut};
 ghost use Rattle.vesgrauf.specs.State.{stream_at, knows_of};
 ghost use Rattle.vesgrauf.specs.Told.{ended_at};
 ghost use Rattle.vesgrauf.specs.Theirs.{Gone, theirs_at, theirs_by};
 
-use crate::connection::Connection;
+use crate::code::StreamCode;
 use crate::connection::reading::counted;
+use crate::connection::{Connection, Stop, internal};
 use crate::entry::{Entry, Member, Peer, Told};
 use crate::event::{Event, EventKind, Why};
 use crate::output::Output;
@@ -21,38 +22,60 @@ const REFUSED: u32 = 500;
 
 #[tactic(auto, using(crate::proofs::KeepsLemmas::keep))]
 impl Connection {
-    // Closes both halves of a stream at once.
+    // Closes both halves of a stream at once. The program is told first: what ends then is over for it, also if memory is
+    // refused meanwhile.
+    #[tactic(auto, using(crate::proofs::KeepsLemmas::keep, crate::proofs::KeepsLemmas::keeps_gone))]
     pub(super) fn shut(&mut self, id: u64, code: Code, why: Why) -> Result<(), AllocError>
         ensures keeps { Keeps [] self.old self.new }
+        ensures gone { OnOk result (theirs_at self.new.streams.entries id ≡ Gone) }
     {
-        self.end_halves(id, code.number().into_inner())?;
-        self.leave(id, why)
+        self.end_session(id)?;
+        self.tell_closed(id, why)?;
+        self.end_left(id, code.number().into_inner())?;
+        self.leave(id)
     }
 
-    // Ends both halves of a stream, and the session whose own stream it is.
-    fn end_halves(&mut self, id: u64, code: u64) -> Result<(), AllocError>
+    // Tells the program that a stream is over, and why, if it knows of the stream.
+    pub(super) fn tell_closed(&mut self, id: u64, why: Why) -> Result<(), AllocError>
         ensures keeps { Keeps [] self.old self.new }
+        ensures done { OnOk result (knows_of (stream_at self.new id) ≡ false) }
+    {
+        self.tell_failure(id, &why)?;
+        self.closed(id, why)
+    }
+
+    // Ends both halves of a stream that is over for the program.
+    #[tactic(auto, using(crate::proofs::KeepsLemmas::keeps_unknown))]
+    pub(super) fn end_left(&mut self, id: u64, code: u64) -> Result<(), AllocError>
+        ensures keeps { knows_of (stream_at self.old id) ≡ false → Keeps [] self.old self.new }
+        ensures gone { OnOk result (theirs_at self.new.streams.entries id ≡ Gone) }
+    {
+        self.end_halves(id, code)
+    }
+
+    // Ends both halves of a stream.
+    #[tactic(auto, using(crate::proofs::KeepsLemmas::but))]
+    pub(super) fn end_halves(&mut self, id: u64, code: u64) -> Result<(), AllocError>
+        ensures keeps { KeepsBut id self.old self.new }
+        ensures gone { OnOk result (theirs_at self.new.streams.entries id ≡ Gone) }
     {
         self.reset_own(id, code)?;
         self.reset_session(id, code)?;
-        self.stop_peer(id, code)?;
-        self.end_session(id)
+        self.stop_peer(id, code)
     }
 
-    // Tells the program that a stream is over, and why, and forgets it if both halves are.
-    pub(super) fn leave(&mut self, id: u64, why: Why) -> Result<(), AllocError>
+    // Forgets a stream that is left, if both halves are over.
+    pub(super) fn leave(&mut self, id: u64) -> Result<(), AllocError>
         ensures keeps { Keeps [] self.old self.new }
     {
-        self.tell_failure(id, &why)?;
-        self.closed(id, why)?;
         self.cancel_left(id);
         self.remove_if_done(id)
     }
 
     // Resets the own half.
-    #[tactic(auto, using(crate::proofs::KeepsLemmas::keep, crate::proofs::KeepsLemmas::keeps_over_own))]
+    #[tactic(auto, using(crate::proofs::KeepsLemmas::but, crate::proofs::KeepsLemmas::keeps_ends))]
     pub(super) fn reset_own(&mut self, id: u64, code: u64) -> Result<(), AllocError>
-        ensures keeps { Keeps [] self.old self.new }
+        ensures keeps { KeepsBut id self.old self.new }
         ensures ends { OnOk result (EndsOwn id self.old.streams.entries self.new.streams.entries) }
     {
         if self.reset_half(id, code)? {
@@ -63,8 +86,9 @@ impl Connection {
 
     // Resets the own half of a session's own stream of which QUIC took the end: more may not come after a close of the peer
     // (draft-ietf-webtrans-http3-02, section 5).
+    #[tactic(auto, using(crate::proofs::KeepsLemmas::but))]
     fn reset_session(&mut self, id: u64, code: u64) -> Result<(), AllocError>
-        ensures keeps { Keeps [] self.old self.new }
+        ensures keeps { KeepsBut id self.old self.new }
     {
         if self.is_session(id) {
             self.reset_ended(id, code)?;
@@ -73,9 +97,9 @@ impl Connection {
     }
 
     // Resets the own half, unless nothing is to be done for it. Returns whether something was.
-    #[tactic(auto, using(crate::proofs::KeepsLemmas::keep, crate::proofs::KeepsLemmas::keeps_over_own))]
+    #[tactic(auto, using(crate::proofs::KeepsLemmas::but, crate::proofs::KeepsLemmas::keeps_over_own))]
     fn reset_half(&mut self, id: u64, code: u64) -> Result<bool, AllocError>
-        ensures keeps { Keeps [] self.old self.new }
+        ensures keeps { KeepsBut id self.old self.new }
         ensures ends { OnOk result (EndsOwn id self.old.streams.entries self.new.streams.entries) }
     {
         if !self.has_own(id) {
@@ -97,9 +121,9 @@ impl Connection {
     }
 
     // Resets the own half, if it may be.
-    #[tactic(auto, using(crate::proofs::KeepsLemmas::keep, crate::proofs::OwnLemmas::own_set, std::proofs::lemmas::Map::Steps::set_value_same))]
+    #[tactic(auto, using(crate::proofs::KeepsLemmas::keep, crate::proofs::KeepsLemmas::keeps_but_set, crate::proofs::OwnLemmas::own_set, std::proofs::lemmas::Map::Steps::set_value_same))]
     fn reset_writing(&mut self, id: u64, code: u64) -> Result<(), AllocError>
-        ensures keeps { Keeps [] self.old self.new }
+        ensures keeps { KeepsBut id self.old self.new }
         ensures over { OnOk result (own_at self.new.streams.entries id ≡ Over) }
     {
         let Some(entry) = self.streams.get_mut(&id) else {
@@ -116,7 +140,7 @@ impl Connection {
     }
 
     // Nothing more is sent on the own half of a stream. A request on it is refused.
-    fn leave_order(&mut self, id: u64)
+    pub(super) fn leave_order(&mut self, id: u64)
         ensures keeps { Keeps [] self.old self.new }
     {
         let Some(entry) = self.streams.get_mut(&id) else {
@@ -129,36 +153,99 @@ impl Connection {
 
     // Resets an own half of which QUIC took the end, unless all of it is acknowledged: QUIC may still send some of it (RFC
     // 9000, section 3.5). Returns whether it is reset.
-    #[tactic(auto, using(crate::proofs::KeepsLemmas::keep, std::proofs::lemmas::Map::Steps::set_value_same))]
-    pub(super) fn reset_ended(&mut self, id: u64, code: u64) -> Result<bool, AllocError>
+    #[tactic(auto, using(crate::proofs::KeepsLemmas::but))]
+    pub(super) fn reset_ended(&mut self, id: u64, code: u64) -> Result<(), AllocError>
+        ensures keeps { KeepsBut id self.old self.new }
+    {
+        if !self.may_reset_ended(id) {
+            return Ok(());
+        }
+        self.reset_writing(id, code)
+    }
+
+    // Returns whether the own half of a stream may be reset of which QUIC took the end.
+    pub(super) fn may_reset_ended(&self, id: u64) -> bool {
+        let Some(entry) = self.streams.get(&id) else {
+            return false;
+        };
+        let is_acked = self.config.keep_until_acked || self.config.bound_by_acked;
+        !is_acked && entry.writing.is_done() && entry.writing.is_finished()
+    }
+
+    // Resets the own half, as the peer asks or since its session is over. The program is told so, if it knows of the
+    // stream. Without memory nothing changes.
+    pub(super) fn stop_own(
+        &mut self,
+        id: u64,
+        code: u64,
+        shown: StreamCode,
+    ) -> Result<(), AllocError>
+        ensures keeps { Keeps [] self.old self.new }
+    {
+        self.tell_stopped(id, code, shown)?;
+        self.leave_order(id);
+        self.wake();
+        Ok(())
+    }
+
+    // Resets the own half, and tells the program so, if it knows of the stream.
+    #[tactic(auto, using(crate::proofs::KeepsLemmas::keep, crate::proofs::KeepsLemmas::keeps_stopped))]
+    pub(super) fn tell_stopped(
+        &mut self,
+        id: u64,
+        code: u64,
+        shown: StreamCode,
+    ) -> Result<(), AllocError>
         ensures keeps { Keeps [] self.old self.new }
     {
         let Some(entry) = self.streams.get_mut(&id) else {
-            return Ok(false);
+            return Ok(());
         };
-        let is_acked = self.config.keep_until_acked || self.config.bound_by_acked;
-        if is_acked || !entry.writing.is_done() || !entry.writing.is_finished() {
-            return Ok(false);
-        }
-        let is_reset = entry.writing.reset(&mut self.tools.spares, code, 0);
-        if is_reset {
-            entry.is_reset = true;
+        let was_reset = entry.writing.is_ended() && !entry.writing.is_finished();
+        let is_told = entry.is_opened && !was_reset;
+        if is_told {
             self.outputs.push_back(Output::Reset(id, code))?;
         }
-        Ok(is_reset)
+        if entry.is_known() {
+            let event = Event {
+                stream: id,
+                session: entry.session_shown(id),
+                user: entry.user,
+                kind: EventKind::Stopped(shown),
+            };
+            if self.events.push_back(event).is_err() {
+                if is_told {
+                    self.outputs.pop_back();
+                }
+                return Err(AllocError);
+            }
+        }
+        let _reset = entry.writing.reset(&mut self.tools.spares, code, 0);
+        entry.is_reset = true;
+        Ok(())
     }
 
     // Asks the peer to stop its half, which is read no further.
+    #[tactic(auto, using(crate::proofs::KeepsLemmas::but))]
     pub(super) fn stop_peer(&mut self, id: u64, code: u64) -> Result<(), AllocError>
-        ensures keeps { Keeps [] self.old self.new }
+        ensures keeps { KeepsBut id self.old self.new }
         ensures gone { OnOk result (theirs_at self.new.streams.entries id ≡ Gone) }
     {
         if self.is_peer_over(id) {
             return Ok(());
         }
         self.ask_stop(id, code)?;
+        self.give_up_peer(id, true)
+    }
+
+    // Gives up what waits on the peer's half, which is read no further.
+    #[tactic(auto, using(crate::proofs::KeepsLemmas::but))]
+    fn give_up_peer(&mut self, id: u64, is_over: bool) -> Result<(), AllocError>
+        ensures keeps { KeepsBut id self.old self.new }
+        ensures gone { OnOk result (theirs_at self.new.streams.entries id ≡ Gone) }
+    {
         self.abandon(id);
-        self.leave_peer(id, true)
+        self.leave_peer(id, is_over)
     }
 
     // Asks the peer to stop its half, unless its end came. QUIC is asked once it knows of the stream.
@@ -196,27 +283,39 @@ impl Connection {
     }
 
     // Reads the peer's half no further, whose end is still to come.
-    #[tactic(auto, using(crate::proofs::KeepsLemmas::keep, crate::proofs::KeepsLemmas::keeps_gone))]
+    #[tactic(auto, using(crate::proofs::KeepsLemmas::but))]
     pub(super) fn drop_peer(&mut self, id: u64) -> Result<(), AllocError>
-        ensures keeps { Keeps [] self.old self.new }
+        ensures keeps { KeepsBut id self.old self.new }
         ensures gone { OnOk result (theirs_at self.new.streams.entries id ≡ Gone) }
     {
         if self.is_peer_over(id) {
             return Ok(());
         }
-        self.abandon(id);
         let is_over = self.has_ended(id);
-        self.leave_peer(id, is_over)
+        self.give_up_peer(id, is_over)
     }
 
-    // Reads the peer's half no further, and forgets the stream if both halves are over.
-    #[tactic(auto, using(crate::proofs::KeepsLemmas::keep, crate::proofs::KeepsLemmas::keeps_gone))]
-    pub(super) fn drop_rest(&mut self, id: u64) -> Result<(), AllocError>
+    // Reads no further on a stream that the program does not know of, and forgets it if both halves are over.
+    #[tactic(auto, using(crate::proofs::KeepsLemmas::keep, crate::proofs::KeepsLemmas::keeps_unknown, crate::proofs::KeepsLemmas::keeps_gone))]
+    pub(super) fn drop_untold(&mut self, id: u64) -> Result<(), Stop>
         ensures keeps { Keeps [] self.old self.new }
         ensures gone { OnOk result (theirs_at self.new.streams.entries id ≡ Gone) }
     {
+        if self.knows(id) {
+            return Err(internal());
+        }
         self.drop_peer(id)?;
-        self.remove_if_done(id)
+        Ok(self.remove_if_done(id)?)
+    }
+
+    // Returns whether the program knows of a stream, and was not told that it is over.
+    fn knows(&self, id: u64) -> bool
+        ensures { result ≡ knows_of (stream_at self.now id) }
+    {
+        match self.streams.get(&id) {
+            Some(entry) => entry.is_known(),
+            None => false,
+        }
     }
 
     // Returns whether the peer's half is over.
@@ -238,9 +337,10 @@ impl Connection {
     }
 
     // The peer's half is read no further: it is over, or what comes is dropped until its end. What is kept of it is dropped.
-    #[tactic(auto, using(crate::proofs::KeepsLemmas::keep, crate::proofs::KeepsLemmas::keeps_gone))]
+    #[tactic(auto, using(crate::proofs::KeepsLemmas::but, crate::proofs::KeepsLemmas::keeps_gone))]
     fn leave_peer(&mut self, id: u64, is_over: bool) -> Result<(), AllocError>
-        ensures keeps { Keeps [] self.old self.new }
+        ensures keeps { KeepsBut id self.old self.new }
+        ensures still { theirs_at self.old.streams.entries id ≡ Gone → Keeps [] self.old self.new }
         ensures gone { theirs_at self.new.streams.entries id ≡ Gone }
     {
         self.waiting.remove(&id);
@@ -250,9 +350,10 @@ impl Connection {
 
     // Drops what is kept of the peer's half, which is read no further. Returns by how many bytes QUIC's windows are to be
     // extended for it.
-    #[tactic(auto, using(crate::proofs::KeepsLemmas::keep, crate::proofs::TellsLemmas::gone_set))]
+    #[tactic(auto, using(crate::proofs::KeepsLemmas::keep, crate::proofs::KeepsLemmas::keeps_but_set, crate::proofs::KeepsLemmas::keeps_gone_set, crate::proofs::TellsLemmas::gone_set))]
     fn drop_half(&mut self, id: u64, is_over: bool) -> usize
-        ensures keeps { Keeps [] self.old self.new }
+        ensures keeps { KeepsBut id self.old self.new }
+        ensures still { theirs_at self.old.streams.entries id ≡ Gone → Keeps [] self.old self.new }
         ensures gone { theirs_at self.new.streams.entries id ≡ Gone }
     {
         let Some(entry) = self.streams.get_mut(&id) else {
@@ -267,11 +368,9 @@ impl Connection {
         owed
     }
 
-    // The peer's half is over.
-    #[tactic(auto, using(crate::proofs::KeepsLemmas::keep, crate::proofs::KeepsLemmas::keeps_gone))]
+    // The peer's half is over, which is read no further.
     pub(super) fn peer_is_over(&mut self, id: u64) -> Result<(), AllocError>
-        ensures keeps { Keeps [] self.old self.new }
-        ensures gone { OnOk result (theirs_at self.new.streams.entries id ≡ Gone) }
+        ensures keeps { theirs_at self.old.streams.entries id ≡ Gone → Keeps [] self.old self.new }
     {
         self.leave_peer(id, true)?;
         self.remove_if_done(id)
@@ -347,8 +446,9 @@ impl Connection {
     }
 
     // QUIC took the end of the own half of a stream: what follows of a CONNECT that was refused is stopped.
+    #[tactic(auto, using(crate::proofs::KeepsLemmas::but))]
     pub(super) fn after_end(&mut self, id: u64) -> Result<(), AllocError>
-        ensures keeps { Keeps [] self.old self.new }
+        ensures keeps { KeepsBut id self.old self.new }
     {
         if self.has_refused(id) {
             return self.stop_refused(id);
@@ -410,6 +510,7 @@ impl Connection {
         ensures ids { self.new.ids ≡ self.old.ids }
         ensures events { self.new.events ≡ self.old.events }
         ensures config { self.new.config ≡ self.old.config }
+        ensures ended { self.new.ended ≡ self.old.ended }
         ensures outputs { self.new.outputs ≡ self.old.outputs }
         ensures closes { self.new.closes ≡ self.old.closes }
     {
@@ -425,6 +526,16 @@ impl Connection {
         self.ready.remove(id, entry.kind());
         self.waiting.remove(&id);
         self.full.remove(&id);
+    }
+}
+
+// Returns what becomes of a half of the peer that is read no further, and whose end is known of.
+pub(super) fn dropped(peer: Peer) -> Peer
+    ensures { (is_decoder : Bool) (r : ReadingOf) → theirs_by result is_decoder r ≡ Gone }
+{
+    match peer {
+        Peer::Reads | Peer::Drops => Peer::Drops,
+        Peer::Over => Peer::Over,
     }
 }
 

@@ -197,7 +197,7 @@ impl Connection {
     }
 
     // Closes the connection, of which nothing is left.
-    #[tactic(auto, using(crate::proofs::KeepsLemmas::keep, crate::proofs::GoesLemmas::goes_aside))]
+    #[tactic(auto, using(crate::proofs::KeepsLemmas::keep, crate::proofs::KeepsLemmas::keeps_at_end, crate::proofs::GoesLemmas::goes_aside))]
     pub(super) fn shut_down<'a>(&mut self) -> Step<'a>
         ensures keeps { Keeps (said_in result) self.old self.new }
         ensures silent { IsSilent result }

@@ -5,7 +5,7 @@ ghost use Rattle.vesgrauf.specs.Keeps.{Keeps};
 use crate::code::StreamCode;
 use crate::connection::Connection;
 use crate::entry::{Member, Peer};
-use crate::event::{EventKind, Why};
+use crate::event::Why;
 use std::alloc::AllocError;
 use wtp_core::error::Code;
 
@@ -53,8 +53,9 @@ impl Connection {
             let Some(member) = self.first_member(session) else {
                 break;
             };
-            self.members.remove(&member);
+            // (one that is not closed for want of memory is among them still)
             self.cut(member.id)?;
+            self.members.remove(&member);
         }
         self.wake();
         Ok(())
@@ -75,19 +76,22 @@ impl Connection {
         ensures keeps { Keeps [] self.old self.new }
     {
         let gone = Code::WEBTRANSPORT_SESSION_GONE;
-        let code = gone.number().into_inner();
-        let is_reset = self.is_to_reset(id);
-        self.reset_own(id, code)?;
         if self.is_read_out(id) {
-            return if is_reset {
-                self.queue_event(id, EventKind::Stopped(StreamCode::Http(gone)))
-            } else {
-                Ok(())
-            };
+            return self.cut_own(id, gone);
         }
-        self.stop_peer(id, code)?;
         self.closed(id, Why::SessionGone)?;
+        self.end_left(id, gone.number().into_inner())?;
         self.remove_if_done(id)
+    }
+
+    // Resets the own half of a stream whose session is over, if it is still to be sent, or its end to be taken.
+    fn cut_own(&mut self, id: u64, gone: Code) -> Result<(), AllocError>
+        ensures keeps { Keeps [] self.old self.new }
+    {
+        if !self.is_to_reset(id) {
+            return Ok(());
+        }
+        self.stop_own(id, gone.number().into_inner(), StreamCode::Http(gone))
     }
 
     // Returns whether the own half of a stream is still to be sent, or its end to be taken.

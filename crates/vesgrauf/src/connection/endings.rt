@@ -5,10 +5,11 @@ ghost use Rattle.std.specs.List.{filter};
 ghost use Rattle.vesgrauf.specs.Keeps.{Keeps};
 ghost use Rattle.vesgrauf.specs.State.{head, go_on, is_over, is_last, IsAfterEnd, IsTold, EndsUnless, closes_stream, stream_at, knows_of};
 ghost use Rattle.vesgrauf.specs.Own.{Untouched};
-ghost use Rattle.vesgrauf.specs.Theirs.{Left, IsSilent};
+ghost use Rattle.vesgrauf.specs.Theirs.{Left, Gone, IsSilent, theirs_at};
 ghost use Rattle.vesgrauf.specs.Told.{GoesOn, ends, word_of, said_by, said_in};
 
 use crate::code::StreamCode;
+use crate::connection::closing::dropped;
 use crate::connection::failing::EXCESSIVE_LOAD;
 use crate::connection::{Connection, Ended, Step, Stop, internal};
 use crate::entry::{Entry, Peer};
@@ -57,22 +58,54 @@ impl Connection {
     }
 
     // Handles what the reset of the peer's half says of the stream.
+    #[tactic(auto, using(crate::proofs::KeepsLemmas::keep, crate::proofs::KeepsLemmas::keeps_gone))]
     fn half_reset(&mut self, id: u64, shown: StreamCode, event: Said<'static>) -> Result<(), Stop>
         ensures keeps { Keeps [] self.old self.new }
     {
-        self.queue_event(id, EventKind::Reset(shown))?;
+        self.tell_reset(id, shown)?;
         self.half_ended(id, event)?;
         Ok(self.after_reset(id)?)
     }
 
+    // The peer's half of a stream is read no further, since the peer reset it. The program is told so, if it knows of the
+    // stream.
+    #[tactic(auto, using(crate::proofs::KeepsLemmas::keep, crate::proofs::KeepsLemmas::keeps_reset, crate::proofs::TellsLemmas::gone_set))]
+    fn tell_reset(&mut self, id: u64, shown: StreamCode) -> Result<(), AllocError>
+        ensures keeps { Keeps [] self.old self.new }
+        ensures gone { OnOk result (theirs_at self.new.streams.entries id ≡ Gone) }
+    {
+        let Some(entry) = self.streams.get_mut(&id) else {
+            return Ok(());
+        };
+        if entry.is_known() {
+            self.events.push_back(Event {
+                stream: id,
+                session: entry.session_shown(id),
+                user: entry.user,
+                kind: EventKind::Reset(shown),
+            })?;
+        }
+        entry.peer = dropped(entry.peer);
+        Ok(())
+    }
+
     // Leaves what the peer's half of a stream was for, which was reset.
+    #[tactic(auto, using(crate::proofs::KeepsLemmas::keep, crate::proofs::KeepsLemmas::keeps_gone))]
     fn after_reset(&mut self, id: u64) -> Result<(), AllocError>
+        ensures keeps { theirs_at self.old.streams.entries id ≡ Gone → Keeps [] self.old self.new }
+    {
+        self.leave_lost(id)?;
+        self.peer_is_over(id)
+    }
+
+    // Leaves the session and the own half of a stream whose other half the peer reset.
+    fn leave_lost(&mut self, id: u64) -> Result<(), AllocError>
         ensures keeps { Keeps [] self.old self.new }
     {
         self.lose_session(id)?;
         self.leave_untold(id)?;
         self.cancel_left(id);
-        self.peer_is_over(id)
+        Ok(())
     }
 
     // The peer reset the own stream of a session that is still to come, or one side stopped it: it does not come.
@@ -90,6 +123,7 @@ impl Connection {
     }
 
     // Resets the own half of a stream that the peer reset before the program was told of it: nothing will be sent on it.
+    #[tactic(auto, using(crate::proofs::KeepsLemmas::keep, crate::proofs::KeepsLemmas::keeps_unknown))]
     fn leave_untold(&mut self, id: u64) -> Result<(), AllocError>
         ensures keeps { Keeps [] self.old self.new }
     {
@@ -122,18 +156,18 @@ impl Connection {
             return Ok(self.stop_ended(id, code, shown)?);
         }
         self.give_up(id)?;
-        self.reset_own(id, code)?;
-        self.half_stopped(id, code, shown)
+        self.stop_own(id, code, shown)?;
+        self.half_stopped(id, code)
     }
 
     // The peer asked to stop an own half of which nothing is left to send.
     fn stop_ended(&mut self, id: u64, code: u64, shown: StreamCode) -> Result<(), AllocError>
         ensures keeps { Keeps [] self.old self.new }
     {
-        if self.reset_ended(id, code)? {
-            return self.queue_event(id, EventKind::Stopped(shown));
+        if !self.may_reset_ended(id) {
+            return Ok(());
         }
-        Ok(())
+        self.tell_stopped(id, code, shown)
     }
 
     // The own half of a stream is stopped. Returns what the stream says, or `None` if there is none.
@@ -148,13 +182,12 @@ impl Connection {
     }
 
     // Handles what the stop of the own half says of the stream.
-    fn half_stopped(&mut self, id: u64, code: u64, shown: StreamCode) -> Result<(), Stop>
+    fn half_stopped(&mut self, id: u64, code: u64) -> Result<(), Stop>
         ensures keeps { Keeps [] self.old self.new }
     {
         let Some(event) = self.note_stop(id, code) else {
             return Ok(());
         };
-        self.queue_event(id, EventKind::Stopped(shown))?;
         self.half_ended(id, event)?;
         Ok(self.after_stop(id)?)
     }
@@ -273,20 +306,38 @@ impl Connection {
     pub(super) fn stream_closed(&mut self, id: u64) -> Result<(), AllocError>
         ensures keeps { Keeps [] self.old self.new }
     {
-        self.free_own(id);
+        self.lose_half(id)?;
         self.remove_if_done(id)
     }
 
-    // Frees what is kept of the own half of a stream.
-    fn free_own(&mut self, id: u64)
+    // Frees what is kept of the own half of a stream. If its end was not taken, nor its reset, what waits is lost, and the
+    // program is told so.
+    #[tactic(auto, using(crate::proofs::KeepsLemmas::keep, crate::proofs::KeepsLemmas::keeps_stopped))]
+    fn lose_half(&mut self, id: u64) -> Result<(), AllocError>
         ensures keeps { Keeps [] self.old self.new }
     {
         let Some(entry) = self.streams.get_mut(&id) else {
-            return;
+            return Ok(());
         };
+        if entry.writing.is_finished() && entry.writing.is_done() {
+            entry.writing.acked_all(&mut self.tools.spares);
+            return Ok(());
+        }
+        let was_reset = entry.writing.is_ended() && !entry.writing.is_finished();
+        let is_lost = !was_reset && !entry.writing.is_none();
+        if is_lost && entry.is_known() {
+            self.events.push_back(Event {
+                stream: id,
+                session: entry.session_shown(id),
+                user: entry.user,
+                kind: EventKind::Stopped(StreamCode::Http(Code::H3_REQUEST_CANCELLED)),
+            })?;
+        }
+        entry.is_reset = entry.is_reset || is_lost;
         entry.writing = Writing::none(self.alloc, self.config.queue());
         self.ready.remove(id, entry.kind());
         self.full.remove(&id);
+        Ok(())
     }
 
     // Leaves a request that the server does not process.
@@ -317,6 +368,7 @@ impl Connection {
     }
 
     // The peer or QUIC closed the connection.
+    #[tactic(auto, using(crate::proofs::KeepsLemmas::keep, crate::proofs::KeepsLemmas::keeps_at_end, crate::proofs::GoesLemmas::goes_refl))]
     pub(super) fn end_by_peer(&mut self, code: u64)
         ensures keeps { Keeps [] self.old self.new }
     {
@@ -354,7 +406,7 @@ impl Connection {
 
     // Takes a step after the end of the connection: what comes is dropped, and each stream that the program knows of is
     // told to be over.
-    #[tactic(auto, using(crate::proofs::KeepsLemmas::keep, crate::proofs::KeepsLemmas::keeps_of, crate::proofs::GoesLemmas::goes_aside))]
+    #[tactic(auto, using(crate::proofs::KeepsLemmas::keep, crate::proofs::KeepsLemmas::keeps_at_end, crate::proofs::GoesLemmas::goes_aside))]
     pub(super) fn step_after_end<'a>(&mut self, ended: Ended, input: &mut Input<'a>) -> Step<'a>
         ensures last { IsTold result (λ e. is_last e.kind ≡ true) }
         ensures over { is_over self.old ≡ true → is_over self.new ≡ true }

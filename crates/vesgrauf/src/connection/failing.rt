@@ -58,6 +58,7 @@ impl Connection {
     }
 
     // Ends the connection by an error of this stream, if it is one of a stream.
+    #[tactic(auto, using(crate::proofs::KeepsLemmas::keep, crate::proofs::KeepsLemmas::keeps_at_end))]
     pub(super) fn fail(&mut self, stream: Option<u64>, code: u64, fault: Option<Fault>)
         ensures keeps { Keeps [] self.old self.new }
         ensures over { is_over self.new ≡ true }

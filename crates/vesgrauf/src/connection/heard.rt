@@ -8,6 +8,7 @@ ghost use Rattle.wtp_webtransport.specs.declared.event.HeadersKind.TheVariants a
 ghost use Rattle.vesgrauf.specs.Theirs.{Left, Hands, Gone, IsSilent, IsOf, theirs_at, told_in};
 ghost use Rattle.wtp_webtransport.specs.Events.{told_of};
 
+use crate::connection::closing::dropped;
 use crate::connection::failing::NO_DATAGRAMS;
 use crate::connection::opening::{Joining, joining_of};
 use crate::connection::{Connection, Step, Stop, internal};
@@ -72,7 +73,7 @@ impl Connection {
         match self.tell(id, kind) {
             Step::Told(event) => Ok(Step::Told(event)),
             _ => {
-                self.drop_rest(id)?;
+                self.drop_untold(id)?;
                 Ok(Step::More)
             }
         }
@@ -261,7 +262,9 @@ impl Connection {
         ensures keeps { Keeps [] self.old self.new }
     {
         if let Some(entry) = self.streams.get_mut(&id) {
-            entry.is_decoder = true;
+            if !entry.is_known() {
+                entry.is_decoder = true;
+            }
         }
     }
 
@@ -370,7 +373,7 @@ impl Connection {
     }
 
     // A request came that asks for this.
-    #[tactic(auto, using(crate::proofs::KeepsLemmas::keep, crate::proofs::GoesLemmas::goes_known, crate::proofs::OwnLemmas::own_asked))]
+    #[tactic(auto, using(crate::proofs::KeepsLemmas::keep, crate::proofs::KeepsLemmas::keeps_known, crate::proofs::OwnLemmas::own_asked))]
     pub(super) fn note_request(&mut self, id: u64, asked: Asked)
         ensures keeps { Keeps [] self.old self.new }
     {
@@ -435,15 +438,50 @@ impl Connection {
         ensures hands { IfOk result (λ s. Hands id (Ends ∷ []) (told_in s)
             self.old.streams.entries self.new.streams.entries) }
     {
-        let step = self.tell(id, EventKind::End);
-        self.half_ends(id)?;
+        let step = self.tell_end(id);
+        self.after_told_end(id);
         Ok(step)
     }
 
+    // All of the peer's half was read, and its end is told. Without memory the connection ends: nothing would do what is left
+    // to do later.
+    #[tactic(auto, using(crate::proofs::KeepsLemmas::keep, crate::proofs::KeepsLemmas::keeps_gone))]
+    fn after_told_end(&mut self, id: u64)
+        ensures keeps { theirs_at self.old.streams.entries id ≡ Gone → Keeps [] self.old self.new }
+        ensures gone { theirs_at self.old.streams.entries id ≡ Gone → theirs_at self.new.streams.entries id ≡ Gone }
+    {
+        let code = Code::H3_INTERNAL_ERROR.number().into_inner();
+        if self.half_ends(id).is_err() {
+            self.fail(Some(id), code, None);
+        }
+    }
+
+    // Tells that the peer's half ended, which is read no further.
+    #[tactic(auto, using(crate::proofs::KeepsLemmas::keep, crate::proofs::KeepsLemmas::keeps_end, crate::proofs::TellsLemmas::gone_set))]
+    fn tell_end(&mut self, id: u64) -> Step<'static>
+        ensures keeps { Keeps (said_in result) self.old self.new }
+        ensures is { IsOf id (Ends ∷ []) result }
+        ensures gone { theirs_at self.new.streams.entries id ≡ Gone }
+    {
+        let Some(entry) = self.streams.get_mut(&id) else {
+            return Step::More;
+        };
+        entry.peer = dropped(entry.peer);
+        if !entry.is_known() {
+            return Step::More;
+        }
+        Step::Told(Event {
+            stream: id,
+            session: entry.session_shown(id),
+            user: entry.user,
+            kind: EventKind::End,
+        })
+    }
+
     // All of the peer's half was read.
+    #[tactic(auto, using(crate::proofs::KeepsLemmas::keep, crate::proofs::KeepsLemmas::keeps_gone))]
     fn half_ends(&mut self, id: u64) -> Result<(), AllocError>
-        ensures keeps { Keeps [] self.old self.new }
-        ensures gone { OnOk result (theirs_at self.new.streams.entries id ≡ Gone) }
+        ensures keeps { theirs_at self.old.streams.entries id ≡ Gone → Keeps [] self.old self.new }
     {
         self.forget_cancel(id);
         self.peer_is_over(id)

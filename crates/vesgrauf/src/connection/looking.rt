@@ -30,6 +30,7 @@ impl Entry {
         ensures reads { IfOk result (λ found. IsRead (with_chunk (theirs_of self.old) chunk.old) (items_found found)
             (with_chunk (theirs_of self.new) chunk.new)) }
         ensures told { self.new.told ≡ self.old.told }
+        ensures read { (self.new.peer ≡ self.old.peer) × (self.new.is_decoder ≡ self.old.is_decoder) }
         ensures fits { KeepsFit (theirs_of self.old) (theirs_of self.new) }
     {
         if !self.is_read() {
@@ -57,6 +58,7 @@ impl Entry {
         ensures fields { result ≡ Ok None → fields.new ≡ fields.old }
         ensures none { result ≡ Ok None → chunk.new ≡ chunk.old }
         ensures told { self.new.told ≡ self.old.told }
+        ensures read { (self.new.peer ≡ self.old.peer) × (self.new.is_decoder ≡ self.old.is_decoder) }
         ensures fits { KeepsFit (theirs_of self.old) (theirs_of self.new) }
     {
         if !self.is_plain() {
@@ -93,6 +95,7 @@ impl Entry {
         ensures own { self.new.writing ≡ self.old.writing }
         ensures theirs { theirs_of self.new ≡ theirs_of self.old }
         ensures told { self.new.told ≡ self.old.told }
+        ensures read { (self.new.peer ≡ self.old.peer) × (self.new.is_decoder ≡ self.old.is_decoder) }
     {
         let left = self.reading.len();
         let read = kept
@@ -111,6 +114,7 @@ impl Entry {
         ensures content { self.new.is_decoder ≡ self.old.is_decoder }
         ensures own { self.new.writing ≡ self.old.writing }
         ensures told { self.new.told ≡ self.old.told }
+        ensures read { (self.new.peer ≡ self.old.peer) × (self.new.is_decoder ≡ self.old.is_decoder) }
     {
         if !is_failure(found) {
             self.offset = self.offset.saturating_add(len as u64);

@@ -1,9 +1,9 @@
 //! Requests that are malformed, or whose fields are too large.
-ghost use Rattle.std.specs.Prelude.{◌≡◌, IfOk, []};
-ghost use Rattle.vesgrauf.specs.Keeps.{Keeps, KeepsOwn};
-ghost use Rattle.vesgrauf.specs.Own.{Untouched};
+ghost use Rattle.std.specs.Prelude.{◌≡◌, IfOk, true, false, []};
+ghost use Rattle.vesgrauf.specs.Keeps.{Keeps, KeepsOwn, KeepsOwnBut};
+ghost use Rattle.vesgrauf.specs.State.{knows_of, stream_at};
 ghost use Rattle.vesgrauf.specs.Theirs.{Left, IsSilent};
-ghost use Rattle.vesgrauf.specs.Told.{GoesOn, said_by};
+ghost use Rattle.vesgrauf.specs.Told.{said_by};
 ghost use Rattle.vesgrauf.specs.declared.config.OnMalformed.TheVariants as chosen;
 
 use crate::config::OnMalformed;
@@ -19,53 +19,92 @@ use wtp_messages::response::Asked;
 #[tactic(auto, using(crate::proofs::KeepsLemmas::keep))]
 impl Connection {
     // A message is malformed: its stream is reset, after an answer or not (RFC 9114, section 4.1.2).
-    #[tactic(auto, using(crate::proofs::KeepsLemmas::hold, crate::proofs::KeepsLemmas::holds_of))]
+    #[tactic(auto, using(crate::proofs::KeepsLemmas::hold))]
     pub(super) fn malformed_came(&mut self, id: u64, rule: Malformed) -> Result<Step<'static>, Stop>
         ensures keeps { KeepsOwn (said_by result) self.old self.new }
         ensures left { Left self.old.streams.entries self.new.streams.entries }
         ensures silent { IfOk result IsSilent }
     {
-        let why = Why::Malformed(rule);
-        if self.answers(id, StatusCode::BAD_REQUEST) {
-            self.leave_answered(id, Code::H3_MESSAGE_ERROR, why)?;
-            return Ok(Step::More);
-        }
-        self.shut(id, Code::H3_MESSAGE_ERROR, why)?;
+        self.end_session(id)?;
+        self.tell_closed(id, Why::Malformed(rule))?;
+        let code = Code::H3_MESSAGE_ERROR;
+        self.leave_refused(id, StatusCode::BAD_REQUEST, code, code)?;
         Ok(Step::More)
     }
 
     // A field section is larger than the limits (RFC 9114, section 4.2.2).
-    #[tactic(auto, using(crate::proofs::KeepsLemmas::hold, crate::proofs::KeepsLemmas::holds_of))]
+    #[tactic(auto, using(crate::proofs::KeepsLemmas::hold))]
     pub(super) fn too_large_came(&mut self, id: u64) -> Result<Step<'static>, Stop>
         ensures keeps { KeepsOwn (said_by result) self.old self.new }
         ensures left { Left self.old.streams.entries self.new.streams.entries }
         ensures silent { IfOk result IsSilent }
     {
-        if self.answers(id, StatusCode::REQUEST_HEADER_FIELDS_TOO_LARGE) {
-            self.leave_answered(id, Code::H3_NO_ERROR, Why::TooLarge)?;
-            return Ok(Step::More);
-        }
-        self.shut(id, Code::H3_EXCESSIVE_LOAD, Why::TooLarge)?;
+        self.end_session(id)?;
+        self.tell_closed(id, Why::TooLarge)?;
+        let status = StatusCode::REQUEST_HEADER_FIELDS_TOO_LARGE;
+        self.leave_refused(id, status, Code::H3_NO_ERROR, Code::H3_EXCESSIVE_LOAD)?;
         Ok(Step::More)
+    }
+
+    // Leaves a stream that is over for the program: its halves end.
+    #[tactic(auto, using(crate::proofs::KeepsLemmas::hold, crate::proofs::KeepsLemmas::hold_but, crate::proofs::KeepsLemmas::hold_unknown))]
+    fn leave_refused(
+        &mut self,
+        id: u64,
+        status: StatusCode,
+        answered: Code,
+        refused: Code,
+    ) -> Result<(), AllocError>
+        ensures keeps { knows_of (stream_at self.old id) ≡ false → KeepsOwn [] self.old self.new }
+        ensures left { Left self.old.streams.entries self.new.streams.entries }
+    {
+        self.end_refused(id, status, answered, refused)?;
+        self.leave(id)
+    }
+
+    // Ends the own half with an answer of this status, and asks the peer to stop with the first code; or ends both halves
+    // with the second.
+    #[tactic(auto, using(crate::proofs::KeepsLemmas::hold, crate::proofs::KeepsLemmas::hold_but, crate::proofs::StepLemmas::left_trans))]
+    fn end_refused(
+        &mut self,
+        id: u64,
+        status: StatusCode,
+        answered: Code,
+        refused: Code,
+    ) -> Result<(), AllocError>
+        ensures keeps { KeepsOwnBut id self.old self.new }
+        ensures left { Left self.old.streams.entries self.new.streams.entries }
+    {
+        if self.answers(id, status) {
+            return self.stop_peer(id, answered.number().into_inner());
+        }
+        self.end_halves(id, refused.number().into_inner())
     }
 
     // Answers a request with this status, if the configuration says so. Returns whether it did: without memory, and after
     // another final response, it does not.
-    #[tactic(auto, using(crate::proofs::KeepsLemmas::kept))]
+    #[tactic(auto, using(crate::proofs::KeepsLemmas::hold, crate::proofs::KeepsLemmas::holds_answered, crate::proofs::KeepsLemmas::kept))]
     fn answers(&mut self, id: u64, status: StatusCode) -> bool
-        ensures own { self.old.config.on_malformed ≡ chosen.Reset
-            → Untouched self.old.streams.entries self.new.streams.entries }
+        ensures keeps { KeepsOwnBut id self.old self.new }
         ensures left { Left self.old.streams.entries self.new.streams.entries }
-        ensures config { self.new.config ≡ self.old.config }
-        ensures goes { GoesOn [] self.old self.new }
     {
-        if !self.is_server() || self.config.on_malformed == OnMalformed::Reset {
+        if !self.may_answer() {
             return false;
         }
         self.note_other(id);
         match FieldList::response(self.alloc, status) {
             Ok(list) => self.respond(id, &list, true).is_ok(),
             Err(_) => false,
+        }
+    }
+
+    // Returns whether a server is to answer, by the configuration.
+    fn may_answer(&self) -> bool
+        ensures { result ≡ true → self.now.config.on_malformed ≡ chosen.Reset → ⊥ }
+    {
+        match self.config.on_malformed {
+            OnMalformed::Reset => false,
+            OnMalformed::Answer => self.is_server(),
         }
     }
 
@@ -77,14 +116,5 @@ impl Connection {
         if let Some(entry) = self.streams.get_mut(&id) {
             entry.writing.ask(Asked::Other);
         }
-    }
-
-    // Reads no further on a stream that was answered, whose own half ends after what is queued.
-    fn leave_answered(&mut self, id: u64, code: Code, why: Why) -> Result<(), AllocError>
-        ensures keeps { Keeps [] self.old self.new }
-    {
-        self.stop_peer(id, code.number().into_inner())?;
-        self.end_session(id)?;
-        self.leave(id, why)
     }
 }

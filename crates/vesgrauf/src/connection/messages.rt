@@ -4,7 +4,7 @@ ghost use Rattle.vesgrauf_stream.specs.Writing.{Sends};
 ghost use Rattle.vesgrauf_stream.specs.Headers.{response_at, SendsHeaders, SendsTrailers, RefusesTrailers};
 ghost use Rattle.vesgrauf_stream.specs.declared.tools.Tools.{Tools as ToolsOf};
 ghost use Rattle.vesgrauf.specs.Messages.{allowed, IsSameBut, ChangesBy, ChangesThen, ClosesSession};
-ghost use Rattle.vesgrauf.specs.Keeps.{Keeps};
+ghost use Rattle.vesgrauf.specs.Keeps.{Keeps, KeepsBut};
 ghost use Rattle.vesgrauf.specs.Own.{UntouchedBut};
 ghost use Rattle.vesgrauf.specs.Theirs.{Left};
 ghost use Rattle.vesgrauf.specs.Told.{GoesOn};
@@ -51,6 +51,7 @@ impl Connection {
         ensures left { Left self.old.streams.entries self.new.streams.entries }
         ensures config { self.new.config ≡ self.old.config }
         ensures goes { GoesOn [] self.old self.new }
+        ensures ends { is_over self.old ≡ true → is_over self.new ≡ true }
         ensures responds { OnOk result ((s : ToolsOf) × (t : ToolsOf) × IsSameBut self.old.tools s × ChangesThen id
             (λ v w. SendsHeaders (response_at v id (allowed self.old)) list.now fin s t v w) self.old self.new) }
     {
@@ -109,8 +110,9 @@ impl Connection {
     }
 
     // A response was sent: what follows for its stream, and for a session.
+    #[tactic(auto, using(crate::proofs::KeepsLemmas::but))]
     fn responded(&mut self, id: u64, list: &FieldList, fin: bool) -> Result<(), AllocError>
-        ensures keeps { Keeps [] self.old self.new }
+        ensures keeps { KeepsBut id self.old self.new }
     {
         if let Some(status) = status_of(list) {
             self.answered(id, status);
@@ -136,8 +138,9 @@ impl Connection {
     }
 
     // Reads no further on the stream of a CONNECT that was refused: nothing that follows has a meaning.
+    #[tactic(auto, using(crate::proofs::KeepsLemmas::but))]
     pub(super) fn stop_refused(&mut self, id: u64) -> Result<(), AllocError>
-        ensures keeps { Keeps [] self.old self.new }
+        ensures keeps { KeepsBut id self.old self.new }
     {
         let code = Code::H3_NO_ERROR.number().into_inner();
         self.stop_peer(id, code)?;

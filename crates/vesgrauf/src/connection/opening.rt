@@ -1,13 +1,14 @@
 //! Streams that are opened.
-ghost use Rattle.std.specs.Prelude.{◌≡◌, ◌⊎◌, ◌<◌, ◌^◌, ℕ, List, [], true, false, min, nat_lt, Some, MatchBool, OnOk, OnErr, IfOk, IfErr, if◌then◌else◌};
+ghost use Rattle.std.specs.Prelude.{◌≡◌, ◌⊎◌, ◌<◌, ◌^◌, ℕ, List, [], true, false, min, nat_lt, None, Some, MatchBool, OnOk, OnErr, IfOk, IfErr, if◌then◌else◌};
 ghost use Rattle.wtp_frames.specs.declared.endpoint.Side.TheVariants as side;
 ghost use Rattle.vesgrauf.specs.Keeps.{Keeps, KeepsOwn};
 ghost use Rattle.vesgrauf.specs.declared.refused.Refused.TheVariants as refused;
 ghost use Rattle.vesgrauf.specs.State.{open_session, room_for, may_wait, IsStill, IsRefused, is_opened_at, opened_by, stream_at, view_of, Of};
-ghost use Rattle.vesgrauf.specs.Own.{Over, Sends, own_of, entry_at, Untouched, UntouchedOrNew, UntouchedBut};
+ghost use Rattle.vesgrauf.specs.Own.{Over, Sends, own_of, entry_at, Untouched, UntouchedBut};
 ghost use Rattle.vesgrauf.specs.Items.{items_of};
 ghost use Rattle.vesgrauf.specs.Theirs.{Left, Accepts, Unread, theirs_of};
 ghost use Rattle.vesgrauf.specs.Told.{GoesOn, AreOthers, knows};
+ghost use Rattle.vesgrauf.specs.Halves.{LastsOn};
 ghost use Rattle.wtp_webtransport.specs.Events.{told_of};
 ghost use Rattle.vesgrauf.specs.Ids.{next_own, opens, kind_of, unopened, opened as opened_ids, taken};
 ghost use Rattle.vesgrauf.specs.Messages.{IsMember, IsStreamHead};
@@ -66,7 +67,7 @@ impl Connection {
     }
 
     // Registers the streams of the peer up to this one. An ID that cannot be is an error of QUIC.
-    #[tactic(auto, using(crate::proofs::KeepsLemmas::hold, crate::proofs::KeepsLemmas::holds_of, crate::proofs::TellsLemmas::accepts_steps))]
+    #[tactic(auto, using(crate::proofs::KeepsLemmas::holds_refl, crate::proofs::KeepsLemmas::holds_trans, crate::proofs::TellsLemmas::accepts_steps))]
     fn accept(&mut self, id: u64) -> Result<(), Stop>
         ensures keeps { KeepsOwn [] self.old self.new }
         ensures accepts { Accepts self.old.ids self.old.streams.entries self.new.ids self.new.streams.entries }
@@ -93,12 +94,10 @@ impl Connection {
     }
 
     // Registers the next stream of the peer, of the kind of this one.
-    #[tactic(auto, using(crate::proofs::TellsLemmas::accepts_insert, crate::proofs::OwnLemmas::new_insert, crate::proofs::OwnLemmas::new_of, crate::proofs::OwnLemmas::untouched_refl))]
+    #[tactic(auto, using(crate::proofs::TellsLemmas::accepts_insert, crate::proofs::KeepsLemmas::holds_refl))]
     fn accept_next(&mut self, id: u64) -> Result<(), Stop>
-        ensures own { UntouchedOrNew self.old.ids self.old.streams.entries self.new.streams.entries }
+        ensures keeps { KeepsOwn [] self.old self.new }
         ensures accepts { Accepts self.old.ids self.old.streams.entries self.new.ids self.new.streams.entries }
-        ensures config { self.new.config ≡ self.old.config }
-        ensures goes { GoesOn [] self.old self.new }
     {
         let next = self.ids.next_of_peer(id);
         if next >= 1 << 62 {
@@ -121,6 +120,7 @@ impl Connection {
         ensures ids { self.new.ids ≡ self.old.ids }
         ensures streams { self.new.streams ≡ self.old.streams }
         ensures events { self.new.events ≡ self.old.events }
+        ensures ended { self.new.ended ≡ self.old.ended }
     {
         let stream = self.shared.accept(id);
         let writing = half_beside_peer(self.alloc, self.config.queue(), id);
@@ -158,7 +158,7 @@ impl Connection {
     }
 
     // A stream of the peer joined its session.
-    #[tactic(auto, using(crate::proofs::KeepsLemmas::keep, crate::proofs::GoesLemmas::goes_known, crate::proofs::OwnLemmas::own_raw))]
+    #[tactic(auto, using(crate::proofs::KeepsLemmas::keep, crate::proofs::KeepsLemmas::keeps_known, crate::proofs::OwnLemmas::own_raw))]
     pub(super) fn joined(&mut self, id: u64, session: u64)
         ensures keeps { Keeps [] self.old self.new }
     {
@@ -337,7 +337,7 @@ impl Connection {
     ///
     /// `NotAsked` if another stream was to be opened: nothing changes, and QUIC's connection has streams that are not of
     /// this one. `Memory`: nothing changes, and the call is to be made again.
-    #[tactic(auto, using(crate::proofs::KeepsLemmas::kept))]
+    #[tactic(auto, using(crate::proofs::KeepsLemmas::kept, crate::proofs::HalvesLemmas::lasts_refl))]
     pub fn opened(&mut self, id: u64) -> Result<(), Refused>
         ensures asked { OnOk result (opens self.old.ids id ≡ true) }
         ensures counted { OnOk result (id < 2 ^ 62 → self.new.ids ≡ opened_ids self.old.ids (kind_of id)) }
@@ -348,6 +348,7 @@ impl Connection {
         ensures left { Left self.old.streams.entries self.new.streams.entries }
         ensures config { self.new.config ≡ self.old.config }
         ensures goes { GoesOn [] self.old self.new }
+        ensures lasts { LastsOn [] self.old self.new }
     {
         if !self.ids.opens(id) {
             return Err(Refused::NotAsked);

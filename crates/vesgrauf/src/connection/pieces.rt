@@ -98,7 +98,7 @@ impl Connection {
 
     // Returns the piece of content that is next in bytes of a stream, where nothing is due before them.
     #[inline(always)]
-    #[tactic(auto, using(crate::proofs::KeepsLemmas::hold, crate::proofs::BoundLemmas::bound))]
+    #[tactic(auto, using(crate::proofs::BoundLemmas::bound))]
     fn piece_due<'a>(&mut self, input: &mut Input<'a>) -> Option<Piece<'a>>
         ensures tells { IfSome result (λ p. Tells (items_on p.stream (content p.bytes.now))
             self.old.streams.entries input.old self.new.streams.entries input.new) }
@@ -182,6 +182,7 @@ impl Entry {
             (with_chunk (theirs_of self.new) chunk.new)) }
         ensures known { IfSome result (λ p. is_known self.old.told ≡ true) }
         ensures told { self.new.told ≡ self.old.told }
+        ensures read { (self.new.peer ≡ self.old.peer) × (self.new.is_decoder ≡ self.old.is_decoder) }
         ensures fits { KeepsFit (theirs_of self.old) (theirs_of self.new) }
     {
         if !self.gives_pieces() {

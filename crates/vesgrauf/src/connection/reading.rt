@@ -6,6 +6,7 @@ ghost use Rattle.vesgrauf.specs.State.{IsStill};
 ghost use Rattle.vesgrauf.specs.Items.{items_in, items_by, items_found};
 ghost use Rattle.vesgrauf.specs.Theirs.{Left, OnlyAt, Same, ReadsOn, ReadsKept, Hands, Passes, TellsKept, Tells, Gone, theirs_at, told_in};
 ghost use Rattle.vesgrauf.specs.Told.{said_by};
+ghost use Rattle.vesgrauf.specs.declared.entry.Peer.TheVariants as peers;
 ghost use Rattle.vesgrauf.specs.declared.input.Report.TheVariants as report;
 
 use crate::connection::failing::EXCESSIVE_LOAD;
@@ -102,6 +103,7 @@ impl Connection {
     }
 
     // The end of a half of the peer that is not read may have come: then the half is over.
+    #[tactic(auto, using(crate::proofs::KeepsLemmas::keep, crate::proofs::KeepsLemmas::keeps_gone))]
     fn end_dropped(&mut self, id: u64, is_last: bool) -> Result<(), AllocError>
         ensures keeps { Keeps [] self.old self.new }
     {
@@ -242,7 +244,7 @@ impl Connection {
     }
 
     // Returns what is found next on a stream, and by how many bytes QUIC's windows are then to be extended.
-    #[tactic(auto, using(crate::proofs::KeepsLemmas::hold, crate::proofs::ReadsLemmas::reads_set, crate::proofs::TellsLemmas::left_reads, crate::proofs::StepLemmas::left_itself, crate::proofs::BoundLemmas::bound))]
+    #[tactic(auto, using(crate::proofs::KeepsLemmas::holds_refl, crate::proofs::KeepsLemmas::holds_looked, crate::proofs::ReadsLemmas::reads_set, crate::proofs::TellsLemmas::left_reads, crate::proofs::StepLemmas::left_itself, crate::proofs::BoundLemmas::bound))]
     fn look<'a>(&mut self, id: u64, chunk: &mut Chunk<'a>) -> Result<(Found<'a>, usize), Stop>
         ensures keeps { KeepsOwn [] self.old self.new }
         ensures reads { IfOk result (λ r. ReadsOn id (items_found r.0) self.old.streams.entries chunk.old
@@ -300,7 +302,7 @@ impl Connection {
     }
 
     // Keeps the bytes of the input, however many are kept already.
-    #[tactic(auto, using(crate::proofs::KeepsLemmas::hold, crate::proofs::ReadsLemmas::keep_set, crate::proofs::TellsLemmas::only_set, crate::proofs::TellsLemmas::only_none))]
+    #[tactic(auto, using(crate::proofs::KeepsLemmas::holds_refl, crate::proofs::KeepsLemmas::holds_looked, crate::proofs::ReadsLemmas::keep_set, crate::proofs::TellsLemmas::only_set, crate::proofs::TellsLemmas::only_none))]
     fn keep_input<'a>(&mut self, id: u64, input: &mut Input<'a>, most: usize) -> Result<(), Stop>
         ensures keeps { KeepsOwn [] self.old self.new }
         ensures same { input.old.report ≡ report.Stream id
@@ -402,11 +404,10 @@ impl Connection {
         ensures gone { OnOk result (theirs_at self.new.streams.entries id ≡ Gone) }
     {
         match fault {
-            Joining::Refused(fault) => self.shut(id, fault.code(), Why::Fault(fault))?,
-            Joining::Broken(fault) => return Err(Stop::from(fault)),
-            _ => {}
+            Joining::Refused(fault) => Ok(self.shut(id, fault.code(), Why::Fault(fault))?),
+            Joining::Broken(fault) => Err(Stop::from(fault)),
+            _ => Err(internal()),
         }
-        Ok(self.drop_rest(id)?)
     }
 
     // Counts the bytes that are kept of a stream and that QUIC's windows were extended by, which were so many before.
@@ -442,7 +443,9 @@ impl Connection {
     }
 
     // Returns what is done with the peer's half of a stream.
-    pub(super) fn peer_of(&self, id: u64) -> Peer {
+    pub(super) fn peer_of(&self, id: u64) -> Peer
+        ensures { result ≡ peers.Drops → theirs_at self.now.streams.entries id ≡ Gone }
+    {
         match self.streams.get(&id) {
             Some(entry) => entry.peer,
             None => Peer::Over,

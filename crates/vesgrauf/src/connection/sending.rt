@@ -1,7 +1,8 @@
 //! What QUIC is to send and to do.
 ghost use Rattle.std.specs.Prelude.{◌≡◌, ◌⊎◌, false, true, is_some, None, Ok, IfErr, IfSome, OnOk, OnErr, []};
 ghost use Rattle.vesgrauf.specs.Order.{TakesFirst, IsNoneOrOpen};
-ghost use Rattle.vesgrauf.specs.Keeps.{Keeps};
+ghost use Rattle.vesgrauf.specs.Halves.{LastsBut, LastsOn};
+ghost use Rattle.vesgrauf.specs.Keeps.{Keeps, KeepsBut};
 ghost use Rattle.vesgrauf.specs.Messages.{ChangesThen};
 ghost use Rattle.vesgrauf.specs.State.{next_output, Changes, IsStill, IsRefused, ShowsNext, view_of, blocked_at, blocked_in, is_over, is_own, Of, stream_at};
 ghost use Rattle.vesgrauf.specs.Progress.{IsSent, NoneIsReady};
@@ -47,7 +48,7 @@ impl Connection {
     /// # Errors
     ///
     /// `NotAsked` if there is none. `Memory`: nothing changes, and the call is to be made again.
-    #[tactic(auto, using(crate::proofs::KeepsLemmas::kept, crate::proofs::OwnLemmas::untouched_set, crate::proofs::TheirsLemmas::left_set, crate::proofs::GoesLemmas::goes_set))]
+    #[tactic(auto, using(crate::proofs::KeepsLemmas::kept, crate::proofs::OwnLemmas::untouched_set, crate::proofs::TheirsLemmas::left_set, crate::proofs::GoesLemmas::goes_set, crate::proofs::HalvesLemmas::lasts_refl))]
     pub fn output_taken(&mut self) -> Result<(), Refused>
         ensures taken { OnOk result (self.old.closes ≡ None
             → TakesFirst self.old.outputs.items self.new.outputs.items) }
@@ -62,6 +63,7 @@ impl Connection {
         ensures left { Left self.old.streams.entries self.new.streams.entries }
         ensures config { self.new.config ≡ self.old.config }
         ensures goes { GoesOn [] self.old self.new }
+        ensures lasts { LastsOn [] self.old self.new }
     {
         if self.closes.is_some() {
             self.closes = None;
@@ -204,8 +206,9 @@ impl Connection {
     }
 
     // QUIC took bytes of a stream: there may be room again, or nothing is to be done for its own half any more.
+    #[tactic(auto, using(crate::proofs::KeepsLemmas::but))]
     fn after_sent(&mut self, id: u64, is_done: bool) -> Result<(), AllocError>
-        ensures keeps { Keeps [] self.old self.new }
+        ensures keeps { KeepsBut id self.old self.new }
     {
         self.note_room(id);
         if is_done {
@@ -294,7 +297,7 @@ impl Connection {
     ///
     /// `NotAsked` if QUIC did not take so many. `Memory`: nothing changes, and the call is to be made again. There is
     /// none if the stream is forgotten.
-    #[tactic(auto, using(crate::proofs::KeepsLemmas::kept, crate::proofs::OwnLemmas::untouched_set, crate::proofs::TheirsLemmas::left_set, crate::proofs::GoesLemmas::goes_set, std::proofs::lemmas::Map::Steps::set_value_same))]
+    #[tactic(auto, using(crate::proofs::KeepsLemmas::kept, crate::proofs::OwnLemmas::untouched_set, crate::proofs::TheirsLemmas::left_set, crate::proofs::GoesLemmas::goes_set, std::proofs::lemmas::Map::Steps::set_value_same, crate::proofs::HalvesLemmas::lasts_refl))]
     pub fn acked(&mut self, id: u64, len: u64) -> Result<(), Refused>
         ensures refused { IfErr result (λ e. IsRefused e self.old self.new) }
         ensures control { OnOk result (is_it id self.old.control.id ≡ true
@@ -310,6 +313,7 @@ impl Connection {
         ensures left { Left self.old.streams.entries self.new.streams.entries }
         ensures config { self.new.config ≡ self.old.config }
         ensures goes { GoesOn [] self.old self.new }
+        ensures lasts { LastsBut id self.old self.new }
     {
         self.reserve()?;
         let spares = &mut self.tools.spares;
@@ -326,12 +330,12 @@ impl Connection {
     }
 
     // The peer has more of the bytes of a stream that is not critical, which may be over then.
-    #[tactic(auto, using(crate::proofs::KeepsLemmas::keep))]
+    #[tactic(auto, using(crate::proofs::KeepsLemmas::but))]
     fn acked_stream(&mut self, id: u64, len: u64) -> Result<(), Refused>
         ensures refused { IfErr result (λ e. IsRefused e self.old self.new) }
         ensures acks { OnOk result (is_some (stream_at self.old id) ≡ true
             → ChangesThen id (λ v w. Does (Acknowledges len) v.queue w.queue) self.old self.new) }
-        ensures keeps { Keeps [] self.old self.new }
+        ensures keeps { KeepsBut id self.old self.new }
     {
         let is_done = self.acked_on(id, len)?;
         Ok(self.after_sent(id, is_done)?)

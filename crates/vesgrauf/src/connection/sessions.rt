@@ -3,7 +3,7 @@ ghost use Rattle.std.specs.Prelude.{◌≡◌, ◌⊎◌, ◌+◌, ◌-◌, ◌^
 ghost use Rattle.vesgrauf.specs.Order.{LooksAtAll};
 ghost use Rattle.vesgrauf.specs.Messages.{ClosesSession, ChangesThen};
 ghost use Rattle.vesgrauf_stream.specs.Writing.{Drains};
-ghost use Rattle.vesgrauf.specs.Keeps.{Keeps};
+ghost use Rattle.vesgrauf.specs.Keeps.{Keeps, KeepsBut};
 ghost use Rattle.vesgrauf.specs.State.{IsStill, IsRefused, Changes, IsWhy, RefusesDrain, is_over, open_session};
 ghost use Rattle.vesgrauf.specs.Own.{UntouchedBut};
 ghost use Rattle.vesgrauf.specs.Items.{Item, Section, Asks};
@@ -50,12 +50,12 @@ impl Connection {
     }
 
     // Rejects the request on a stream, of which nothing more is read.
-    fn reject_fully(&mut self, id: u64) -> Result<(), AllocError>
+    fn reject_fully(&mut self, id: u64) -> Result<(), Stop>
         ensures keeps { Keeps [] self.old self.new }
         ensures gone { OnOk result (theirs_at self.new.streams.entries id ≡ Gone) }
     {
         self.reject(id, Some(id))?;
-        self.drop_rest(id)
+        self.drop_untold(id)
     }
 
     // Tells of a request for a session.
@@ -356,8 +356,9 @@ impl Connection {
     }
 
     // The end of a session is queued: what follows for its streams.
+    #[tactic(auto, using(crate::proofs::KeepsLemmas::but))]
     fn session_ended(&mut self, session: u64) -> Result<(), AllocError>
-        ensures keeps { Keeps [] self.old self.new }
+        ensures keeps { KeepsBut session self.old self.new }
     {
         self.end_session(session)?;
         self.drop_peer(session)?;

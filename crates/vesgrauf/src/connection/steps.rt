@@ -5,6 +5,7 @@ ghost use Rattle.vesgrauf.specs.Keeps.{Keeps, KeepsOwn};
 ghost use Rattle.vesgrauf.specs.Progress.{IsSettled};
 ghost use Rattle.vesgrauf.specs.State.{is_over, is_last, go_on, IsAfterEnd, IsSomeOk, IsTold};
 ghost use Rattle.vesgrauf.specs.Told.{ends, word_of, said_by, told_now, told_by_call};
+ghost use Rattle.vesgrauf.specs.Halves.{ending_queued};
 ghost use Rattle.vesgrauf.specs.Items.{items_told};
 ghost use Rattle.vesgrauf.specs.Theirs.{Accepts, Tells, TellsAll, told_by, told_in};
 
@@ -141,8 +142,8 @@ impl Connection {
         }
     }
 
-    // Takes the first event that is queued. What is read of a stream never is.
-    #[tactic(auto, using(crate::proofs::KeepsLemmas::keep, crate::proofs::GoesSteps::goes_told_first, crate::proofs::GoesSteps::goes_dropped))]
+    // Takes the first event that is queued, with the number that the program has given its stream since.
+    #[tactic(auto, using(crate::proofs::KeepsLemmas::keeps_as))]
     fn first_queued<'a>(&mut self) -> Option<Event<'a>>
         ensures silent { IfSome result (λ e. items_told e.kind ≡ []) }
         ensures last { go_on self.old.events.items ≡ false → IfSome result (λ e. is_last e.kind ≡ true) }
@@ -152,11 +153,24 @@ impl Connection {
         ensures ids { self.new.ids ≡ self.old.ids }
         ensures keeps { Keeps (told_now result) self.old self.new }
     {
+        let event = self.pop_queued()?;
+        Some(self.numbered(event))
+    }
+
+    // Takes the first event that is queued. What is read of a stream never is.
+    #[tactic(auto, using(crate::proofs::KeepsLemmas::keeps_refl, crate::proofs::KeepsLemmas::keeps_told_first, crate::proofs::KeepsLemmas::keeps_dropped))]
+    fn pop_queued<'a>(&mut self) -> Option<Event<'a>>
+        ensures silent { IfSome result (λ e. items_told e.kind ≡ []) }
+        ensures last { go_on self.old.events.items ≡ false → IfSome result (λ e. is_last e.kind ≡ true) }
+        ensures events { go_on self.old.events.items ≡ false → go_on self.new.events.items ≡ false }
+        ensures others { self.new ≡ record self.old { events = self.new.events } }
+        ensures keeps { Keeps (told_now result) self.old self.new }
+    {
         let event = self.events.pop_front()?;
         if tells_items(&event) {
             return None;
         }
-        Some(self.numbered(event))
+        Some(event)
     }
 
     // Returns an event that was queued, with the number that the program has given its stream since.
@@ -186,6 +200,7 @@ fn is_of_stream(event: &Event<'_>) -> bool {
 fn tells_items(event: &Event<'_>) -> bool
     ensures silent { result ≡ false → items_told event.now.kind ≡ [] }
     ensures goes_on { result ≡ true → ends (word_of event.now.kind) ≡ false }
+    ensures ends_nothing { result ≡ true → ending_queued event.now.kind ≡ None }
 {
     matches!(
         event.kind,

@@ -1,5 +1,5 @@
 //! What QUIC takes of the queue.
-ghost use Rattle.std.specs.Prelude.{◌≡◌, ◌==◌, ◌<◌, ◌+◌, ◌↔◌, [], take, drop, not, false, true, length, OnOk, OnErr, IsErr, MatchBool, MatchOption};
+ghost use Rattle.std.specs.Prelude.{◌≡◌, ◌==◌, ◌<◌, ◌+◌, ◌-◌, ◌↔◌, [], take, drop, not, false, true, length, OnOk, OnErr, IsErr, MatchBool, MatchOption};
 ghost use Rattle.vesgrauf_queue.specs.declared.ending.Ending.TheVariants.{Open, Resetting};
 ghost use Rattle.vesgrauf_queue.specs.Pieces.{shown, after_shown};
 ghost use Rattle.vesgrauf_queue.specs.State.{waiting, counted as counted_is, is_full as is_full_is, IsIdle, Shows, IsNotDue, HasNoReset};
@@ -48,6 +48,14 @@ impl Writing {
         ensures err { OnErr result (self.new ≡ self.old) }
     {
         self.queue.acked(spares, len)
+    }
+
+    /// The peer has all bytes that QUIC took.
+    pub fn acked_all(&mut self, spares: &mut Spares)
+        ensures half { self.new.half ≡ self.old.half }
+        ensures queue { Does (Acknowledges (self.old.queue.put - self.old.queue.acked)) self.old.queue self.new.queue }
+    {
+        self.queue.acked_all(spares)
     }
 
     /// Returns the reset that QUIC is to take, once it took the bytes that are reliable.

@@ -1,22 +1,34 @@
-use Rattle.std.proofs.Common.{◌<◌, ◌^◌, ap, sym, ◌∙◌, arith}
+use Rattle.std.proofs.Common.{◌≡◌, ◌<◌, ◌^◌, [], None, refl, ap, sym, ◌∙◌, arith}
+use Rattle.std.specs.Prelude.{is_some}
 use Rattle.vesgrauf.specs.Ids.{next_peer}
+use Rattle.vesgrauf.specs.Keeps.{KeptOwn}
+use Rattle.vesgrauf.specs.Told.{Goes}
+use Rattle.vesgrauf.proofs.HalvesLemmas.{lasts_insert}
 use Rattle.vesgrauf.proofs.IdLemmas.{goes_accepts}
 use Rattle.vesgrauf.proofs.OwnLemmas.{new_insert}
 use Rattle.vesgrauf.proofs.connection.Connection.accept_next.Goals as goal
 
-pub returns-clause-goes : goal.returns-clause-goes
-returns-clause-goes c =
+pub returns-clause-keeps : goal.returns-clause-keeps
+returns-clause-keeps c =
     let below : c.next_of_peer-next.result < 2 ^ 62 = omega arith in
-    rw (ap (λ q. q.items) c.entry_of_peer-entry.ensures.events)
+    rw (
+      ap (λ q. q.items) c.entry_of_peer-entry.ensures.events,
+      c.entry_of_peer-entry.ensures.config,
+      c.entry_of_peer-entry.ensures.ended,
+    )
+    (KeptOwn
+    (λ m. new_insert c.args.self.now.ids c.args.self.now.streams.entries c.insert.new.self.entries
+    c.next_of_peer-next.result c.entry_of_peer-entry.result (sym c.was.ensures ∙ c.if-was.false)
+    c.entry_of_peer-entry.ensures.blank c.in_ok-insert.ensures.updates.1
+    (rw (ap (λ m. m.entries) c.entry_of_peer-entry.ensures.streams) at c.in_ok-insert.ensures.updates.2))
     (goes_accepts c.args.self.now.streams.entries c.insert.new.self.entries c.args.self.now.ids c.see_next.new.self
     c.args.self.now.events.items c.of.result c.next_of_peer-next.result c.entry_of_peer-entry.result
     (c.next_of_peer-next.ensures ∙ ap (λ k. next_peer c.args.self.now.ids k) (sym c.of.ensures)) below
     (rw c.entry_of_peer-entry.ensures.ids at c.see_next.ensures)
     c.in_ok-insert.ensures.updates.1
     (rw (ap (λ m. m.entries) c.entry_of_peer-entry.ensures.streams) at c.in_ok-insert.ensures.updates.2))
-
-pub returns-clause-own : goal.returns-clause-own
-returns-clause-own c = new_insert c.args.self.now.ids c.args.self.now.streams.entries c.insert.new.self.entries
-    c.next_of_peer-next.result c.entry_of_peer-entry.result (sym c.was.ensures ∙ c.if-was.false)
-    c.entry_of_peer-entry.ensures.blank c.in_ok-insert.ensures.updates.1
-    (rw (ap (λ m. m.entries) c.entry_of_peer-entry.ensures.streams) at c.in_ok-insert.ensures.updates.2)
+    refl (λ h. h)
+    (λ m n s. lasts_insert None c.args.self.now.ids c.args.self.now.streams.entries c.insert.new.self.entries
+    c.args.self.now.events.items c.next_of_peer-next.result c.entry_of_peer-entry.result
+    (sym c.was.ensures ∙ c.if-was.false) c.in_ok-insert.ensures.updates.1
+    (rw (ap (λ m. m.entries) c.entry_of_peer-entry.ensures.streams) at c.in_ok-insert.ensures.updates.2) s))

@@ -11,4 +11,4 @@ returns-then-not-is_known-clause-keeps c =
     let unknown : knows_of (entry_at c.args.self.now.streams.entries c.args.id) ≡ false
     = rw (sym there) (sym c.is_known.ensures ∙ c.if-not-is_known.true) in
     rw c.end_told.ensures.others (keeps_over c.args.self.now.streams.entries c.end_told.new.self.streams.entries
-    c.args.self.now.ids c.args.self.now.events.items c.args.self.now.config c.args.id unknown c.end_told.ensures.ends)
+    c.args.self.now.ids c.args.self.now.events.items c.args.self.now.config c.args.self.now.ended c.args.id unknown c.end_told.ensures.ends)

@@ -9,7 +9,8 @@ returns-clause-keeps c = λ unknown. rw (
   c.forget.ensures.ids,
   ap (λ q. q.items) c.forget.ensures.events,
   c.forget.ensures.config,
+  c.forget.ensures.ended,
 )
     (keeps_removed c.args.self.now.streams.entries c.remove.new.self.entries c.args.self.now.ids
-    c.args.self.now.events.items c.args.self.now.config c.args.id c.remove.ensures.updates.0
+    c.args.self.now.events.items c.args.self.now.config c.args.self.now.ended c.args.id c.remove.ensures.updates.0
     (ap (λ o. is_some o) (sym c.remove.ensures.value ∙ c.in-Some.is)) unknown)

@@ -53,10 +53,14 @@ returns-in_err-open_request-clause-kept c =
     let later : IsStill c.check_room.new.self c.choose_policy.new.self
     = c.choose_policy.ensures.still ∙ c.reserve.ensures.still in
     let last : Keeps [] c.choose_policy.new.self c.open_request.new.self =
-    rw (c.open_request.ensures.ids, ap (λ d. d.items) c.open_request.ensures.events)
+    rw (
+      c.open_request.ensures.ids,
+      ap (λ d. d.items) c.open_request.ensures.events,
+      ap (λ v. v.ended) c.open_request.ensures.view,
+    )
     (keeps_undone c.choose_policy.new.self.streams.entries c.open_request.new.self.streams.entries
     c.choose_policy.new.self.ids c.choose_policy.new.self.events.items c.choose_policy.new.self.config
-    c.open_request.new.self.config kind.Bidirectional c.in-Some.id
+    c.open_request.new.self.config c.choose_policy.new.self.ended kind.Bidirectional c.in-Some.id
     (c.in-Some.ensures.0 ∙ ap (λ v. next_own v.ids kind.Bidirectional) (sym later))
     c.in_err-open_request.ensures.refused (ap (λ v. v.config) c.open_request.ensures.view)) in
     let h : Keeps [] c.args.self.now c.open_request.new.self =
