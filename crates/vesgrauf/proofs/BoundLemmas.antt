@@ -20,7 +20,8 @@ use Rattle.vesgrauf.specs.declared.event.Event.{Event}
 use Rattle.vesgrauf.specs.declared.connection.Ended.{Ended}
 use Rattle.vesgrauf.specs.Keeps.{KeepsAll, Keeps, KeepsOwnAll}
 use Rattle.vesgrauf.specs.State.{IsStill}
-use Rattle.vesgrauf.proofs.KeepsLemmas.{keeps_left, keeps_config, holds_config}
+use Rattle.vesgrauf.proofs.KeepsLemmas.{keeps_left, keeps_config}
+use Rattle.vesgrauf.proofs.KeepsOwnLemmas.{holds_config}
 use Rattle.vesgrauf.proofs.ReadsLemmas.{same_key}
 
 -- ---- one stream

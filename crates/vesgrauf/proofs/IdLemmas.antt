@@ -20,7 +20,8 @@ use Rattle.vesgrauf.specs.Keeps.{KeepsAll, Kept, Keeps}
 use Rattle.vesgrauf.specs.Own.{entry_at, own_in, IsUntouched, UntouchedBut}
 use Rattle.vesgrauf.specs.State.{knows_of, IsStill}
 use Rattle.vesgrauf.specs.Theirs.{theirs_in, IsLeft}
-use Rattle.vesgrauf.proofs.HalvesLemmas.{holds_refl, lasts_still, not_there}
+use Rattle.vesgrauf.proofs.HalvesLemmas.{holds_refl}
+use Rattle.vesgrauf.proofs.LastsLemmas.{lasts_still, not_there}
 use Rattle.vesgrauf.proofs.KeepsLemmas.{keeps_refl}
 use Rattle.vesgrauf.specs.Told.{Sets, AreOthers, IsUndone, AreIds, Sound, Stays, status_by, Goes}
 use Rattle.vesgrauf.proofs.GoesLemmas.{by_none, goes_refl, same_at, stays_refl}

@@ -5,6 +5,8 @@ pub mod GoesSteps
 pub mod HalvesLemmas
 pub mod IdLemmas
 pub mod KeepsLemmas
+pub mod KeepsOwnLemmas
+pub mod LastsLemmas
 pub mod MessageLemmas
 pub mod OrderLemmas
 pub mod OwnLemmas

@@ -24,7 +24,7 @@ use Rattle.vesgrauf.specs.Streams.{is_known}
 use Rattle.vesgrauf.specs.declared.connection.Ended.{Ended}
 use Rattle.vesgrauf.specs.Halves.{reads_in}
 use Rattle.vesgrauf.specs.Keeps.{KeepsOwnAll, KeptOwn}
-use Rattle.vesgrauf.proofs.HalvesLemmas.{adds_told, lasts_adds, lasts_after, lasts_set}
+use Rattle.vesgrauf.proofs.LastsLemmas.{adds_told, lasts_adds, lasts_after, lasts_set}
 use Rattle.vesgrauf.specs.Told.{ends, word_of}
 use Rattle.vesgrauf.specs.declared.config.Config.{Config}
 use Rattle.vesgrauf.specs.Inputs.{IsSameOrRead}

@@ -1,4 +1,5 @@
--- What the program may count on of the halves of its streams: of one that goes on it is not told that it is over.
+-- What the program may count on of the halves of the streams that it knows of: none is reset, given up or left unread unless
+-- it is told so, or an event is queued that says so.
 use Rattle.std.specs.Prelude.{◌≡◌, ◌==◌, ◌++◌, ℕ, if◌then◌else◌, Bool, true, false, List, [], ◌∷◌, Option, None, Some, not}
 use Rattle.std.specs.Ordering.{nat_cmp}
 use Rattle.std.specs.BTreeMap.{is_at}
@@ -14,7 +15,7 @@ use Rattle.vesgrauf.specs.declared.entry.Peer.TheVariants as peer
 use Rattle.vesgrauf.specs.Told.{GoesOn, Sound}
 
 -- NotKnown: the program does not know of the stream, or was told that it is over. Has: it knows of it; whether its own half
--- goes on, and whether the peer's is read.
+-- was neither reset nor given up, and whether the peer's is read.
 pub data Halves : Type 0 where
   NotKnown : Halves
   Has : (sends reads : Bool) → Halves

@@ -25,6 +25,7 @@ new_entry r p w = record {
   priority = record { urgency = 3; incremental = false };
   told = told.NotYet;
   is_opened = true;
+  is_closed = false;
   is_blocked = false;
   is_paused = false;
   is_awaited = false;

@@ -13,6 +13,7 @@ mod looking;
 mod malformed;
 mod messages;
 mod opening;
+mod peers;
 mod pieces;
 mod quick;
 mod reading;
@@ -323,11 +324,12 @@ impl Connection {
     /// # Errors
     ///
     /// If memory is refused: nothing is lost, the input stays as it is, and the call is to be made again.
-    #[tactic(auto, using(crate::proofs::KeepsLemmas::held, crate::proofs::ProgressLemmas::quiet_settled, crate::proofs::BoundLemmas::bounded))]
+    #[tactic(auto, using(crate::proofs::KeepsOwnLemmas::held, crate::proofs::ProgressLemmas::quiet_settled, crate::proofs::BoundLemmas::bounded))]
     #[inline(always)]
     pub fn next_event<'a>(&mut self, input: &mut Input<'a>) -> Result<Option<Event<'a>>, AllocError>
         ensures last { IsAfterEnd self.old → IsSomeOk result (λ e. is_last e.kind ≡ true) }
         ensures over { IsAfterEnd self.old → IsAfterEnd self.new }
+        ensures ends { is_over self.old ≡ true → is_over self.new ≡ true }
         ensures own { self.old.config.on_malformed ≡ chosen.Reset
             → UntouchedOrNew self.old.ids self.old.streams.entries self.new.streams.entries }
         ensures told { is_over self.new ≡ false → IfOk result (λ e. TellsAll self.old.ids (told_by e)
@@ -345,7 +347,7 @@ impl Connection {
     }
 
     // Takes one step.
-    #[tactic(auto, using(crate::proofs::KeepsLemmas::hold, crate::proofs::StepLemmas::left_then_tells, crate::proofs::BoundLemmas::bound))]
+    #[tactic(auto, using(crate::proofs::KeepsOwnLemmas::hold, crate::proofs::StepLemmas::left_then_tells, crate::proofs::BoundLemmas::bound))]
     fn step<'a>(&mut self, input: &mut Input<'a>) -> Result<Step<'a>, Stop>
         ensures keeps { KeepsOwn (said_by result) self.old self.new }
         ensures tells { IfOk result (λ s. Tells (told_in s)
@@ -357,7 +359,7 @@ impl Connection {
     }
 
     // Takes a step for a session that opened, or another.
-    #[tactic(auto, using(crate::proofs::KeepsLemmas::hold, crate::proofs::BoundLemmas::bound))]
+    #[tactic(auto, using(crate::proofs::KeepsOwnLemmas::hold, crate::proofs::BoundLemmas::bound))]
     fn step_due<'a>(&mut self, input: &mut Input<'a>) -> Result<Step<'a>, Stop>
         ensures keeps { KeepsOwn (said_by result) self.old self.new }
         ensures tells { IfOk result (λ s. Tells (told_in s)
@@ -371,7 +373,7 @@ impl Connection {
     }
 
     // Takes a step by what is kept of a stream that is read again, or by what the input reports.
-    #[tactic(auto, using(crate::proofs::KeepsLemmas::hold, crate::proofs::BoundLemmas::bound, crate::proofs::BoundLemmas::bound_kept))]
+    #[tactic(auto, using(crate::proofs::KeepsOwnLemmas::hold, crate::proofs::BoundLemmas::bound, crate::proofs::BoundLemmas::bound_kept))]
     fn step_read<'a>(&mut self, input: &mut Input<'a>) -> Result<Step<'a>, Stop>
         ensures keeps { KeepsOwn (said_by result) self.old self.new }
         ensures tells { IfOk result (λ s. Tells (told_in s)
@@ -385,7 +387,7 @@ impl Connection {
     }
 
     // Takes a step by what the input reports.
-    #[tactic(auto, using(crate::proofs::KeepsLemmas::hold, crate::proofs::TellsLemmas::reported_tells, crate::proofs::BoundLemmas::bound))]
+    #[tactic(auto, using(crate::proofs::KeepsOwnLemmas::hold, crate::proofs::TellsLemmas::reported_tells, crate::proofs::BoundLemmas::bound))]
     fn take_input<'a>(&mut self, input: &mut Input<'a>) -> Result<Step<'a>, Stop>
         ensures keeps { KeepsOwn (said_by result) self.old self.new }
         ensures tells { IfOk result (λ s. Tells (told_in s)

@@ -53,6 +53,8 @@ pub(crate) struct Entry {
     pub(crate) told: Told,
     /// Whether QUIC has opened it.
     pub(crate) is_opened: bool,
+    /// Whether QUIC has closed it: nothing more is asked of QUIC on it.
+    pub(crate) is_closed: bool,
     /// Whether QUIC takes nothing of it.
     pub(crate) is_blocked: bool,
     /// Whether the program wants no events of it.
@@ -114,6 +116,7 @@ impl Entry {
             priority: Priority::DEFAULT,
             told: Told::NotYet,
             is_opened: true,
+            is_closed: false,
             is_blocked: false,
             is_paused: false,
             is_awaited: false,

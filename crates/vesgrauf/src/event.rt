@@ -69,9 +69,9 @@ pub enum EventKind<'a> {
     /// The peer reset the stream, with this code.
     Reset(StreamCode),
     /// Nothing more is sent on the own half: the peer asked to stop it, with this code, and it is reset. With H3_NO_ERROR a
-    /// server needs no more of a request: its response still comes (RFC 9114, section 4.1). It is told, too, where the
-    /// session of the stream is over, with WEBTRANSPORT_SESSION_GONE, and where QUIC closed the stream before its end, with
-    /// H3_REQUEST_CANCELLED.
+    /// server needs no more of a request: its response still comes (RFC 9114, section 4.1). It is told, too, if the session
+    /// of the stream is over and the peer's half is read to its end, with WEBTRANSPORT_SESSION_GONE; and if QUIC closed the
+    /// stream before it took the end, with H3_REQUEST_CANCELLED.
     Stopped(StreamCode),
     /// The peer violated a rule on the stream, of which the program may not know yet. It comes if
     /// [`tells_failures`](crate::config::Config) is set, before the `Closed` of a stream that the program knows of, and
@@ -117,8 +117,7 @@ pub enum Why {
     /// Both halves are over, and QUIC took all that was queued, and the end. Whether all of the peer's half came is what
     /// `End` and `Reset` say.
     Done,
-    /// Both halves are over. The own half was reset, by a call or since the peer stopped it: not all that was queued is
-    /// sent.
+    /// Both halves are over. The own half was reset, by a call or after `Stopped`: not all that was queued is sent.
     Reset,
     /// The peer closed the session of this stream, with a code and a reason.
     Session(Close),

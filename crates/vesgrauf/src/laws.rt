@@ -87,10 +87,10 @@ pub fn wrong_endings_are_refused()
     ensures failure { Path entry.NotYet (Fails ∷ []) entry.NotYet }
 {}
 
-/// Over calls of `next_event` that do not end the connection: of a stream that the program knows of, no half ends unless
-/// the program is told so, or an event that says so is queued. For the own half that is `Stopped`, for the peer's `End` or
-/// `Reset`, and for both `Closed`.
-#[tactic(auto, using(crate::proofs::HalvesLemmas::halves_go_on))]
+/// Over calls of `next_event` that do not end the connection: of a stream that the program knew of before, no own half is
+/// reset or given up, and no half of the peer is left unread, unless the program is told so, or an event that says so is
+/// queued. For the own half that is `Stopped`, for the peer's `End` or `Reset`, and for both `Closed`.
+#[tactic(auto, using(crate::proofs::LastsLemmas::halves_go_on))]
 pub fn halves_go_on()
     ensures { (calls : List (List EventOf)) (c : Connection) (d : Connection) → Sound c.streams.entries c.ids
         → Hears calls c d → (id : ℕ)
@@ -105,7 +105,7 @@ pub fn wrong_halves_are_refused()
     ensures peer { (s : Bool) → Holds (Has s true) (Has s false) → ⊥ }
     ensures own_by_peer { (r : Bool) → Holds (after (Some OfPeer) (Has true r)) (Has false false) → ⊥ }
     ensures peer_by_own { (s : Bool) → Holds (after (Some OfOwn) (Has s true)) (Has false false) → ⊥ }
-    ensures forgotten { Holds (Has true true) NotKnown → ⊥ }
+    ensures forgotten { (s : Bool) (r : Bool) → Holds (Has s r) NotKnown → ⊥ }
     ensures stopped { Holds (after (Some OfOwn) (Has true true)) (Has false true) }
     ensures ended { Holds (after (Some OfPeer) (Has true true)) (Has true false) }
     ensures closed { Holds (after (Some OfBoth) (Has true true)) NotKnown }

@@ -25,7 +25,7 @@ impl Connection {
     /// # Errors
     ///
     /// Nothing changes. `Closed`; `NoStream`; `WrongCode`; and `Memory`.
-    #[tactic(auto, using(crate::proofs::KeepsLemmas::kept, crate::proofs::HalvesLemmas::lasts_refl))]
+    #[tactic(auto, using(crate::proofs::KeepsLemmas::kept, crate::proofs::LastsLemmas::lasts_refl))]
     pub fn reset(&mut self, id: u64, code: StreamCode) -> Result<(), Refused>
         ensures ends { OnOk result (EndsOwn id self.old.streams.entries self.new.streams.entries) }
         ensures fits { OnOk result (is_ok (code_on self.old id code) ≡ true) }
@@ -69,7 +69,7 @@ impl Connection {
     /// # Errors
     ///
     /// As of [`reset`](Self::reset).
-    #[tactic(auto, using(crate::proofs::KeepsLemmas::kept, crate::proofs::HalvesLemmas::lasts_refl))]
+    #[tactic(auto, using(crate::proofs::KeepsLemmas::kept, crate::proofs::LastsLemmas::lasts_refl))]
     pub fn stop_sending(&mut self, id: u64, code: StreamCode) -> Result<(), Refused>
         ensures gone { OnOk result (theirs_at self.new.streams.entries id ≡ Gone) }
         ensures fits { OnOk result (is_ok (code_on self.old id code) ≡ true) }
@@ -113,7 +113,7 @@ impl Connection {
     /// # Errors
     ///
     /// As of [`reset`](Self::reset).
-    #[tactic(auto, using(crate::proofs::KeepsLemmas::kept, crate::proofs::HalvesLemmas::lasts_refl))]
+    #[tactic(auto, using(crate::proofs::KeepsLemmas::kept, crate::proofs::LastsLemmas::lasts_refl))]
     pub fn abort(&mut self, id: u64, code: StreamCode) -> Result<(), Refused>
         ensures ends { OnOk result (EndsOwn id self.old.streams.entries self.new.streams.entries) }
         ensures gone { OnOk result (theirs_at self.new.streams.entries id ≡ Gone) }

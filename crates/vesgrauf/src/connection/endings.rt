@@ -4,13 +4,12 @@ ghost use Rattle.wtp_connection.specs.Budget.{code_after};
 ghost use Rattle.std.specs.List.{filter};
 ghost use Rattle.vesgrauf.specs.Keeps.{Keeps};
 ghost use Rattle.vesgrauf.specs.State.{head, go_on, is_over, is_last, IsAfterEnd, IsTold, EndsUnless, closes_stream, stream_at, knows_of};
-ghost use Rattle.vesgrauf.specs.Own.{Untouched};
-ghost use Rattle.vesgrauf.specs.Theirs.{Left, Gone, IsSilent, theirs_at};
+ghost use Rattle.vesgrauf.specs.Theirs.{Gone, IsSilent, theirs_at};
 ghost use Rattle.vesgrauf.specs.Told.{GoesOn, ends, word_of, said_by, said_in};
 
 use crate::code::StreamCode;
-use crate::connection::closing::dropped;
 use crate::connection::failing::EXCESSIVE_LOAD;
+use crate::connection::peers::dropped;
 use crate::connection::{Connection, Ended, Step, Stop, internal};
 use crate::entry::{Entry, Peer};
 use crate::event::{Event, EventKind, Why};
@@ -18,7 +17,6 @@ use crate::input::{Input, Report};
 use crate::output::Output;
 use std::alloc::AllocError;
 use std::collections::VecDeque;
-use vesgrauf_stream::writing::Writing;
 use wtp_connection::stream::Purpose;
 use wtp_core::error::Code;
 use wtp_core::varint::VarInt;
@@ -302,42 +300,15 @@ impl Connection {
         None
     }
 
-    // QUIC has closed a stream: what is kept of the own half is freed. What the peer sent is still read.
-    pub(super) fn stream_closed(&mut self, id: u64) -> Result<(), AllocError>
+    // QUIC has closed a stream. An own half that is lost by that is as one that the peer asked to stop. What the peer sent is
+    // still read.
+    pub(super) fn stream_closed(&mut self, id: u64) -> Result<(), Stop>
         ensures keeps { Keeps [] self.old self.new }
     {
-        self.lose_half(id)?;
-        self.remove_if_done(id)
-    }
-
-    // Frees what is kept of the own half of a stream. If its end was not taken, nor its reset, what waits is lost, and the
-    // program is told so.
-    #[tactic(auto, using(crate::proofs::KeepsLemmas::keep, crate::proofs::KeepsLemmas::keeps_stopped))]
-    fn lose_half(&mut self, id: u64) -> Result<(), AllocError>
-        ensures keeps { Keeps [] self.old self.new }
-    {
-        let Some(entry) = self.streams.get_mut(&id) else {
-            return Ok(());
-        };
-        if entry.writing.is_finished() && entry.writing.is_done() {
-            entry.writing.acked_all(&mut self.tools.spares);
-            return Ok(());
+        if self.lose_half(id)? {
+            return self.half_stopped(id, Code::H3_REQUEST_CANCELLED.number().into_inner());
         }
-        let was_reset = entry.writing.is_ended() && !entry.writing.is_finished();
-        let is_lost = !was_reset && !entry.writing.is_none();
-        if is_lost && entry.is_known() {
-            self.events.push_back(Event {
-                stream: id,
-                session: entry.session_shown(id),
-                user: entry.user,
-                kind: EventKind::Stopped(StreamCode::Http(Code::H3_REQUEST_CANCELLED)),
-            })?;
-        }
-        entry.is_reset = entry.is_reset || is_lost;
-        entry.writing = Writing::none(self.alloc, self.config.queue());
-        self.ready.remove(id, entry.kind());
-        self.full.remove(&id);
-        Ok(())
+        Ok(self.remove_if_done(id)?)
     }
 
     // Leaves a request that the server does not process.

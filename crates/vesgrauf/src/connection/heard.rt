@@ -1,14 +1,13 @@
 //! What is heard on a stream, and what follows from it.
-ghost use Rattle.std.specs.Prelude.{◌≡◌, [], ◌∷◌, false, IfOk, OnOk};
+ghost use Rattle.std.specs.Prelude.{◌≡◌, [], ◌∷◌, false, IfOk};
 ghost use Rattle.vesgrauf.specs.Keeps.{Keeps, KeepsOwn};
 ghost use Rattle.vesgrauf.specs.Told.{ends, word_of, said_by, said_in};
 ghost use Rattle.vesgrauf.specs.State.{stream_at, told_on};
-ghost use Rattle.vesgrauf.specs.Items.{Section, Ends, has_end, items_in, items_of, items_told};
+ghost use Rattle.vesgrauf.specs.Items.{Section, has_end, items_in, items_of, items_told};
 ghost use Rattle.wtp_webtransport.specs.declared.event.HeadersKind.TheVariants as headers;
-ghost use Rattle.vesgrauf.specs.Theirs.{Left, Hands, Gone, IsSilent, IsOf, theirs_at, told_in};
+ghost use Rattle.vesgrauf.specs.Theirs.{Left, Hands, IsSilent, IsOf, told_in};
 ghost use Rattle.wtp_webtransport.specs.Events.{told_of};
 
-use crate::connection::closing::dropped;
 use crate::connection::failing::NO_DATAGRAMS;
 use crate::connection::opening::{Joining, joining_of};
 use crate::connection::{Connection, Step, Stop, internal};
@@ -46,7 +45,7 @@ pub(super) fn says_items(event: &Said<'_>) -> bool
 #[tactic(auto, using(crate::proofs::KeepsLemmas::keep))]
 impl Connection {
     // Handles what was heard on a stream.
-    #[tactic(auto, using(crate::proofs::KeepsLemmas::hold, crate::proofs::TellsLemmas::left_hands, crate::proofs::PieceLemmas::content_goes_on))]
+    #[tactic(auto, using(crate::proofs::KeepsOwnLemmas::hold, crate::proofs::TellsLemmas::left_hands, crate::proofs::PieceLemmas::content_goes_on))]
     pub(super) fn heard<'a>(&mut self, id: u64, heard: Heard<'a>) -> Result<Step<'a>, Stop>
         ensures keeps { KeepsOwn (said_by result) self.old self.new }
         ensures left { Left self.old.streams.entries self.new.streams.entries }
@@ -101,7 +100,7 @@ impl Connection {
     }
 
     // Handles what a stream says.
-    #[tactic(auto, using(crate::proofs::KeepsLemmas::hold))]
+    #[tactic(auto, using(crate::proofs::KeepsOwnLemmas::hold))]
     pub(super) fn said(&mut self, id: u64, event: Said<'static>) -> Result<Step<'static>, Stop>
         ensures keeps { KeepsOwn (said_by result) self.old self.new }
         ensures left { Left self.old.streams.entries self.new.streams.entries }
@@ -132,7 +131,7 @@ impl Connection {
     }
 
     // Handles what else a stream says.
-    #[tactic(auto, using(crate::proofs::KeepsLemmas::hold))]
+    #[tactic(auto, using(crate::proofs::KeepsOwnLemmas::hold))]
     fn said_else(&mut self, id: u64, event: Said<'static>) -> Result<Step<'static>, Stop>
         ensures keeps { KeepsOwn (said_by result) self.old self.new }
         ensures left { Left self.old.streams.entries self.new.streams.entries }
@@ -431,80 +430,15 @@ impl Connection {
         }
     }
 
-    // The peer's half ended.
-    #[tactic(auto, using(crate::proofs::KeepsLemmas::keep, crate::proofs::KeepsLemmas::keeps_left, crate::proofs::TellsLemmas::told_or_gone))]
-    fn end_came(&mut self, id: u64) -> Result<Step<'static>, Stop>
-        ensures keeps { Keeps (said_by result) self.old self.new }
-        ensures hands { IfOk result (λ s. Hands id (Ends ∷ []) (told_in s)
-            self.old.streams.entries self.new.streams.entries) }
-    {
-        let step = self.tell_end(id);
-        self.after_told_end(id);
-        Ok(step)
-    }
-
-    // All of the peer's half was read, and its end is told. Without memory the connection ends: nothing would do what is left
-    // to do later.
-    #[tactic(auto, using(crate::proofs::KeepsLemmas::keep, crate::proofs::KeepsLemmas::keeps_gone))]
-    fn after_told_end(&mut self, id: u64)
-        ensures keeps { theirs_at self.old.streams.entries id ≡ Gone → Keeps [] self.old self.new }
-        ensures gone { theirs_at self.old.streams.entries id ≡ Gone → theirs_at self.new.streams.entries id ≡ Gone }
-    {
-        let code = Code::H3_INTERNAL_ERROR.number().into_inner();
-        if self.half_ends(id).is_err() {
-            self.fail(Some(id), code, None);
-        }
-    }
-
-    // Tells that the peer's half ended, which is read no further.
-    #[tactic(auto, using(crate::proofs::KeepsLemmas::keep, crate::proofs::KeepsLemmas::keeps_end, crate::proofs::TellsLemmas::gone_set))]
-    fn tell_end(&mut self, id: u64) -> Step<'static>
-        ensures keeps { Keeps (said_in result) self.old self.new }
-        ensures is { IsOf id (Ends ∷ []) result }
-        ensures gone { theirs_at self.new.streams.entries id ≡ Gone }
-    {
-        let Some(entry) = self.streams.get_mut(&id) else {
-            return Step::More;
-        };
-        entry.peer = dropped(entry.peer);
-        if !entry.is_known() {
-            return Step::More;
-        }
-        Step::Told(Event {
-            stream: id,
-            session: entry.session_shown(id),
-            user: entry.user,
-            kind: EventKind::End,
-        })
-    }
-
-    // All of the peer's half was read.
-    #[tactic(auto, using(crate::proofs::KeepsLemmas::keep, crate::proofs::KeepsLemmas::keeps_gone))]
-    fn half_ends(&mut self, id: u64) -> Result<(), AllocError>
-        ensures keeps { theirs_at self.old.streams.entries id ≡ Gone → Keeps [] self.old self.new }
-    {
-        self.forget_cancel(id);
-        self.peer_is_over(id)
-    }
-
-    // All sections of a stream were read.
-    fn forget_cancel(&mut self, id: u64)
-        ensures keeps { Keeps [] self.old self.new }
-    {
-        if let Some(entry) = self.streams.get_mut(&id) {
-            entry.may_cancel = false;
-        }
-    }
-
     // The peer closed a session, on its own stream. The stream is read to its end: more content is an error
     // (draft-ietf-webtrans-http3-02, section 5).
     fn session_closed(&mut self, id: u64, close: Close) -> Result<Step<'static>, Stop>
         ensures keeps { Keeps (said_by result) self.old self.new }
         ensures silent { IfOk result IsSilent }
     {
-        self.end_own(id);
         self.end_session(id)?;
         self.closed(id, Why::Session(close))?;
+        self.end_own(id);
         self.cancel_left(id);
         Ok(Step::More)
     }

@@ -55,7 +55,7 @@ pub(super) fn joining_of(event: &Said<'_>) -> Joining {
 #[tactic(auto, using(crate::proofs::KeepsLemmas::keep))]
 impl Connection {
     // Registers the streams of the peer up to that of a report.
-    #[tactic(auto, using(crate::proofs::KeepsLemmas::hold))]
+    #[tactic(auto, using(crate::proofs::KeepsOwnLemmas::hold))]
     pub(super) fn accept_for(&mut self, report: Report) -> Result<(), Stop>
         ensures keeps { KeepsOwn [] self.old self.new }
         ensures accepts { Accepts self.old.ids self.old.streams.entries self.new.ids self.new.streams.entries }
@@ -67,7 +67,7 @@ impl Connection {
     }
 
     // Registers the streams of the peer up to this one. An ID that cannot be is an error of QUIC.
-    #[tactic(auto, using(crate::proofs::KeepsLemmas::holds_refl, crate::proofs::KeepsLemmas::holds_trans, crate::proofs::TellsLemmas::accepts_steps))]
+    #[tactic(auto, using(crate::proofs::KeepsOwnLemmas::holds_refl, crate::proofs::KeepsOwnLemmas::holds_trans, crate::proofs::TellsLemmas::accepts_steps))]
     fn accept(&mut self, id: u64) -> Result<(), Stop>
         ensures keeps { KeepsOwn [] self.old self.new }
         ensures accepts { Accepts self.old.ids self.old.streams.entries self.new.ids self.new.streams.entries }
@@ -94,7 +94,7 @@ impl Connection {
     }
 
     // Registers the next stream of the peer, of the kind of this one.
-    #[tactic(auto, using(crate::proofs::TellsLemmas::accepts_insert, crate::proofs::KeepsLemmas::holds_refl))]
+    #[tactic(auto, using(crate::proofs::TellsLemmas::accepts_insert, crate::proofs::KeepsOwnLemmas::holds_refl))]
     fn accept_next(&mut self, id: u64) -> Result<(), Stop>
         ensures keeps { KeepsOwn [] self.old self.new }
         ensures accepts { Accepts self.old.ids self.old.streams.entries self.new.ids self.new.streams.entries }
@@ -337,7 +337,7 @@ impl Connection {
     ///
     /// `NotAsked` if another stream was to be opened: nothing changes, and QUIC's connection has streams that are not of
     /// this one. `Memory`: nothing changes, and the call is to be made again.
-    #[tactic(auto, using(crate::proofs::KeepsLemmas::kept, crate::proofs::HalvesLemmas::lasts_refl))]
+    #[tactic(auto, using(crate::proofs::KeepsLemmas::kept, crate::proofs::LastsLemmas::lasts_refl))]
     pub fn opened(&mut self, id: u64) -> Result<(), Refused>
         ensures asked { OnOk result (opens self.old.ids id ≡ true) }
         ensures counted { OnOk result (id < 2 ^ 62 → self.new.ids ≡ opened_ids self.old.ids (kind_of id)) }

@@ -35,7 +35,7 @@ impl Connection {
     // Returns the next event, as `next_event` does: a piece of content at once. (In place, so that the caller has the parts of
     // its event, and no event is written.)
     #[inline(always)]
-    #[tactic(auto, using(crate::proofs::KeepsLemmas::hold, crate::proofs::BoundLemmas::bound))]
+    #[tactic(auto, using(crate::proofs::KeepsOwnLemmas::hold, crate::proofs::BoundLemmas::bound))]
     pub(super) fn next_due<'a>(
         &mut self,
         input: &mut Input<'a>,
@@ -62,7 +62,7 @@ impl Connection {
     // Returns the next event, where it is no piece of content that is told at once. (In place, so that the event of a piece
     // is written where it is returned.)
     #[inline(always)]
-    #[tactic(auto, using(crate::proofs::KeepsLemmas::hold, crate::proofs::BoundLemmas::bound))]
+    #[tactic(auto, using(crate::proofs::KeepsOwnLemmas::hold, crate::proofs::BoundLemmas::bound))]
     fn next_else<'a>(&mut self, input: &mut Input<'a>) -> Result<Option<Event<'a>>, AllocError>
         ensures last { IsAfterEnd self.old → IsSomeOk result (λ e. is_last e.kind ≡ true) }
         ensures over { IsAfterEnd self.old → IsAfterEnd self.new }
@@ -77,7 +77,7 @@ impl Connection {
 
     // Returns the next event: that of bytes of a stream at once, where nothing is due before them.
     #[inline(never)]
-    #[tactic(auto, using(crate::proofs::KeepsLemmas::hold, crate::proofs::BoundLemmas::bound))]
+    #[tactic(auto, using(crate::proofs::KeepsOwnLemmas::hold, crate::proofs::BoundLemmas::bound))]
     fn next_no_piece<'a>(&mut self, input: &mut Input<'a>) -> Result<Option<Event<'a>>, AllocError>
         ensures last { IsAfterEnd self.old → IsSomeOk result (λ e. is_last e.kind ≡ true) }
         ensures over { IsAfterEnd self.old → IsAfterEnd self.new }

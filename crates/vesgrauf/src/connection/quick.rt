@@ -56,7 +56,7 @@ impl Connection {
     }
 
     // Returns the next event of bytes of a stream, as `next_by_steps` does, where nothing is due before them.
-    #[tactic(auto, using(crate::proofs::KeepsLemmas::hold, crate::proofs::BoundLemmas::bound, crate::proofs::BoundLemmas::bound_left))]
+    #[tactic(auto, using(crate::proofs::KeepsOwnLemmas::hold, crate::proofs::BoundLemmas::bound, crate::proofs::BoundLemmas::bound_left))]
     pub(super) fn read_at_once<'a>(
         &mut self,
         id: u64,
@@ -79,7 +79,7 @@ impl Connection {
     }
 
     // Returns the next event of bytes of a stream that is not said to end.
-    #[tactic(auto, using(crate::proofs::KeepsLemmas::hold, crate::proofs::BoundLemmas::bound, crate::proofs::BoundLemmas::bound_left))]
+    #[tactic(auto, using(crate::proofs::KeepsOwnLemmas::hold, crate::proofs::BoundLemmas::bound, crate::proofs::BoundLemmas::bound_left))]
     fn read_now<'a>(
         &mut self,
         id: u64,
@@ -106,7 +106,7 @@ impl Connection {
     }
 
     // Takes a step by bytes of a stream that is read, of which nothing is kept and that waits for nothing.
-    #[tactic(auto, using(crate::proofs::KeepsLemmas::hold, crate::proofs::BoundLemmas::bound, crate::proofs::BoundLemmas::bound_left))]
+    #[tactic(auto, using(crate::proofs::KeepsOwnLemmas::hold, crate::proofs::BoundLemmas::bound, crate::proofs::BoundLemmas::bound_left))]
     fn step_at_once<'a>(&mut self, id: u64, input: &mut Input<'a>) -> Result<Option<Step<'a>>, Stop>
         ensures keeps { KeepsOwn (said_if_ok result) self.old self.new }
         ensures tells { input.old.report ≡ report.Stream id → IfOk result (λ s. Tells (told_if s)
@@ -125,7 +125,7 @@ impl Connection {
     }
 
     // Returns what is found in bytes of a stream that is read, of which nothing is kept and that waits for nothing.
-    #[tactic(auto, using(crate::proofs::KeepsLemmas::hold, crate::proofs::KeepsLemmas::holds_looked, crate::proofs::ReadsLemmas::reads_set, crate::proofs::TellsLemmas::left_reads, crate::proofs::StepLemmas::left_itself, crate::proofs::BoundLemmas::bound, crate::proofs::BoundLemmas::bound_left))]
+    #[tactic(auto, using(crate::proofs::KeepsOwnLemmas::hold, crate::proofs::KeepsOwnLemmas::holds_looked, crate::proofs::ReadsLemmas::reads_set, crate::proofs::TellsLemmas::left_reads, crate::proofs::StepLemmas::left_itself, crate::proofs::BoundLemmas::bound, crate::proofs::BoundLemmas::bound_left))]
     fn read_plain<'a>(&mut self, id: u64, chunk: &mut Chunk<'a>) -> Result<Option<Found<'a>>, Stop>
         ensures keeps { KeepsOwn [] self.old self.new }
         ensures reads { IfOk result (λ found. ReadsOn id (items_if found) self.old.streams.entries chunk.old
@@ -141,7 +141,7 @@ impl Connection {
     }
 
     // Handles what was found in bytes of a stream.
-    #[tactic(auto, using(crate::proofs::KeepsLemmas::hold, crate::proofs::TellsLemmas::more_passes, crate::proofs::BoundLemmas::bound, crate::proofs::BoundLemmas::bound_left))]
+    #[tactic(auto, using(crate::proofs::KeepsOwnLemmas::hold, crate::proofs::TellsLemmas::more_passes, crate::proofs::BoundLemmas::bound, crate::proofs::BoundLemmas::bound_left))]
     fn found_in_input<'a>(
         &mut self,
         id: u64,
@@ -161,7 +161,7 @@ impl Connection {
     }
 
     // Handles what was heard in bytes of a stream: a piece of content at once.
-    #[tactic(auto, using(crate::proofs::KeepsLemmas::hold, crate::proofs::BoundLemmas::bound, crate::proofs::BoundLemmas::bound_left))]
+    #[tactic(auto, using(crate::proofs::KeepsOwnLemmas::hold, crate::proofs::BoundLemmas::bound, crate::proofs::BoundLemmas::bound_left))]
     fn heard_at_once<'a>(
         &mut self,
         id: u64,
@@ -182,7 +182,7 @@ impl Connection {
     }
 
     // Tells a piece of content. Nothing follows it but more bytes, or the end.
-    #[tactic(auto, using(crate::proofs::KeepsLemmas::hold, crate::proofs::TellsLemmas::taken_passes, crate::proofs::PieceLemmas::content_goes_on, crate::proofs::BoundLemmas::bound, crate::proofs::BoundLemmas::bound_left))]
+    #[tactic(auto, using(crate::proofs::KeepsOwnLemmas::hold, crate::proofs::TellsLemmas::taken_passes, crate::proofs::PieceLemmas::content_goes_on, crate::proofs::BoundLemmas::bound, crate::proofs::BoundLemmas::bound_left))]
     fn piece_came<'a>(
         &mut self,
         id: u64,
@@ -199,7 +199,7 @@ impl Connection {
     }
 
     // Handles what was heard in bytes of a stream: anything but a piece of content.
-    #[tactic(auto, using(crate::proofs::KeepsLemmas::hold, crate::proofs::BoundLemmas::bound, crate::proofs::BoundLemmas::bound_left))]
+    #[tactic(auto, using(crate::proofs::KeepsOwnLemmas::hold, crate::proofs::BoundLemmas::bound, crate::proofs::BoundLemmas::bound_left))]
     fn heard_else<'a>(
         &mut self,
         id: u64,

@@ -27,7 +27,7 @@ use wtp_webtransport::fault::Fault;
 #[tactic(auto, using(crate::proofs::KeepsLemmas::keep))]
 impl Connection {
     // Takes in bytes of a stream.
-    #[tactic(auto, using(crate::proofs::KeepsLemmas::hold, crate::proofs::BoundLemmas::bound, crate::proofs::BoundLemmas::bound_left))]
+    #[tactic(auto, using(crate::proofs::KeepsOwnLemmas::hold, crate::proofs::BoundLemmas::bound, crate::proofs::BoundLemmas::bound_left))]
     pub(super) fn stream_came<'a>(
         &mut self,
         id: u64,
@@ -58,7 +58,7 @@ impl Connection {
     }
 
     // Takes in bytes of a stream that are not for the own encoder.
-    #[tactic(auto, using(crate::proofs::KeepsLemmas::hold, crate::proofs::TellsLemmas::more_tells, crate::proofs::TellsLemmas::left_more_tells, crate::proofs::BoundLemmas::bound, crate::proofs::BoundLemmas::bound_left))]
+    #[tactic(auto, using(crate::proofs::KeepsOwnLemmas::hold, crate::proofs::TellsLemmas::more_tells, crate::proofs::TellsLemmas::left_more_tells, crate::proofs::BoundLemmas::bound, crate::proofs::BoundLemmas::bound_left))]
     fn bytes_came<'a>(&mut self, id: u64, input: &mut Input<'a>) -> Result<Step<'a>, Stop>
         ensures keeps { KeepsOwn (said_by result) self.old self.new }
         ensures tells { input.old.report ≡ report.Stream id → IfOk result (λ s. Tells (told_in s)
@@ -118,7 +118,7 @@ impl Connection {
     }
 
     // Reads what is next in bytes of a stream.
-    #[tactic(auto, using(crate::proofs::KeepsLemmas::hold, crate::proofs::BoundLemmas::bound, crate::proofs::BoundLemmas::bound_left))]
+    #[tactic(auto, using(crate::proofs::KeepsOwnLemmas::hold, crate::proofs::BoundLemmas::bound, crate::proofs::BoundLemmas::bound_left))]
     fn read_input<'a>(&mut self, id: u64, input: &mut Input<'a>) -> Result<Step<'a>, Stop>
         ensures keeps { KeepsOwn (said_by result) self.old self.new }
         ensures tells { input.old.report ≡ report.Stream id → IfOk result (λ s. Tells (told_in s)
@@ -135,7 +135,7 @@ impl Connection {
     }
 
     // Handles what was heard in bytes of a stream.
-    #[tactic(auto, using(crate::proofs::KeepsLemmas::hold, crate::proofs::TellsLemmas::same_more_passes, crate::proofs::TellsLemmas::left_more_passes, crate::proofs::ReadsLemmas::hands_passes, crate::proofs::BoundLemmas::bound, crate::proofs::BoundLemmas::bound_left))]
+    #[tactic(auto, using(crate::proofs::KeepsOwnLemmas::hold, crate::proofs::TellsLemmas::same_more_passes, crate::proofs::TellsLemmas::left_more_passes, crate::proofs::ReadsLemmas::hands_passes, crate::proofs::BoundLemmas::bound, crate::proofs::BoundLemmas::bound_left))]
     pub(super) fn heard_in_input<'a>(
         &mut self,
         id: u64,
@@ -165,7 +165,7 @@ impl Connection {
     }
 
     // Reads what is kept of a stream.
-    #[tactic(auto, using(crate::proofs::KeepsLemmas::hold))]
+    #[tactic(auto, using(crate::proofs::KeepsOwnLemmas::hold))]
     pub(super) fn read_kept<'a>(&mut self, id: u64) -> Result<Step<'a>, Stop>
         ensures keeps { KeepsOwn (said_by result) self.old self.new }
         ensures tells { IfOk result (λ s. TellsKept (told_in s) self.old.streams.entries self.new.streams.entries) }
@@ -181,7 +181,7 @@ impl Connection {
     }
 
     // Handles what was heard in what is kept of a stream.
-    #[tactic(auto, using(crate::proofs::KeepsLemmas::hold, crate::proofs::TellsLemmas::more_hands))]
+    #[tactic(auto, using(crate::proofs::KeepsOwnLemmas::hold, crate::proofs::TellsLemmas::more_hands))]
     fn heard_in_kept<'a>(&mut self, id: u64, heard: Heard<'a>) -> Result<Step<'a>, Stop>
         ensures keeps { KeepsOwn (said_by result) self.old self.new }
         ensures hands { IfOk result (λ s. Hands id (items_in heard.entry) (told_in s)
@@ -204,7 +204,7 @@ impl Connection {
     }
 
     // Returns what is heard next in what is kept of a stream.
-    #[tactic(auto, using(crate::proofs::KeepsLemmas::hold))]
+    #[tactic(auto, using(crate::proofs::KeepsOwnLemmas::hold))]
     fn read_rest<'a>(&mut self, id: u64) -> Result<Option<Heard<'a>>, Stop>
         ensures keeps { KeepsOwn [] self.old self.new }
         ensures reads { IfOk result (λ heard. ReadsKept id (items_by heard)
@@ -220,7 +220,7 @@ impl Connection {
     }
 
     // Returns what is heard next on a stream: nothing yet, if more of its bytes are to be looked at.
-    #[tactic(auto, using(crate::proofs::KeepsLemmas::hold, crate::proofs::TellsLemmas::reads_left, crate::proofs::TellsLemmas::left_reads, crate::proofs::BoundLemmas::bound, crate::proofs::BoundLemmas::bound_left))]
+    #[tactic(auto, using(crate::proofs::KeepsOwnLemmas::hold, crate::proofs::TellsLemmas::reads_left, crate::proofs::TellsLemmas::left_reads, crate::proofs::BoundLemmas::bound, crate::proofs::BoundLemmas::bound_left))]
     fn read<'a>(&mut self, id: u64, chunk: &mut Chunk<'a>) -> Result<Option<Heard<'a>>, Stop>
         ensures keeps { KeepsOwn [] self.old self.new }
         ensures reads { IfOk result (λ heard. ReadsOn id (items_by heard) self.old.streams.entries chunk.old
@@ -244,7 +244,7 @@ impl Connection {
     }
 
     // Returns what is found next on a stream, and by how many bytes QUIC's windows are then to be extended.
-    #[tactic(auto, using(crate::proofs::KeepsLemmas::holds_refl, crate::proofs::KeepsLemmas::holds_looked, crate::proofs::ReadsLemmas::reads_set, crate::proofs::TellsLemmas::left_reads, crate::proofs::StepLemmas::left_itself, crate::proofs::BoundLemmas::bound))]
+    #[tactic(auto, using(crate::proofs::KeepsOwnLemmas::hold, crate::proofs::KeepsOwnLemmas::holds_looked, crate::proofs::ReadsLemmas::reads_set, crate::proofs::TellsLemmas::left_reads, crate::proofs::StepLemmas::left_itself, crate::proofs::BoundLemmas::bound))]
     fn look<'a>(&mut self, id: u64, chunk: &mut Chunk<'a>) -> Result<(Found<'a>, usize), Stop>
         ensures keeps { KeepsOwn [] self.old self.new }
         ensures reads { IfOk result (λ r. ReadsOn id (items_found r.0) self.old.streams.entries chunk.old
@@ -302,7 +302,7 @@ impl Connection {
     }
 
     // Keeps the bytes of the input, however many are kept already.
-    #[tactic(auto, using(crate::proofs::KeepsLemmas::holds_refl, crate::proofs::KeepsLemmas::holds_looked, crate::proofs::ReadsLemmas::keep_set, crate::proofs::TellsLemmas::only_set, crate::proofs::TellsLemmas::only_none))]
+    #[tactic(auto, using(crate::proofs::KeepsOwnLemmas::holds_refl, crate::proofs::KeepsOwnLemmas::holds_looked, crate::proofs::ReadsLemmas::keep_set, crate::proofs::TellsLemmas::only_set, crate::proofs::TellsLemmas::only_none))]
     fn keep_input<'a>(&mut self, id: u64, input: &mut Input<'a>, most: usize) -> Result<(), Stop>
         ensures keeps { KeepsOwn [] self.old self.new }
         ensures same { input.old.report ≡ report.Stream id
@@ -326,7 +326,7 @@ impl Connection {
     }
 
     // Extends QUIC's windows by all that is kept of a stream: it is a frame that is cut, and the rest is to come.
-    #[tactic(auto, using(crate::proofs::KeepsLemmas::hold))]
+    #[tactic(auto, using(crate::proofs::KeepsOwnLemmas::hold))]
     fn credit_kept(&mut self, id: u64) -> Result<(), Stop>
         ensures keeps { KeepsOwn [] self.old self.new }
         ensures left { Left self.old.streams.entries self.new.streams.entries }
@@ -360,7 +360,7 @@ impl Connection {
     }
 
     // Checks the bounds of what is kept of a stream, and of all.
-    #[tactic(auto, using(crate::proofs::KeepsLemmas::hold, crate::proofs::BoundLemmas::gone_fits))]
+    #[tactic(auto, using(crate::proofs::KeepsOwnLemmas::hold, crate::proofs::BoundLemmas::gone_fits))]
     fn check_kept(&mut self, id: u64) -> Result<(), Stop>
         ensures keeps { KeepsOwn [] self.old self.new }
         ensures left { Left self.old.streams.entries self.new.streams.entries }
@@ -406,7 +406,7 @@ impl Connection {
         match fault {
             Joining::Refused(fault) => Ok(self.shut(id, fault.code(), Why::Fault(fault))?),
             Joining::Broken(fault) => Err(Stop::from(fault)),
-            _ => Err(internal()),
+            _ => self.drop_untold(id),
         }
     }
 

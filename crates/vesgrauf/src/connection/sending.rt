@@ -48,7 +48,7 @@ impl Connection {
     /// # Errors
     ///
     /// `NotAsked` if there is none. `Memory`: nothing changes, and the call is to be made again.
-    #[tactic(auto, using(crate::proofs::KeepsLemmas::kept, crate::proofs::OwnLemmas::untouched_set, crate::proofs::TheirsLemmas::left_set, crate::proofs::GoesLemmas::goes_set, crate::proofs::HalvesLemmas::lasts_refl))]
+    #[tactic(auto, using(crate::proofs::KeepsLemmas::kept, crate::proofs::OwnLemmas::untouched_set, crate::proofs::TheirsLemmas::left_set, crate::proofs::GoesLemmas::goes_set, crate::proofs::LastsLemmas::lasts_refl))]
     pub fn output_taken(&mut self) -> Result<(), Refused>
         ensures taken { OnOk result (self.old.closes ≡ None
             → TakesFirst self.old.outputs.items self.new.outputs.items) }
@@ -297,7 +297,7 @@ impl Connection {
     ///
     /// `NotAsked` if QUIC did not take so many. `Memory`: nothing changes, and the call is to be made again. There is
     /// none if the stream is forgotten.
-    #[tactic(auto, using(crate::proofs::KeepsLemmas::kept, crate::proofs::OwnLemmas::untouched_set, crate::proofs::TheirsLemmas::left_set, crate::proofs::GoesLemmas::goes_set, std::proofs::lemmas::Map::Steps::set_value_same, crate::proofs::HalvesLemmas::lasts_refl))]
+    #[tactic(auto, using(crate::proofs::KeepsLemmas::kept, crate::proofs::OwnLemmas::untouched_set, crate::proofs::TheirsLemmas::left_set, crate::proofs::GoesLemmas::goes_set, std::proofs::lemmas::Map::Steps::set_value_same, crate::proofs::LastsLemmas::lasts_refl))]
     pub fn acked(&mut self, id: u64, len: u64) -> Result<(), Refused>
         ensures refused { IfErr result (λ e. IsRefused e self.old self.new) }
         ensures control { OnOk result (is_it id self.old.control.id ≡ true

@@ -16,7 +16,7 @@ use std::alloc::AllocError;
 
 impl Connection {
     // Returns the next event, as `next_event` does: the first that is queued, or that of as many steps as it takes.
-    #[tactic(auto, using(crate::proofs::KeepsLemmas::hold, crate::proofs::StepLemmas::queued_all, crate::proofs::BoundLemmas::bound))]
+    #[tactic(auto, using(crate::proofs::KeepsOwnLemmas::hold, crate::proofs::StepLemmas::queued_all, crate::proofs::BoundLemmas::bound))]
     pub(super) fn next_by_steps<'a>(
         &mut self,
         input: &mut Input<'a>,
@@ -36,7 +36,7 @@ impl Connection {
     }
 
     // Returns the next event, after the streams up to that of the input are registered.
-    #[tactic(auto, using(crate::proofs::KeepsLemmas::hold, crate::proofs::BoundLemmas::bound, crate::proofs::BoundLemmas::bound_start))]
+    #[tactic(auto, using(crate::proofs::KeepsOwnLemmas::hold, crate::proofs::BoundLemmas::bound, crate::proofs::BoundLemmas::bound_start))]
     fn accept_and_step<'a>(
         &mut self,
         input: &mut Input<'a>,
@@ -54,7 +54,7 @@ impl Connection {
     }
 
     // Registers the streams of the peer up to that of a report. An error ends the connection.
-    #[tactic(auto, using(crate::proofs::KeepsLemmas::hold))]
+    #[tactic(auto, using(crate::proofs::KeepsOwnLemmas::hold))]
     fn accept_or_fail(&mut self, report: Report) -> Result<(), AllocError>
         ensures still { is_over self.old ≡ true → (self.new ≡ self.old) × (result ≡ Ok tt) }
         ensures keeps { KeepsOwn [] self.old self.new }
@@ -75,7 +75,7 @@ impl Connection {
     }
 
     // Returns the next event, by as many steps as it takes.
-    #[tactic(auto, using(crate::proofs::KeepsLemmas::hold, crate::proofs::StepLemmas::quiet_then, crate::proofs::StepLemmas::queued_tells, crate::proofs::StepLemmas::nothing_tells, crate::proofs::BoundLemmas::bound))]
+    #[tactic(auto, using(crate::proofs::KeepsOwnLemmas::hold, crate::proofs::StepLemmas::quiet_then, crate::proofs::StepLemmas::queued_tells, crate::proofs::StepLemmas::nothing_tells, crate::proofs::BoundLemmas::bound))]
     pub(super) fn take_steps<'a>(
         &mut self,
         input: &mut Input<'a>,
@@ -107,7 +107,7 @@ impl Connection {
     }
 
     // Takes a step, before the end of the connection or after it.
-    #[tactic(auto, using(crate::proofs::KeepsLemmas::hold, crate::proofs::BoundLemmas::bound))]
+    #[tactic(auto, using(crate::proofs::KeepsOwnLemmas::hold, crate::proofs::BoundLemmas::bound))]
     fn try_step<'a>(&mut self, input: &mut Input<'a>) -> Result<Step<'a>, AllocError>
         ensures last { IsAfterEnd self.old → IfOk result (λ s. IsTold s (λ e. is_last e.kind ≡ true)) }
         ensures over { IsAfterEnd self.old → IsAfterEnd self.new }
@@ -124,7 +124,7 @@ impl Connection {
     }
 
     // Takes a step. An error ends the connection.
-    #[tactic(auto, using(crate::proofs::KeepsLemmas::hold, crate::proofs::BoundLemmas::bound))]
+    #[tactic(auto, using(crate::proofs::KeepsOwnLemmas::hold, crate::proofs::BoundLemmas::bound))]
     fn step_or_fail<'a>(&mut self, input: &mut Input<'a>) -> Result<Step<'a>, AllocError>
         ensures keeps { KeepsOwn (said_by result) self.old self.new }
         ensures told { is_over self.new ≡ false → IfOk result (λ s. Tells (told_in s)

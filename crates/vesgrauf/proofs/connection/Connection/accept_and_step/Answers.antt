@@ -3,7 +3,7 @@ use Rattle.vesgrauf.specs.Theirs.{Tells, TellsAll, told_by}
 use Rattle.vesgrauf.proofs.TellsLemmas.{accepts_all}
 use Rattle.vesgrauf.proofs.StepLemmas.{ok_map, not_before}
 use Rattle.vesgrauf.proofs.BoundLemmas.{bound_begun, bound_then, on_ok}
-use Rattle.vesgrauf.proofs.KeepsLemmas.{holds_config}
+use Rattle.vesgrauf.proofs.KeepsOwnLemmas.{holds_config}
 use Rattle.vesgrauf.proofs.connection.Connection.accept_and_step.Goals as goal
 
 pub returns-clause-told : goal.returns-clause-told

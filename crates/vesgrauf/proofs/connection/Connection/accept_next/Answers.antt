@@ -3,7 +3,7 @@ use Rattle.std.specs.Prelude.{is_some}
 use Rattle.vesgrauf.specs.Ids.{next_peer}
 use Rattle.vesgrauf.specs.Keeps.{KeptOwn}
 use Rattle.vesgrauf.specs.Told.{Goes}
-use Rattle.vesgrauf.proofs.HalvesLemmas.{lasts_insert}
+use Rattle.vesgrauf.proofs.LastsLemmas.{lasts_insert}
 use Rattle.vesgrauf.proofs.IdLemmas.{goes_accepts}
 use Rattle.vesgrauf.proofs.OwnLemmas.{new_insert}
 use Rattle.vesgrauf.proofs.connection.Connection.accept_next.Goals as goal

@@ -1,7 +1,8 @@
 use Rattle.std.proofs.Common.{◌≡◌, ◌∙◌, ap, sym}
 use Rattle.vesgrauf.specs.declared.config.OnMalformed.TheVariants as chosen
 use Rattle.vesgrauf.specs.Keeps.{KeptOwn}
-use Rattle.vesgrauf.proofs.KeepsLemmas.{keeps_config, keeps_holds, keeps_weak, holds_then}
+use Rattle.vesgrauf.proofs.KeepsLemmas.{keeps_config, keeps_weak}
+use Rattle.vesgrauf.proofs.KeepsOwnLemmas.{keeps_holds, holds_then}
 use Rattle.vesgrauf.proofs.connection.Connection.answers.Goals as goal
 
 pub returns-in-Ok-clause-keeps : goal.returns-in-Ok-clause-keeps

@@ -1,4 +1,5 @@
-use Rattle.vesgrauf.proofs.KeepsLemmas.{keeps_holds, keeps_then}
+use Rattle.vesgrauf.proofs.KeepsLemmas.{keeps_then}
+use Rattle.vesgrauf.proofs.KeepsOwnLemmas.{keeps_holds}
 use Rattle.vesgrauf.proofs.connection.Connection.check_kept.Goals as goal
 
 pub returns-clause-keeps : goal.returns-clause-keeps

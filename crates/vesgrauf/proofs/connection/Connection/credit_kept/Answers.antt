@@ -1,6 +1,7 @@
 use Rattle.std.proofs.Common.{[], arith}
 use Rattle.vesgrauf.specs.Keeps.{KeepsOwn}
-use Rattle.vesgrauf.proofs.KeepsLemmas.{keeps_holds, keeps_then, holds_then}
+use Rattle.vesgrauf.proofs.KeepsLemmas.{keeps_then}
+use Rattle.vesgrauf.proofs.KeepsOwnLemmas.{keeps_holds, holds_then}
 use Rattle.vesgrauf.proofs.connection.Connection.credit_kept.Goals as goal
 
 pub returns-clause-keeps : goal.returns-clause-keeps

@@ -1,5 +1,5 @@
 use Rattle.std.proofs.Common.{[], arith}
-use Rattle.vesgrauf.proofs.KeepsLemmas.{keeps_holds, holds_then}
+use Rattle.vesgrauf.proofs.KeepsOwnLemmas.{keeps_holds, holds_then}
 use Rattle.vesgrauf.specs.Keeps.{KeepsOwn}
 use Rattle.vesgrauf.proofs.connection.Connection.heard_in_input.Goals as goal
 

@@ -1,5 +1,5 @@
 use Rattle.std.proofs.Common.{◌∙◌}
-use Rattle.vesgrauf.proofs.KeepsLemmas.{holds_then, holds_config}
+use Rattle.vesgrauf.proofs.KeepsOwnLemmas.{holds_then, holds_config}
 use Rattle.vesgrauf.proofs.BoundLemmas.{bound_only, on_ok}
 use Rattle.vesgrauf.proofs.connection.Connection.keep.Goals as goal
 

@@ -1,7 +1,7 @@
 use Rattle.std.proofs.Common.{ap, refl}
 use Rattle.vesgrauf.specs.Theirs.{TellsAll, told_by}
 use Rattle.vesgrauf.proofs.StepLemmas.{ok_map, all_same}
-use Rattle.vesgrauf.proofs.KeepsLemmas.{keeps_holds, holds_then}
+use Rattle.vesgrauf.proofs.KeepsOwnLemmas.{keeps_holds, holds_then}
 use Rattle.vesgrauf.proofs.connection.Connection.next_by_steps.Goals as goal
 
 pub returns-clause-told : goal.returns-clause-told

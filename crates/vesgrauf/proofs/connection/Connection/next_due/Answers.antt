@@ -5,7 +5,7 @@ use Rattle.vesgrauf.proofs.StepLemmas.{ok_map}
 use Rattle.vesgrauf.proofs.PieceLemmas.{no_piece_all}
 use Rattle.vesgrauf.specs.Told.{told_by_call}
 use Rattle.vesgrauf.proofs.BoundLemmas.{bound_still, on_ok}
-use Rattle.vesgrauf.proofs.KeepsLemmas.{holds_still}
+use Rattle.vesgrauf.proofs.KeepsOwnLemmas.{holds_still}
 use Rattle.vesgrauf.proofs.connection.Connection.next_due.Goals as goal
 
 pub returns-in-Some-clause-told : goal.returns-in-Some-clause-told

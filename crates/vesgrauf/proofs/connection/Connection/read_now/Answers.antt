@@ -3,7 +3,7 @@ use Rattle.std.specs.Prelude.{Ok}
 use Rattle.vesgrauf.specs.Theirs.{Tells, TellsAll, told_by}
 use Rattle.vesgrauf.proofs.TellsLemmas.{all_of}
 use Rattle.vesgrauf.proofs.StepLemmas.{ok_map, told_none_all, quiet_then_all, told_none_if, told_told_if, told_more_if, told_nothing_if}
-use Rattle.vesgrauf.proofs.KeepsLemmas.{keeps_holds, holds_then}
+use Rattle.vesgrauf.proofs.KeepsOwnLemmas.{keeps_holds, holds_then}
 use Rattle.vesgrauf.proofs.connection.Connection.read_now.Goals as goal
 
 pub returns-in-Ok-None-clause-told : goal.returns-in-Ok-None-clause-told

@@ -1,4 +1,4 @@
-use Rattle.vesgrauf.proofs.KeepsLemmas.{keeps_holds, holds_then}
+use Rattle.vesgrauf.proofs.KeepsOwnLemmas.{keeps_holds, holds_then}
 use Rattle.vesgrauf.proofs.connection.Connection.step.Goals as goal
 
 pub returns-clause-keeps : goal.returns-clause-keeps

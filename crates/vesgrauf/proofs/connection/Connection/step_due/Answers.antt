@@ -1,4 +1,5 @@
-use Rattle.vesgrauf.proofs.KeepsLemmas.{keeps_left, keeps_holds, keeps_then, holds_then}
+use Rattle.vesgrauf.proofs.KeepsLemmas.{keeps_left, keeps_then}
+use Rattle.vesgrauf.proofs.KeepsOwnLemmas.{keeps_holds, holds_then}
 use Rattle.vesgrauf.proofs.TellsLemmas.{left_tells}
 use Rattle.vesgrauf.specs.Theirs.{Tells, told_in}
 use Rattle.vesgrauf.proofs.StepLemmas.{left_trans, left_then_tells, ok_map}

@@ -2,7 +2,7 @@ use Rattle.vesgrauf.specs.Theirs.{Tells, TellsKept, told_in}
 use Rattle.vesgrauf.proofs.ReadsLemmas.{kept_tells}
 use Rattle.vesgrauf.specs.Bounds.{KeepsBound}
 use Rattle.vesgrauf.proofs.BoundLemmas.{bound_kept, ok_on}
-use Rattle.vesgrauf.proofs.KeepsLemmas.{holds_config}
+use Rattle.vesgrauf.proofs.KeepsOwnLemmas.{holds_config}
 use Rattle.vesgrauf.proofs.StepLemmas.{ok_map}
 use Rattle.vesgrauf.proofs.connection.Connection.step_read.Goals as goal
 

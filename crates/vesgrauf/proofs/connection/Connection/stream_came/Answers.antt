@@ -1,6 +1,7 @@
 use Rattle.std.proofs.Common.{◌∙◌}
 use Rattle.vesgrauf.specs.Theirs.{Tells, told_in}
-use Rattle.vesgrauf.proofs.KeepsLemmas.{keeps_left, keeps_holds, keeps_then, holds_then}
+use Rattle.vesgrauf.proofs.KeepsLemmas.{keeps_left, keeps_then}
+use Rattle.vesgrauf.proofs.KeepsOwnLemmas.{keeps_holds, holds_then}
 use Rattle.vesgrauf.proofs.ReadsLemmas.{same_tells}
 use Rattle.vesgrauf.proofs.TellsLemmas.{same_left}
 use Rattle.vesgrauf.proofs.StepLemmas.{ok_map}

@@ -4,7 +4,7 @@ use Rattle.vesgrauf.specs.Keeps.{KeepsOwn}
 use Rattle.vesgrauf.specs.State.{is_over}
 use Rattle.vesgrauf.specs.Theirs.{told_by}
 use Rattle.vesgrauf.proofs.BoundLemmas.{bound_popped}
-use Rattle.vesgrauf.proofs.KeepsLemmas.{holds_popped, holds_then, keeps_holds}
+use Rattle.vesgrauf.proofs.KeepsOwnLemmas.{holds_popped, holds_then, keeps_holds}
 use Rattle.vesgrauf.proofs.StepLemmas.{steps_on, not_before, popped_after}
 use Rattle.vesgrauf.proofs.connection.Connection.take_steps.Goals as goal
 

@@ -1,6 +1,7 @@
 use Rattle.std.proofs.Common.{[], arith}
 use Rattle.vesgrauf.specs.Keeps.{KeepsOwn}
-use Rattle.vesgrauf.proofs.KeepsLemmas.{keeps_holds, keeps_then, holds_then}
+use Rattle.vesgrauf.proofs.KeepsLemmas.{keeps_then}
+use Rattle.vesgrauf.proofs.KeepsOwnLemmas.{keeps_holds, holds_then}
 use Rattle.vesgrauf.proofs.connection.Connection.too_large_came.Goals as goal
 
 pub returns-in_err-leave_refused-clause-keeps : goal.returns-in_err-leave_refused-clause-keeps
