@@ -1,2 +1,4 @@
+pub mod Basics
 pub mod Orders
+pub mod Rounds
 pub mod Starving

@@ -1,56 +1,13 @@
 -- How long a stream waits at most for its turn.
-use Rattle.std.proofs.Common.{◌≡◌, ◌⊎◌, ℕ, suc, ◌+◌, ◌-◌, ◌*◌, ◌<◌, ◌≤◌, ◌==◌, ◌||◌, ◌&&◌, cond, inl, inr, Bool, true, false, List, [], ◌∷◌, length, refl, ap, ◌∙◌, sym, subst, arith}
+use Rattle.std.proofs.Common.{◌≡◌, ℕ, suc, ◌+◌, ◌-◌, ◌*◌, ◌<◌, ◌≤◌, ◌==◌, ◌||◌, ◌&&◌, cond, inl, inr, Bool, true, false, List, [], ◌∷◌, length, refl, ap, ◌∙◌, sym, subst, arith}
 use Rattle.std.specs.Prelude.{MatchBool}
 use Rattle.std.proofs.Math.Nat.{mul-le-mul_left}
 use Rattle.std.specs.List.{list_any}
 use Rattle.vesgrauf_ready.specs.declared.rank.Rank.{Rank}
 use Rattle.vesgrauf_ready.specs.Ranks.{before, is_same}
-use Rattle.vesgrauf_ready.specs.Turns.{State, is_ready, IsInRound, IsByPriority, after_turn, after_round, after_class, place}
+use Rattle.vesgrauf_ready.specs.Turns.{State, is_ready, IsInRound, IsByPriority, after_turn, after_round, after_class}
+use Rattle.vesgrauf_ready.proofs.Basics.{trans, total, never, same_is, yes_or_no, both, either, not_idle, when_true, when_false, or_true}
 use Rattle.vesgrauf_ready.specs.Runs.{Step, Joined, Left, Turned, Leads, turns, IsPassedOver, AreOf, IsFair}
-
-trans : (a b c : Rank) → before a b ≡ true → before b c ≡ true → before a c ≡ true
-trans a b c e f = grind (arith, e, f)
-
-total : (a b : Rank) → before a b ≡ false → is_same a b ≡ false → before b a ≡ true
-total a b e f = grind (arith, e, f)
-
-never : (a : Rank) → before a a ≡ false
-never a = grind arith
-
-same_class : (a b : Rank) → is_same a b ≡ true → a.class ≡ b.class
-same_class a b e = grind (arith, e)
-
-same_id : (a b : Rank) → is_same a b ≡ true → a.id ≡ b.id
-same_id a b e = grind (arith, e)
-
-same_is : (a b : Rank) → is_same a b ≡ true → a ≡ b
-same_is a b e =
-    ap (λ (c : ℕ). place c a.id) (same_class a b e) ∙ ap (λ (i : ℕ). place b.class i) (same_id a b e)
-
-yes_or_no : (b : Bool) → (b ≡ true) ⊎ (b ≡ false)
-yes_or_no true = inl refl
-yes_or_no false = inr refl
-
-both : (a b : Bool) → (a && b) ≡ true → (a ≡ true) × (b ≡ true)
-both true true e = (refl, refl)
-both true false e = cc e
-both false b e = cc e
-
-either : (a b : Bool) → (a || b) ≡ true → (a ≡ true) ⊎ (b ≡ true)
-either true b e = inl refl
-either false b e = inr e
-
-when_true : (b p q : Bool) → b ≡ true → cond b p q ≡ true → p ≡ true
-when_true true p q e f = f
-when_true false p q e f = cc e
-
-when_false : (b p q : Bool) → b ≡ false → cond b p q ≡ true → q ≡ true
-when_false true p q e f = cc e
-when_false false p q e f = f
-
-or_true : (b : Bool) → (b || true) ≡ true
-or_true true = refl
-or_true false = refl
 
 -- ---- who comes before x in the round
 
@@ -141,10 +98,11 @@ product f a b lt = grind (arith, mul-le-mul_left {m = a + 1} {n = b} f (omega (a
 pub passes : (x : Rank) (others : List Rank) (steps : List Step) (s t : State) → IsFair s → is_ready x s.ranks ≡ true → Leads steps s t → IsPassedOver x steps → AreOf others s.fair s.left steps → turns steps ≤ wait s x others
 passes x others [] s t fair ready leads over are = omega arith
 passes x others (Joined y ∷ steps) s t fair ready (u, (same, has), leads) over are =
-    let still : wait u x others ≡ wait s x others = ap (λ (z : State). wait z x others) same in
-    let sound : IsFair u = subst IsFair (sym same) fair in
+    let busy : (length s.ranks == 0) ≡ false = not_idle x s.ranks ready in
+    let still : wait u x others ≡ wait s x others = ap (λ (z : State). wait z x others) same ∙ rw busy refl in
+    let sound : IsFair u = subst IsFair (sym same) (rw busy fair) in
     let there : is_ready x u.ranks ≡ true = has x ∙ rw ready (or_true (is_same y x)) in
-    let of : AreOf others u.fair u.left steps = subst (λ (z : State). AreOf others z.fair z.left steps) (sym same) are in
+    let of : AreOf others u.fair u.left steps = subst (λ (z : State). AreOf others z.fair z.left steps) (sym same) (rw busy are) in
     omega (arith, passes x others steps u t sound there leads over of, still)
 passes x others (Left y ∷ steps) s t fair ready (u, (same, has), leads) over are =
     let still : wait u x others ≡ wait s x others = ap (λ (z : State). wait z x others) same in

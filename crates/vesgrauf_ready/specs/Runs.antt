@@ -1,9 +1,9 @@
 -- All runs of turns.
-use Rattle.std.specs.Prelude.{◌≡◌, ℕ, suc, ◌+◌, ◌-◌, ◌*◌, ◌<◌, ◌≤◌, ◌==◌, true, false, List, [], ◌∷◌, length, if◌then◌else◌}
+use Rattle.std.specs.Prelude.{◌≡◌, ℕ, suc, ◌+◌, ◌-◌, ◌*◌, ◌<◌, ◌≤◌, ◌==◌, true, false, List, [], ◌∷◌, length, slice_index, if◌then◌else◌}
 use Rattle.std.specs.List.{list_any}
 use Rattle.vesgrauf_ready.specs.declared.rank.Rank.{Rank}
 use Rattle.vesgrauf_ready.specs.Ranks.{before, is_same, is_shared}
-use Rattle.vesgrauf_ready.specs.Turns.{State, is_ready, Joins, Leaves, IsByPriority, IsInRound, IsNext, after_class, after_turn}
+use Rattle.vesgrauf_ready.specs.Turns.{State, is_ready, has_class, Joins, Leaves, IsByPriority, IsInRound, IsNext, after_class, after_turn}
 
 -- a stream became ready, is ready no longer, or took a turn
 pub data Step : Type 0 where
@@ -64,9 +64,37 @@ AreByUrgency =
 -- its class is ready, but for the turns of the round of all.
 abbrev pub AreShared : Type 0
 AreShared =
-    (s : State) (x y z : Rank) → x.class < length s.marks → is_shared x.class ≡ true
-    → IsByPriority s x → is_ready y s.ranks ≡ true → y.class ≡ x.class → is_same y x ≡ false
+    (s : State) (x y z : Rank) → x.class < length s.marks → x.class < length s.ends
+    → is_shared x.class ≡ true → IsByPriority s x
+    → is_ready y s.ranks ≡ true → y.class ≡ x.class → is_same y x ≡ false
     → IsByPriority (after_class x s) z → is_same z x ≡ false
+
+-- no stream of the class takes a turn
+abbrev pub IsUnserved : ℕ → List Step → Type 0
+IsUnserved class [] = Unit {0}
+IsUnserved class (Turned y ∷ steps) = ((y.class == class) ≡ false) × IsUnserved class steps
+IsUnserved class (step ∷ steps) = IsUnserved class steps
+
+-- Streams that share the bandwidth and became ready while none of their class was have their first turns
+-- in the order of their IDs: until x has had a turn, no turn of the class is of a higher ID, but for the
+-- turns of the round of all.
+abbrev pub AreInOrder : Type 0
+AreInOrder =
+    (x y : Rank) (joins steps : List Step) (s u t : State)
+    → x.class < length s.marks → x.class < length s.ends → is_shared x.class ≡ true
+    → has_class x.class s.ranks ≡ false
+    → Leads joins s u → IsUnserved x.class joins → is_ready x u.ranks ≡ true
+    → Leads steps u t → IsPassedOver x steps
+    → IsByPriority t y → y.class ≡ x.class → y.id ≤ x.id
+
+-- Streams beyond the end of a round of a class wait for the next one: while x is in the round and waits,
+-- the turns of the class are of those between the mark and x.
+abbrev pub LaterWaitInClass : Type 0
+LaterWaitInClass =
+    (s : State) (x y : Rank) → is_ready x s.ranks ≡ true → is_shared x.class ≡ true
+    → slice_index s.marks x.class < x.id → x.id ≤ slice_index s.ends x.class
+    → IsByPriority s y → y.class ≡ x.class
+    → (slice_index s.marks x.class < y.id) × (y.id ≤ x.id)
 
 -- Streams that come later do not delay one that waits: once the round is past them, its turns are of
 -- places before its mark alone, until it has come to the one that waits.

@@ -1,7 +1,7 @@
 //! Priorities, and the places of streams in the order of sending (RFC 9218, sections 4 and 10).
 
 ghost use Rattle.std.specs.Prelude.{◌≡◌, ◌<◌, ◌==◌, ◌&&◌};
-ghost use Rattle.vesgrauf_ready.specs.Ranks.{rank_of, is_same, is_shared};
+ghost use Rattle.vesgrauf_ready.specs.Ranks.{rank_of, before, is_same, is_shared};
 
 /// The priority of a stream (RFC 9218, section 4).
 #[derive(Clone, Copy, Debug, PartialEq, Eq)]
@@ -57,6 +57,13 @@ impl Rank {
         ensures { result ≡ is_same self.now other.now }
     {
         self.class == other.class && self.id == other.id
+    }
+
+    /// Returns whether it comes before the other place.
+    pub(crate) fn is_before(&self, other: &Rank) -> bool
+        ensures { result ≡ before self.now other.now }
+    {
+        self.class < other.class || (self.class == other.class && self.id < other.id)
     }
 
     /// Returns whether the streams of the class share the bandwidth.

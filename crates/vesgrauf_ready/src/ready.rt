@@ -3,12 +3,13 @@
 ghost use Rattle.std.specs.Prelude.{◌≡◌, ℕ, ◌+◌, ◌<◌, not, ◌&&◌, ◌||◌, [], replicate, MatchOption, MatchResult, slice_set, true};
 ghost use Rattle.vesgrauf_ready.specs.declared.rank.Rank.{Rank};
 ghost use Rattle.vesgrauf_ready.specs.Ranks.{rank_of, is_same};
-ghost use Rattle.vesgrauf_ready.specs.Turns.{is_ready, IsIdle, IsFirst, IsLast, IsLastBefore, HasNoneBefore, IsInClass, IsNext, IsInRound, Joins, Leaves, Moves, after_turn, place};
+ghost use Rattle.vesgrauf_ready.specs.Turns.{is_ready, is_first, has_class, last_id, IsIdle, IsFirst, IsFirstAfter, HasNoneAfter, IsLast, IsLastBefore, HasNoneBefore, IsInClass, IsNext, IsInRound, Joins, Leaves, Moves, after_turn, place};
 
 use crate::rank::{Kind, Rank};
 use std::alloc::{AllocError, Global};
 use std::collections::BTreeSet;
 use std::marker::Model;
+use std::ops::Bound;
 
 /// Returns the first of all.
 fn first(ranks: &BTreeSet<Rank>) -> Option<Rank>
@@ -58,35 +59,86 @@ fn take_out(ranks: &mut BTreeSet<Rank>, rank: Rank)
     ranks.remove(&rank);
 }
 
-/// Returns whose turn it is in the round of a class, before whose streams none is ready.
-fn next_of_class(ranks: &BTreeSet<Rank>, class: u8, mark: u64) -> Option<Rank>
-    requires { class < 17 }
-    ensures { MatchOption result (HasNoneBefore ranks.now.keys (place (class + 1) 0))
-        (IsInClass ranks.now.keys class mark) }
+/// Returns the first that comes after this place.
+fn first_after(ranks: &BTreeSet<Rank>, mark: Rank) -> Option<Rank>
+    ensures { MatchOption result (HasNoneAfter ranks.now.keys mark)
+        (IsFirstAfter ranks.now.keys mark) }
 {
-    match last_before(ranks, Rank { class, id: mark }) {
-        Some(rank) => Some(rank),
-        None => last_before(
-            ranks,
-            Rank {
-                class: class + 1,
-                id: 0,
-            },
-        ),
+    ranks
+        .range((Bound::Excluded(mark), Bound::Unbounded))
+        .next()
+        .copied()
+}
+
+/// Returns whether none comes before this place.
+fn is_first(ranks: &BTreeSet<Rank>, rank: &Rank) -> bool
+    ensures { result ≡ is_first rank.now ranks.now.keys }
+{
+    match first(ranks) {
+        Some(first) => !first.is_before(rank),
+        None => true,
+    }
+}
+
+/// Returns whether one of the class is ready.
+fn has_class(ranks: &BTreeSet<Rank>, class: u8) -> bool
+    requires { class < 17 }
+    ensures { result ≡ has_class class ranks.now.keys }
+{
+    match last_before(
+        ranks,
+        Rank {
+            class: class + 1,
+            id: 0,
+        },
+    ) {
+        Some(last) => last.class == class,
+        None => false,
+    }
+}
+
+/// Returns the ID of the last of the class, or 0 if there is none.
+fn last_id(ranks: &BTreeSet<Rank>, class: u8) -> u64
+    requires { class < 17 }
+    ensures { result ≡ last_id class ranks.now.keys }
+{
+    match last_before(
+        ranks,
+        Rank {
+            class: class + 1,
+            id: 0,
+        },
+    ) {
+        Some(last) if last.class == class => last.id,
+        _ => 0,
+    }
+}
+
+/// Returns whose turn it is in the round of a class, whose first stream is the first of all.
+fn next_of_class(ranks: &BTreeSet<Rank>, first: Rank, mark: u64, end: u64) -> Rank
+    ensures { IsInClass ranks.now.keys first mark end result }
+{
+    let class = first.class;
+    match first_after(ranks, Rank { class, id: mark }) {
+        Some(rank) if !(Rank { class, id: end }.is_before(&rank)) => rank,
+        _ => first,
     }
 }
 
 /// The streams that have something to be sent and may send it, in the order of RFC 9218, section 10:
 /// critical streams first, then by urgency; of one urgency those that are not incremental by their IDs,
-/// and then the incremental ones in rounds.
+/// and then the incremental ones in rounds, from the lowest ID to the highest.
 ///
 /// A caller inserts a stream once it has something to be sent and is not blocked, removes it once it has
 /// nothing or is blocked, sends from the stream that [`next`](Ready::next) returns, and then says so by
-/// [`turn_taken`](Ready::turn_taken). One turn of `fair` goes round all streams, so that none starves.
+/// [`turn_taken`](Ready::turn_taken). One turn of `fair` goes round all streams, so that none starves:
+/// from the last to the first, so that each other stream goes before one that waits at most once, and
+/// those that come later wait for the next round. Turns are counted from when no stream was ready.
 #[derive(Drop)]
 pub struct Ready {
     ranks: BTreeSet<Rank>,
     marks: [u64; 17],
+    ends: [u64; 17],
     round: Rank,
     left: u64,
     fair: u64,
@@ -104,6 +156,7 @@ impl Model for Ready {
     ghost view = { λ s. record {
       ranks = s.ranks.keys;
       marks = s.marks;
+      ends = s.ends;
       round = s.round;
       left = s.left;
       fair = s.fair;
@@ -121,6 +174,7 @@ impl Ready {
         ensures { result ≡ record {
           ranks = [];
           marks = replicate 17 0;
+          ends = replicate 17 0;
           round = place 0 0;
           left = fair;
           fair = fair;
@@ -129,6 +183,7 @@ impl Ready {
         Ready {
             ranks: BTreeSet::new(alloc),
             marks: [0; 17],
+            ends: [0; 17],
             round: Rank { class: 0, id: 0 },
             left: fair,
             fair,
@@ -142,7 +197,17 @@ impl Ready {
         ensures { MatchResult result (λ _. Joins (rank_of id kind) self.old self.new)
             (λ _. self.new ≡ self.old) }
     {
-        add(&mut self.ranks, Rank::new(id, kind))
+        let rank = Rank::new(id, kind);
+        let ends_round = rank.is_shared() && !has_class(&self.ranks, rank.class);
+        let is_idle = self.ranks.len() == 0;
+        add(&mut self.ranks, rank)?;
+        if ends_round {
+            self.ends[rank.class as usize] = 0;
+        }
+        if is_idle {
+            self.left = self.fair;
+        }
+        Ok(())
     }
 
     /// A stream has nothing to be sent, or may not send it. If it was not ready, nothing changes.
@@ -194,7 +259,8 @@ impl Ready {
         if !first.is_shared() {
             return Some(first);
         }
-        next_of_class(&self.ranks, first.class, self.marks[first.class as usize])
+        let class = first.class as usize;
+        Some(next_of_class(&self.ranks, first, self.marks[class], self.ends[class]))
     }
 
     // Returns whose turn it is in the round of all.
@@ -219,6 +285,9 @@ impl Ready {
         }
         if rank.is_shared() {
             self.marks[rank.class as usize] = rank.id;
+            if is_first(&self.ranks, &rank) {
+                self.ends[rank.class as usize] = last_id(&self.ranks, rank.class);
+            }
         }
         self.left -= 1;
     }

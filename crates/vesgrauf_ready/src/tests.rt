@@ -2,6 +2,7 @@
 
 use crate::rank::{Kind, Priority};
 use crate::ready::Ready;
+use std::process::Abort;
 
 /// A stream: its ID, its urgency or `None` if it is critical, whether it is incremental, and how many
 /// turns it needs.
@@ -10,7 +11,7 @@ type Stream = (u64, Option<u8>, bool, usize);
 /// Streams, of how many turns one goes round all, and the turns.
 type Row = (&'static [Stream], u64, &'static [u64]);
 
-static ROWS: [Row; 8] = [
+static ROWS: [Row; 9] = [
     // The more urgent first; of one urgency the incremental ones by turns.
     (
         &[
@@ -20,7 +21,7 @@ static ROWS: [Row; 8] = [
             (12, Some(3), true, 2),
         ],
         100,
-        &[4, 4, 4, 12, 8, 12, 8, 0, 0],
+        &[4, 4, 4, 8, 12, 8, 12, 0, 0],
     ),
     // Of one urgency by the IDs, one after the other.
     (
@@ -57,6 +58,18 @@ static ROWS: [Row; 8] = [
         100,
         &[28, 24, 20, 16, 12, 8, 4, 0],
     ),
+    // Short messages on incremental streams go out in the order of their IDs, in whichever order they
+    // became ready.
+    (
+        &[
+            (22, Some(3), true, 1),
+            (14, Some(3), true, 1),
+            (26, Some(3), true, 1),
+            (18, Some(3), true, 1),
+        ],
+        100,
+        &[14, 18, 22, 26],
+    ),
     // Three incremental streams share, and the one that needs most is the last.
     (
         &[
@@ -65,7 +78,7 @@ static ROWS: [Row; 8] = [
             (8, Some(3), true, 2),
         ],
         100,
-        &[8, 4, 0, 8, 0, 0],
+        &[0, 4, 8, 0, 8, 0],
     ),
     // Two incremental streams of other urgencies do not share.
     (
@@ -143,4 +156,53 @@ fn another_priority_is_another_place(rt: HostRuntime) {
     assert_eq!(rt; ready.next(), Some(0));
     ready.remove(0, normal);
     assert_eq!(rt; ready.next(), None);
+}
+
+/// An incremental stream of the usual urgency.
+static SHARED: Kind = Kind::Message(Priority {
+    urgency: 3,
+    incremental: true,
+});
+
+/// Takes turns, which are to be of these streams.
+fn take_turns(rt: &impl Abort, ready: &mut Ready, wanted: &[u64]) {
+    for id in wanted {
+        assert_eq!(rt; ready.next(), Some(*id));
+        ready.turn_taken(*id, SHARED);
+    }
+}
+
+#[test]
+fn later_streams_wait_for_the_next_round(rt: HostRuntime) {
+    let mut ready = Ready::new(rt.alloc(), 100);
+    ready.insert(4, SHARED).expect(&rt, "memory");
+    ready.insert(8, SHARED).expect(&rt, "memory");
+    take_turns(&rt, &mut ready, &[4]);
+    // The round ends with 8, whatever comes behind it.
+    ready.insert(12, SHARED).expect(&rt, "memory");
+    take_turns(&rt, &mut ready, &[8, 4]);
+    ready.insert(16, SHARED).expect(&rt, "memory");
+    take_turns(&rt, &mut ready, &[8, 12, 4, 8, 12, 16, 4]);
+    // Now 8 is the first, and is not served twice in a row though 20 came later.
+    ready.remove(12, SHARED);
+    ready.remove(16, SHARED);
+    ready.insert(20, SHARED).expect(&rt, "memory");
+    ready.remove(4, SHARED);
+    take_turns(&rt, &mut ready, &[8, 20, 8]);
+}
+
+#[test]
+fn the_first_of_a_class_begins_anew(rt: HostRuntime) {
+    let mut ready = Ready::new(rt.alloc(), 3);
+    ready.insert(4, SHARED).expect(&rt, "memory");
+    ready.insert(12, SHARED).expect(&rt, "memory");
+    take_turns(&rt, &mut ready, &[4]);
+    ready.turn_taken(4, SHARED);
+    ready.remove(4, SHARED);
+    ready.remove(12, SHARED);
+    assert_eq!(rt; ready.next(), None);
+    // Neither what is left of the round nor a turn of the round of all comes first.
+    ready.insert(8, SHARED).expect(&rt, "memory");
+    ready.insert(0, SHARED).expect(&rt, "memory");
+    take_turns(&rt, &mut ready, &[0, 8]);
 }
