@@ -1,4 +1,5 @@
 pub mod Reading
+pub mod Moves
 pub mod Pieces
 pub mod Turns
 pub mod Errors

@@ -5,7 +5,7 @@ use Rattle.wtp_messages.specs.declared.response.Asked.{Asked}
 use Rattle.wtp_sending.specs.declared.error.SendError.{SendError}
 use Rattle.wtp_sending.specs.declared.error.SendError.TheVariants.{Unexpected, Memory}
 use Rattle.wtp_sending.specs.declared.message.Sending.{Sending}
-use Rattle.wtp_sending.specs.Message.{data_head, after_data, after_bytes, after_end, opens, placed}
+use Rattle.wtp_sending.specs.Message.{data_head, after_data, after_bytes, after_end, opens, placed, of_connect}
 use Rattle.wtp_sending.specs.Session.{in_session, uni_head, bi_head, drain_wire, close_data, after_close}
 use Rattle.vesgrauf_queue.specs.declared.ending.Ending.{Ending}
 use Rattle.vesgrauf_queue.specs.declared.ending.Ending.TheVariants.{Open, Finishing, Finished}
@@ -60,6 +60,11 @@ is_idle other = false
 abbrev pub is_raw : Half → Bool
 is_raw half.Raw = true
 is_raw other = false
+
+-- a CONNECT that was sent or accepted, and has no end
+abbrev pub is_connect : Half → Bool
+is_connect (half.Message s) = of_connect s.place
+is_connect other = false
 
 -- it was neither finished nor reset
 abbrev pub is_open : Ending → Bool

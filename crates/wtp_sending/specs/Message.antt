@@ -327,6 +327,15 @@ end_at other s = by_rule s (end_of s.message.stage s.message.content.left)
 abbrev pub after_end : Sending → Result Sending SendError
 after_end s = if nat_lt 0 s.owed then Err error.DataMissing else end_at s.place s
 
+-- ---- a CONNECT
+
+-- a CONNECT request that is not answered, or its tunnel or session
+abbrev pub of_connect : Place → Bool
+of_connect (Connecting session) = true
+of_connect Tunnel = true
+of_connect Session = true
+of_connect other = false
+
 -- ---- a CONNECT that was answered with a 2xx status
 
 -- the tunnel or the session that opens

@@ -9,6 +9,7 @@ ghost use Rattle.wtp_sending.specs.Message.{sending_of, headers_wire, LeadsToHea
 ghost use Rattle.wtp_sending.specs.Message.{after_response as after_response_is, after_request as after_request_is, is_unsupported as is_unsupported_is};
 ghost use Rattle.wtp_sending.specs.Message.{data_head, data_at, after_data, counts, after_bytes};
 ghost use Rattle.wtp_sending.specs.Message.{SendsTrailers, LeadsToTrailers, RefusesTail, RefusesTrailers, LacksSection, after_end, opens, placed, Changes};
+ghost use Rattle.wtp_sending.specs.Message.{of_connect};
 
 mod encoded;
 mod session;
@@ -369,6 +370,16 @@ impl Sending {
             Place::Tunnel
         };
         Ok(())
+    }
+
+    /// Returns whether this is a CONNECT request that is not answered, or its tunnel or session.
+    pub fn is_connect(&self) -> bool
+        ensures { result ≡ of_connect self.now.place }
+    {
+        matches!(
+            self.place,
+            Place::Connecting(_) | Place::Tunnel | Place::Session
+        )
     }
 }
 

@@ -5,6 +5,7 @@ ghost use Rattle.wtp_webtransport.specs.Events.{told_of};
 ghost use Rattle.wtp_webtransport.specs.Joining.{joins, resets, stops_half, abandons, overflows, rejects};
 ghost use Rattle.wtp_webtransport.specs.Sessions.{known_of};
 ghost use Rattle.wtp_webtransport.specs.Streams.{answered, waits_for, is_request_head as is_request_head_is, IsOfSession};
+ghost use Rattle.vesgrauf_stream.specs.Moves.{Moves};
 ghost use Rattle.vesgrauf_stream.specs.Reading.{IsStill, kept_of};
 
 use crate::reading::Reading;
@@ -54,6 +55,7 @@ impl Reading {
     /// Says that the CONNECT request on the stream is answered with this status.
     pub fn answer(&mut self, status: u32)
         ensures stream { self.new.stream ≡ answered self.old.stream status }
+        ensures moves { Moves self.old.stream self.new.stream }
         ensures rest { IsStill self.old self.new }
     {
         self.stream.answer(status);
@@ -62,6 +64,7 @@ impl Reading {
     /// Joins the stream with its session, by what is known of that.
     pub fn join_session(&mut self, shared: &mut Connection, known: Known) -> Event<'static>
         ensures told { (told_of result, shared.new, self.new.stream) ≡ joins shared.old self.old.stream known }
+        ensures moves { Moves self.old.stream self.new.stream }
         ensures rest { IsStill self.old self.new }
     {
         shared.join(&mut self.stream, known)
@@ -70,6 +73,7 @@ impl Reading {
     /// The peer reset the stream.
     pub fn reset(&mut self, shared: &mut Connection) -> Event<'static>
         ensures told { (told_of result, shared.new, self.new.stream) ≡ resets shared.old self.old.stream }
+        ensures moves { Moves self.old.stream self.new.stream }
         ensures rest { IsStill self.old self.new }
     {
         shared.reset(&mut self.stream)
@@ -78,6 +82,7 @@ impl Reading {
     /// The peer asked to stop the own half of the stream.
     pub fn stop(&mut self, shared: &mut Connection) -> Event<'static>
         ensures told { (told_of result, shared.new, self.new.stream) ≡ stops_half shared.old self.old.stream }
+        ensures moves { Moves self.old.stream self.new.stream }
         ensures rest { IsStill self.old self.new }
     {
         shared.stop(&mut self.stream)
@@ -86,6 +91,7 @@ impl Reading {
     /// Ends the reading of the stream.
     pub fn abandon(&mut self, shared: &mut Connection) -> Event<'static>
         ensures told { (told_of result, shared.new, self.new.stream) ≡ abandons shared.old self.old.stream }
+        ensures moves { Moves self.old.stream self.new.stream }
         ensures rest { IsStill self.old self.new }
     {
         shared.abandon(&mut self.stream)
@@ -99,6 +105,7 @@ impl Reading {
         goaway: Option<u64>,
     ) -> Event<'static>
         ensures told { (told_of result, shared.new, self.new.stream) ≡ rejects shared.old self.old.stream id goaway }
+        ensures moves { Moves self.old.stream self.new.stream }
         ensures rest { IsStill self.old self.new }
     {
         shared.reject(&mut self.stream, id, goaway)
@@ -107,6 +114,7 @@ impl Reading {
     /// More bytes of the stream wait than the caller keeps.
     pub fn overflow(&mut self, shared: &mut Connection) -> Event<'static>
         ensures told { (told_of result, shared.new, self.new.stream) ≡ overflows shared.old self.old.stream }
+        ensures moves { Moves self.old.stream self.new.stream }
         ensures rest { IsStill self.old self.new }
     {
         shared.overflow(&mut self.stream)
