@@ -4,6 +4,7 @@ use Rattle.std.specs.Ordering.{nat_cmp}
 use Rattle.std.specs.Map.{lookup, set_value}
 use Rattle.std.specs.BTreeMap.{is_at}
 use Rattle.std.specs.Prelude.{IfOk, OnOk, Result, Ok, Err}
+use Rattle.wtp_webtransport.specs.declared.stream.Stream.{Stream}
 use Rattle.vesgrauf_stream.specs.declared.reading.Reading.{Reading}
 use Rattle.vesgrauf_stream.specs.Reading.{kept_of}
 use Rattle.vesgrauf.specs.declared.config.Config.{Config}
@@ -14,7 +15,7 @@ use Rattle.vesgrauf.specs.declared.entry.Peer.{Peer}
 use Rattle.vesgrauf.specs.declared.entry.Peer.TheVariants as peer
 use Rattle.vesgrauf.specs.Own.{entry_at}
 use Rattle.vesgrauf.specs.Items.{Item}
-use Rattle.vesgrauf.specs.Theirs.{Theirs, Gone, theirs_by, theirs_of, theirs_in, theirs_at, IsLeft, Left, Piece, AreCalls, AreRead, IsReadTo, IsRead, TellsKept, IsStart, Accepts, OnlyAt}
+use Rattle.vesgrauf.specs.Theirs.{Theirs, Gone, Unread, IsTurned, theirs_by, theirs_of, theirs_in, theirs_at, IsLeft, Left, Piece, AreCalls, AreRead, IsReadTo, IsRead, TellsKept, IsStart, Accepts, OnlyAt}
 use Rattle.vesgrauf.specs.Bounds.{most_kept, Fits, AllFit, KeepsFit, StillFits, KeepsBoundAll, StillBounded, KeepsBound}
 use Rattle.vesgrauf.specs.declared.event.Event.{Event}
 use Rattle.vesgrauf.specs.declared.connection.Ended.{Ended}
@@ -26,27 +27,32 @@ use Rattle.vesgrauf.proofs.ReadsLemmas.{same_key}
 
 -- ---- one stream
 
+turned_fits : (n : ℕ) (x y : Theirs) → IsTurned x y → Fits n x → Fits n y
+turned_fits n Gone y e p = absurd e
+turned_fits n (Unread bytes ended s) y e p = subst (λ t. Fits n t) (sym e.2) p
+
 pub left_fits : (n : ℕ) (x y : Theirs) → IsLeft x y → Fits n x → Fits n y
 left_fits n x y (inl e) p = subst (λ t. Fits n t) (sym e) p
-left_fits n x y (inr e) p = subst (λ t. Fits n t) (sym e) tt
+left_fits n x y (inr (inl e)) p = subst (λ t. Fits n t) (sym e) tt
+left_fits n x y (inr (inr e)) p = turned_fits n x y e p
 
 start_fits : (n : ℕ) (seen : Bool) (x y : Theirs) → IsStart seen x y → Fits n x → Fits n y
 start_fits n seen x y (inl e) p = subst (λ t. Fits n t) (sym e) p
-start_fits n seen x y (inr e) p = subst (λ t. Fits n t) (sym e.1) (omega arith)
+start_fits n seen x y (inr e) p = subst (λ t. Fits n t) (sym e.1.nothing) (omega arith)
 
 -- what is left of bytes that are read
-calls_shrink : (pieces : List Piece) (bytes rest : List ℕ) (ended : Bool) → AreCalls pieces bytes ended rest
-    → length rest ≤ length bytes
-calls_shrink [] bytes rest ended p = grind (arith, p)
-calls_shrink (piece ∷ pieces) bytes rest ended p =
+calls_shrink : (pieces : List Piece) (bytes rest : List ℕ) (ended : Bool) (s t : Stream)
+    → AreCalls pieces bytes ended s rest t → length rest ≤ length bytes
+calls_shrink [] bytes rest ended s t p = let same : rest ≡ bytes = p.0 in grind (arith, same)
+calls_shrink (piece ∷ pieces) bytes rest ended s t p =
     let step : length rest ≤ length (drop piece.consumed bytes)
-    = calls_shrink pieces (drop piece.consumed bytes) rest ended p.1 in
+    = calls_shrink pieces (drop piece.consumed bytes) rest ended p.1 t p.4 in
     grind (arith, step, length-drop)
 
 read_fits : (n : ℕ) (x y : Theirs) (items : List Item) → AreRead x items y → Fits n x → Fits n y
 read_fits n x y items r p =
     let before : length r.bytes ≤ n = subst (λ t. Fits n t) r.from p in
-    let after : length r.rest ≤ length r.bytes = calls_shrink r.pieces r.bytes r.rest r.ended r.calls in
+    let after : length r.rest ≤ length r.bytes = calls_shrink r.pieces r.bytes r.rest r.ended r.before r.after r.calls in
     let fits : length r.rest ≤ n = omega (arith, before, after) in
     subst (λ t. Fits n t) (sym r.to) fits
 

@@ -1,16 +1,17 @@
 -- What the program is told of a stream, over runs.
-use Rattle.std.proofs.Common.{◌≡◌, ◌==◌, ◌++◌, ℕ, List, [], ◌∷◌, Option, None, Some, Bool, true, false, refl, arith, sym, ap, append_assoc}
+use Rattle.std.proofs.Common.{◌≡◌, ◌==◌, ◌++◌, ℕ, List, [], ◌∷◌, Option, None, Some, Bool, true, false, refl, arith, sym, ap, append_assoc, ◌∙◌}
 use Rattle.std.specs.Prelude.{◌||◌}
 use Rattle.vesgrauf.specs.declared.connection.Connection.{Connection}
 use Rattle.vesgrauf.specs.declared.entry.Told.{Told}
 use Rattle.vesgrauf.specs.declared.entry.Told.TheVariants as told
 use Rattle.vesgrauf.specs.declared.entry.Entry.{Entry}
 use Rattle.vesgrauf.specs.declared.event.Event.{Event}
+use Rattle.vesgrauf.specs.Cuts.{Shut, ReadsOut, IsCut, is_over_in, is_read_out}
 use Rattle.vesgrauf.specs.Own.{entry_at}
 use Rattle.vesgrauf.specs.Ids.{was}
 use Rattle.vesgrauf.specs.State.{knows_of}
 use Rattle.vesgrauf.specs.Streams.{is_known}
-use Rattle.vesgrauf.specs.Told.{Word, Says, Fails, Closes, word_of, on_by, on, Path, status_by, status_at, knows, Sound, GoesOn}
+use Rattle.vesgrauf.specs.Told.{Word, Says, Fails, Closes, word_of, on_by, on, is_told_over, Path, status_by, status_at, knows, Sound, GoesOn}
 use Rattle.vesgrauf.specs.Calls.{Call, Tells, Opens, Leads, Starts, Run, told_in_all, opened_in, EndsOnce, says, closes}
 use Rattle.vesgrauf.proofs.GoesLemmas.{goes_refl, goes_then, path_cut, path_known}
 
@@ -146,3 +147,32 @@ opens_closes (Opens j ∷ xs) c d h s held id o n =
 pub opened_closes : (calls : List Call) (d : Connection) → Run calls d → (id : ℕ)
     → opened_in id calls ≡ true → knows d id ≡ false → closes (on id (told_in_all calls ++ d.events.items)) ≡ true
 opened_closes calls d r id o n = opens_closes calls r.0 d r.2 r.1.sound (held_start r.0 r.1) id o n
+
+-- ---- streams of sessions
+
+pub run_sound : (calls : List Call) (d : Connection) → Run calls d → Sound d.streams.entries d.ids
+run_sound calls d r = (leads_goes calls r.0 d r.2).sound r.1.sound
+
+unknown_by : (o : Option Entry) → is_over_in o ≡ true → knows_of o ≡ false
+unknown_by None h = refl
+unknown_by (Some e) h = over_by e.told h
+  where
+    over_by : (p : Told) → is_told_over p ≡ true → is_known p ≡ false
+    over_by told.NotYet h = refl
+    over_by told.Known h = absurd (let bad : false ≡ true = h in cc)
+    over_by told.Over h = refl
+
+cut_unknown : (o : Option Entry) → IsCut o → is_read_out o ≡ false → knows_of o ≡ false
+cut_unknown o (Shut own over gone) n = unknown_by o over
+cut_unknown o (ReadsOut own read) n = absurd (let bad : true ≡ false = sym read ∙ n in cc)
+
+pub cut_said : (calls : List Call) (d : Connection) → Run calls d → (id : ℕ) → IsCut (entry_at d.streams.entries id)
+    → is_read_out (entry_at d.streams.entries id) ≡ false
+    → says (on id (told_in_all calls ++ d.events.items)) ≡ true
+    → closes (on id (told_in_all calls ++ d.events.items)) ≡ true
+cut_said calls d r id cut n s = said_closes calls d r id s (cut_unknown (entry_at d.streams.entries id) cut n)
+
+pub cut_opened : (calls : List Call) (d : Connection) → Run calls d → (id : ℕ) → IsCut (entry_at d.streams.entries id)
+    → is_read_out (entry_at d.streams.entries id) ≡ false → opened_in id calls ≡ true
+    → closes (on id (told_in_all calls ++ d.events.items)) ≡ true
+cut_opened calls d r id cut n o = opened_closes calls d r id o (cut_unknown (entry_at d.streams.entries id) cut n)

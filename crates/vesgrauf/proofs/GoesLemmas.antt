@@ -1,26 +1,25 @@
 -- What is told of the streams of a connection.
-use Rattle.std.proofs.Common.{◌≡◌, ◌==◌, ◌++◌, ℕ, List, [], ◌∷◌, Option, None, Some, Bool, true, false, cond, refl, arith, sym, ap, append_assoc}
-use Rattle.std.specs.Prelude.{is_some, not}
+use Rattle.std.proofs.Common.{◌≡◌, ◌⊎◌, ◌==◌, ◌++◌, ℕ, List, [], ◌∷◌, Option, None, Some, Bool, true, false, cond, refl, arith, inl, inr, sym, ap, subst, ◌∙◌, append_assoc}
+use Rattle.std.specs.Prelude.{is_some}
 use Rattle.std.specs.Ordering.{nat_cmp}
 use Rattle.std.specs.Map.{set_value}
 use Rattle.std.specs.BTreeMap.{is_at}
-use Rattle.std.specs.List.{filter}
 use Rattle.std.proofs.lemmas.Map.{lookup-set_value}
 use Rattle.std.proofs.lemmas.Cmp.{eq_by_cmp_equiv, nat_cmp_total}
 use Rattle.vesgrauf.specs.declared.entry.Told.{Told}
 use Rattle.vesgrauf.specs.declared.entry.Told.TheVariants as told
 use Rattle.vesgrauf.specs.declared.entry.Entry.{Entry}
 use Rattle.vesgrauf.specs.declared.event.EventKind.{EventKind}
-use Rattle.vesgrauf.specs.declared.event.EventKind.TheVariants as event
 use Rattle.vesgrauf.specs.declared.event.Event.{Event}
 use Rattle.vesgrauf.specs.declared.connection.Connection.{Connection}
 use Rattle.vesgrauf.specs.declared.connection.Step.TheVariants as step
 use Rattle.vesgrauf.specs.declared.connection.ids.Ids.{Ids}
 use Rattle.vesgrauf.specs.Ids.{was}
+use Rattle.vesgrauf.specs.Members.{is_member, session_in}
 use Rattle.vesgrauf.specs.Own.{entry_at}
-use Rattle.vesgrauf.specs.State.{is_closed, closes_stream, told_on, knows_of, IsStill}
+use Rattle.vesgrauf.specs.State.{told_on, knows_of, IsStill}
 use Rattle.vesgrauf.specs.Streams.{is_known, becomes_known, shown_session}
-use Rattle.vesgrauf.specs.Told.{Sets, Word, Says, Fails, Closes, word_of, ends, on_by, on, is_told_over, after, Stays, Path, status_by, status_in, status_at, may_fail, Sound, Goes, GoesOn, said_in}
+use Rattle.vesgrauf.specs.Told.{Sets, Word, Says, Fails, Closes, word_of, ends, on_by, on, is_told_over, after, Stays, Path, status_by, status_in, status_at, Sound, Goes, GoesOn, said_in}
 
 -- ---- one stream
 
@@ -165,7 +164,7 @@ same_by true o w h = h refl
 same_by false o w h = refl
 
 -- no entry changes
-same_sets : (es : List (ℕ × Entry)) (id : ℕ) → Sets id (entry_at es id) es es
+pub same_sets : (es : List (ℕ × Entry)) (id : ℕ) → Sets id (entry_at es id) es es
 same_sets es id k = same_by (is_at (nat_cmp id) k) (entry_at es k) (entry_at es id) (λ at. rw (same_at id k at) refl)
 
 stays_by : (b : Bool) (e w : Option Entry) (seen : Bool) → (b ≡ true → Stays (status_by e seen) (status_by w seen))
@@ -188,11 +187,41 @@ some_at : (ids : Ids) (id k : ℕ) (w : Option Entry) → (is_some w ≡ true �
     → is_at (nat_cmp id) k ≡ true → is_some w ≡ true → was ids k ≡ true
 some_at ids id k w h at s = rw (same_at id k at) (h s)
 
+-- what the program knows of a stream, and its session
+pub record Standing : Type 0 where
+  pub told : Told
+  pub session : Option ℕ
+
+abbrev pub standing_of : Entry → Standing
+standing_of e = record { told = e.told; session = e.session }
+
+abbrev pub standing_in : Option Entry → Option Standing
+standing_in None = None
+standing_in (Some e) = Some (standing_of e)
+
+-- a stream has the session that another one had, or is noted as one of its own
+abbrev pub IsLinked : Ids → ℕ → Entry → Option Entry → Type 0
+IsLinked ids id e w = (s : ℕ) → session_in w ≡ Some s → (e.session ≡ Some s) ⊎ (is_member ids s id ≡ true)
+
+linked_some : (es : List (ℕ × Entry)) (ids : Ids) (id s : ℕ) (e : Entry) → entry_at es id ≡ Some e → Sound es ids
+    → (e.session ≡ Some s) ⊎ (is_member ids s id ≡ true) → is_member ids s id ≡ true
+linked_some es ids id s e there g (inl h) = g.linked id s (ap session_in there ∙ h)
+linked_some es ids id s e there g (inr h) = h
+
+linked_by : (b : Bool) (es : List (ℕ × Entry)) (ids : Ids) (id k s : ℕ) (e : Entry) (w : Option Entry)
+    → is_at (nat_cmp id) k ≡ b → entry_at es id ≡ Some e → Sound es ids → IsLinked ids id e w
+    → session_in (cond b w (entry_at es k)) ≡ Some s → is_member ids s k ≡ true
+linked_by true es ids id k s e w at there g links h =
+    subst (λ n. is_member ids s n ≡ true) (sym (same_at id k at)) (linked_some es ids id s e there g (links s h))
+linked_by false es ids id k s e w at there g links h = g.linked k s h
+
 -- what was sound stays so
 sound_at : (es fs : List (ℕ × Entry)) (ids : Ids) (id : ℕ) (e : Entry) (w : Option Entry) → Sets id w es fs
-    → entry_at es id ≡ Some e → Sound es ids → Sound fs ids
-sound_at es fs ids id e w sets there s = record {
+    → entry_at es id ≡ Some e → IsLinked ids id e w → Sound es ids → Sound fs ids
+sound_at es fs ids id e w sets there links s = record {
   ids_are = s.ids_are;
+  linked = λ k session h. linked_by (is_at (nat_cmp id) k) es ids id k session e w refl there s links
+      (subst (λ o. session_in o ≡ Some session) (sets k) h);
   were = λ k have.
       let found : is_some (entry_at es id) ≡ true = ap is_some there in
       let h : is_some (entry_at fs k) ≡ true = have in
@@ -202,25 +231,45 @@ sound_at es fs ids id e w sets there s = record {
 
 -- one entry becomes this, or is forgotten, and nothing is told
 goes_at : (es fs : List (ℕ × Entry)) (ids : Ids) (q : List Event) (id : ℕ) (e : Entry) (w : Option Entry)
-    → Sets id w es fs → entry_at es id ≡ Some e
+    → Sets id w es fs → entry_at es id ≡ Some e → IsLinked ids id e w
     → (was ids id ≡ true → Stays e.told (status_by w (was ids id)))
     → Goes [] es ids q fs ids q
-goes_at es fs ids q id e w sets there stays =
+goes_at es fs ids q id e w sets there links stays =
     let found : is_some (entry_at es id) ≡ true = ap is_some there in
-    by_none es fs ids ids q (λ k w. w) (λ s. sound_at es fs ids id e w sets there s)
+    by_none es fs ids ids q (λ k w. w) (λ s. sound_at es fs ids id e w sets there links s)
     (λ s k. rw (sets k) (stays_by (is_at (nat_cmp id) k) (entry_at es k) w (was ids k)
     (stays_at es ids id k w (rw there (stays (s.were id found))))))
 
-set_by : (es : List (ℕ × Entry)) (ids : Ids) (q : List Event) (id : ℕ) (f : Entry) (o : Option Entry)
-    → entry_at es id ≡ o → status_in o ≡ Some f.told → Goes [] es ids q (set_value (is_at (nat_cmp id)) es f) ids q
-set_by es ids q id f None h g = absurd (let bad : None ≡ Some f.told = g in cc)
-set_by es ids q id f (Some e) h g =
-    goes_at es (set_value (is_at (nat_cmp id)) es f) ids q id e (Some f) (set_sets es id e f h) h
-    (λ w. let same : e.told ≡ f.told = cc in rw same (stays_refl f.told))
+standing_same : (a b : Standing) → Some a ≡ Some b → a ≡ b
+standing_same a b h = cc
 
--- a stream changes of which the program knows what it knew
+pub standing_by : (e f : Entry) → f.told ≡ e.told → f.session ≡ e.session → standing_of f ≡ standing_of e
+standing_by e f h g = ap (λ t. record { told = t; session = f.session }) h ∙ ap (λ s. record { told = e.told; session = s }) g
+
+told_same : (e f : Entry) → Some (standing_of e) ≡ Some (standing_of f) → e.told ≡ f.told
+told_same e f h = ap (λ p. p.told) (standing_same (standing_of e) (standing_of f) h)
+
+session_same : (e f : Entry) → Some (standing_of e) ≡ Some (standing_of f) → e.session ≡ f.session
+session_same e f h = ap (λ p. p.session) (standing_same (standing_of e) (standing_of f) h)
+
+-- it has a status
+pub status_of_standing : (o : Option Entry) (f : Entry) → standing_in o ≡ Some (standing_of f) → status_in o ≡ Some f.told
+status_of_standing None f h = absurd (let bad : None ≡ Some (standing_of f) = h in cc)
+status_of_standing (Some e) f h = ap Some (told_same e f h)
+
+set_by : (es : List (ℕ × Entry)) (ids : Ids) (q : List Event) (id : ℕ) (f : Entry) (o : Option Entry)
+    → entry_at es id ≡ o → standing_in o ≡ Some (standing_of f)
+    → Goes [] es ids q (set_value (is_at (nat_cmp id)) es f) ids q
+set_by es ids q id f None h g = absurd (let bad : None ≡ Some (standing_of f) = g in cc)
+set_by es ids q id f (Some e) h g =
+    let told : e.told ≡ f.told = told_same e f g in
+    let session : e.session ≡ f.session = session_same e f g in
+    goes_at es (set_value (is_at (nat_cmp id)) es f) ids q id e (Some f) (set_sets es id e f h) h
+    (λ s n. inl (session ∙ n)) (λ w. rw told (stays_refl f.told))
+
+-- a stream changes of which the program knows what it knew, and of the same session
 pub goes_set : (es : List (ℕ × Entry)) (ids : Ids) (q : List Event) (id : ℕ) (f : Entry)
-    → status_in (entry_at es id) ≡ Some f.told → Goes [] es ids q (set_value (is_at (nat_cmp id)) es f) ids q
+    → standing_in (entry_at es id) ≡ Some (standing_of f) → Goes [] es ids q (set_value (is_at (nat_cmp id)) es f) ids q
 goes_set es ids q id f h = set_by es ids q id f (entry_at es id) refl h
 
 stays_known : (p : Told) → Stays p (becomes_known p)
@@ -230,9 +279,10 @@ stays_known told.Over = refl
 
 -- one becomes known
 pub goes_known : (es : List (ℕ × Entry)) (ids : Ids) (q : List Event) (id : ℕ) (e f : Entry) → entry_at es id ≡ Some e
-    → f.told ≡ becomes_known e.told → Goes [] es ids q (set_value (is_at (nat_cmp id)) es f) ids q
-goes_known es ids q id e f h g =
-    goes_at es (set_value (is_at (nat_cmp id)) es f) ids q id e (Some f) (set_sets es id e f h) h
+    → f.told ≡ becomes_known e.told → IsLinked ids id e (Some f)
+    → Goes [] es ids q (set_value (is_at (nat_cmp id)) es f) ids q
+goes_known es ids q id e f h g links =
+    goes_at es (set_value (is_at (nat_cmp id)) es f) ids q id e (Some f) (set_sets es id e f h) h links
     (λ w. rw g (stays_known e.told))
 
 stays_over : (p : Told) → is_known p ≡ false → Stays p told.Over
@@ -242,16 +292,17 @@ stays_over told.Over n = refl
 
 -- one that the program does not know of is over, or is forgotten
 pub goes_over : (es : List (ℕ × Entry)) (ids : Ids) (q : List Event) (id : ℕ) (e f : Entry) → entry_at es id ≡ Some e
-    → is_known e.told ≡ false → f.told ≡ told.Over → Goes [] es ids q (set_value (is_at (nat_cmp id)) es f) ids q
-goes_over es ids q id e f h n g =
+    → is_known e.told ≡ false → f.told ≡ told.Over → f.session ≡ e.session
+    → Goes [] es ids q (set_value (is_at (nat_cmp id)) es f) ids q
+goes_over es ids q id e f h n g same =
     goes_at es (set_value (is_at (nat_cmp id)) es f) ids q id e (Some f) (set_sets es id e f h) h
-    (λ w. rw g (stays_over e.told n))
+    (λ s o. inl (sym same ∙ o)) (λ w. rw g (stays_over e.told n))
 
 removed_by : (es fs : List (ℕ × Entry)) (ids : Ids) (q : List Event) (id : ℕ) (o : Option Entry) → entry_at es id ≡ o
     → Sets id None es fs → is_some o ≡ true → knows_of o ≡ false → Goes [] es ids q fs ids q
 removed_by es fs ids q id None h sets have n = absurd (let bad : false ≡ true = have in cc)
 removed_by es fs ids q id (Some e) h sets have n = goes_at es fs ids q id e None sets h
-    (λ w. rw w (stays_over e.told n))
+    (λ s o. absurd (let bad : None ≡ Some s = o in cc)) (λ w. rw w (stays_over e.told n))
 
 pub goes_removed : (es fs : List (ℕ × Entry)) (ids : Ids) (q : List Event) (id : ℕ) → Sets id None es fs
     → is_some (entry_at es id) ≡ true → knows_of (entry_at es id) ≡ false → Goes [] es ids q fs ids q
@@ -282,12 +333,12 @@ path_at es ids id k w v h at = rw (same_at id k at) h
 
 -- an event is queued, and the entry of its stream becomes this
 pub goes_queue : (es fs : List (ℕ × Entry)) (ids : Ids) (q : List Event) (id : ℕ) (e : Entry) (v : Option Entry)
-    (ev : Event) (w : Word) → Sets id v es fs → entry_at es id ≡ Some e → ev.stream ≡ id → word_of ev.kind ≡ Some w
-    → (was ids id ≡ true → Path e.told (w ∷ []) (status_by v (was ids id)))
+    (ev : Event) (w : Word) → Sets id v es fs → entry_at es id ≡ Some e → IsLinked ids id e v
+    → ev.stream ≡ id → word_of ev.kind ≡ Some w → (was ids id ≡ true → Path e.told (w ∷ []) (status_by v (was ids id)))
     → Goes [] es ids q fs ids (q ++ (ev ∷ []))
-goes_queue es fs ids q id e v ev w sets there at word h =
+goes_queue es fs ids q id e v ev w sets there links at word h =
     let found : is_some (entry_at es id) ≡ true = ap is_some there in
-    by_some es fs ids ids q (ev ∷ []) (λ k w. w) (λ s. sound_at es fs ids id e v sets there s)
+    by_some es fs ids ids q (ev ∷ []) (λ k w. w) (λ s. sound_at es fs ids id e v sets there links s)
     (λ s k. rw (sets k, word, at) (says_by (is_at (nat_cmp id) k) (id == k) w (entry_at es k) v (was ids k) (at_test id k)
     (path_at es ids id k w v (rw there (h (s.were id found))))))
 
@@ -351,6 +402,10 @@ pub goes_tells : (es : List (ℕ × Entry)) (ids : Ids) (q : List Event) (ev : E
     → knows_of (entry_at es ev.stream) ≡ true → ends (word_of ev.kind) ≡ false → Goes (ev ∷ []) es ids q es ids q
 goes_tells es ids q ev known n = tells_on (entry_at es ev.stream) es ids q ev refl known n
 
+pub itself_linked : (es : List (ℕ × Entry)) (ids : Ids) (id : ℕ) (e : Entry) → entry_at es id ≡ Some e
+    → IsLinked ids id e (entry_at es id)
+itself_linked es ids id e there s h = inl (subst (λ o. session_in o ≡ Some s) there h)
+
 word_at : (v : Word) (p : Told) → ends (Some v) ≡ false → p ≡ told.Known → Path p (v ∷ []) p
 word_at Says p n known = rw known (refl, refl)
 word_at Fails p n known = rw known (refl, refl)
@@ -362,7 +417,8 @@ queued_by : (w : Option Word) (o : Option Entry) (es : List (ℕ × Entry)) (ids
 queued_by None o es ids q ev word there known n = goes_general es ids q ev word
 queued_by (Some w) None es ids q ev word there known n = absurd (let bad : false ≡ true = known in cc)
 queued_by (Some w) (Some e) es ids q ev word there known n =
-    goes_queue es es ids q ev.stream e (entry_at es ev.stream) ev w (same_sets es ev.stream) there refl word
+    goes_queue es es ids q ev.stream e (entry_at es ev.stream) ev w (same_sets es ev.stream) there
+    (itself_linked es ids ev.stream e there) refl word
     (λ s. rw there (word_at w e.told n (is_known_known e.told known)))
 
 -- an event of a stream that is known is queued
@@ -392,59 +448,32 @@ goes_said es ids q r id k ev h n queued =
     let said = is_said (entry_at es id) id k ev h in
     rw queued (goes_queued es ids q ev (rw said.1 said.0) (rw said.2 n))
 
-not_true : (b : Bool) → not b ≡ true → b ≡ false
-not_true true p = absurd (let bad : false ≡ true = p in cc)
-not_true false p = refl
-
-failed_by : (o : Option Entry) (es : List (ℕ × Entry)) (ids : Ids) (q : List Event) (ev : Event)
-    → word_of ev.kind ≡ Some Fails → entry_at es ev.stream ≡ o → may_fail o ≡ true
-    → Goes [] es ids q es ids (q ++ (ev ∷ []))
-failed_by None es ids q ev word there known = absurd (let bad : false ≡ true = known in cc)
-failed_by (Some e) es ids q ev word there known =
-    goes_queue es es ids q ev.stream e (entry_at es ev.stream) ev Fails (same_sets es ev.stream) there refl word
-    (λ s. rw there (not_true (is_told_over e.told) known, stays_refl e.told))
-
--- a failure of a stream that is not over is queued
-pub goes_failed : (es : List (ℕ × Entry)) (ids : Ids) (q : List Event) (ev : Event)
-    → may_fail (entry_at es ev.stream) ≡ true → word_of ev.kind ≡ Some Fails
-    → Goes [] es ids q es ids (q ++ (ev ∷ []))
-goes_failed es ids q ev may word = failed_by (entry_at es ev.stream) es ids q ev word refl may
-
 closed_by : (o : Option Entry) (es : List (ℕ × Entry)) (ids : Ids) (q : List Event) (ev : Event) (f : Entry)
     → word_of ev.kind ≡ Some Closes → entry_at es ev.stream ≡ o → knows_of o ≡ true → f.told ≡ told.Over
+    → session_in o ≡ f.session
     → Goes [] es ids q (set_value (is_at (nat_cmp ev.stream)) es f) ids (q ++ (ev ∷ []))
-closed_by None es ids q ev f word there known g = absurd (let bad : false ≡ true = known in cc)
-closed_by (Some e) es ids q ev f word there known g =
+closed_by None es ids q ev f word there known g same = absurd (let bad : false ≡ true = known in cc)
+closed_by (Some e) es ids q ev f word there known g same =
     goes_queue es (set_value (is_at (nat_cmp ev.stream)) es f) ids q ev.stream e (Some f) ev Closes
-    (set_sets es ev.stream e f there) there refl word
+    (set_sets es ev.stream e f there) there (λ s h. inl (same ∙ h)) refl word
     (λ s. rw (is_known_known e.told known, g) (refl, refl))
 
 -- the last event of a stream that is known is queued
 pub goes_closed : (es : List (ℕ × Entry)) (ids : Ids) (q : List Event) (ev : Event) (f : Entry)
     → knows_of (entry_at es ev.stream) ≡ true → word_of ev.kind ≡ Some Closes → f.told ≡ told.Over
+    → session_in (entry_at es ev.stream) ≡ f.session
     → Goes [] es ids q (set_value (is_at (nat_cmp ev.stream)) es f) ids (q ++ (ev ∷ []))
-goes_closed es ids q ev f known word g = closed_by (entry_at es ev.stream) es ids q ev f word refl known g
+goes_closed es ids q ev f known word g same = closed_by (entry_at es ev.stream) es ids q ev f word refl known g same
 
 -- it is told at once, if nothing is queued
 pub goes_last : (es : List (ℕ × Entry)) (ids : Ids) (q : List Event) (ev : Event) (f : Entry)
-    → knows_of (entry_at es ev.stream) ≡ true → word_of ev.kind ≡ Some Closes → f.told ≡ told.Over → q ≡ []
+    → knows_of (entry_at es ev.stream) ≡ true → word_of ev.kind ≡ Some Closes → f.told ≡ told.Over
+    → session_in (entry_at es ev.stream) ≡ f.session → q ≡ []
     → Goes (ev ∷ []) es ids q (set_value (is_at (nat_cmp ev.stream)) es f) ids q
-goes_last es ids q ev f known word g none =
+goes_last es ids q ev f known word g same none =
     let h : Goes [] es ids [] (set_value (is_at (nat_cmp ev.stream)) es f) ids (ev ∷ []) =
-    goes_closed es ids [] ev f known word g in
+    goes_closed es ids [] ev f known word g same in
     rw none (record { seen = h.seen; sound = h.sound; told = h.told })
-
-over_by : (o : Option Entry) (es : List (ℕ × Entry)) (ids : Ids) (q : List Event) (id : ℕ) (f : Entry)
-    → entry_at es id ≡ o → is_some o ≡ true → knows_of o ≡ false → f.told ≡ told.Over
-    → Goes [] es ids q (set_value (is_at (nat_cmp id)) es f) ids q
-over_by None es ids q id f there have n g = absurd (let bad : false ≡ true = have in cc)
-over_by (Some e) es ids q id f there have n g = goes_over es ids q id e f there n g
-
--- one that the program does not know of is over
-pub goes_ended : (es : List (ℕ × Entry)) (ids : Ids) (q : List Event) (id : ℕ) (f : Entry)
-    → is_some (entry_at es id) ≡ true → knows_of (entry_at es id) ≡ false → f.told ≡ told.Over
-    → Goes [] es ids q (set_value (is_at (nat_cmp id)) es f) ids q
-goes_ended es ids q id f have n g = over_by (entry_at es id) es ids q id f refl have n g
 
 -- nothing changes
 pub goes_same : (es fs : List (ℕ × Entry)) (ids jds : Ids) (q r : List Event) → fs ≡ es → jds ≡ ids → r ≡ q
@@ -454,37 +483,3 @@ goes_same es fs ids jds q r h i j = rw (h, i, j) (goes_refl es ids q)
 pub goes_still : (c d : Connection) → IsStill c d → GoesOn [] c d
 goes_still c d h = goes_same c.streams.entries d.streams.entries c.ids d.ids c.events.items d.events.items
     (ap (λ v. v.streams) h) (ap (λ v. v.ids) h) (ap (λ v. v.events) h)
-
--- the last words alone
-abbrev pub last_words : List Word → List Word
-last_words [] = []
-last_words (Closes ∷ ws) = Closes ∷ last_words ws
-last_words (w ∷ ws) = last_words ws
-
-path_less : (ws : List Word) (p q : Told) → Path p ws q → Path p (last_words ws) q
-path_less [] p q h = h
-path_less (Closes ∷ ws) p q h = (h.0, path_less ws told.Over q h.1)
-path_less (Says ∷ ws) told.NotYet q h = path_from (last_words ws) told.Known q (path_less ws told.Known q h.1)
-path_less (Says ∷ ws) told.Known q h = path_less ws told.Known q h.1
-path_less (Says ∷ ws) told.Over q h = absurd (let bad : true ≡ false = h.0 in cc)
-path_less (Fails ∷ ws) p q h = path_less ws p q h.1
-
-less_by : (k : EventKind) (b : Bool) (ws : List Word) (e : Event) (es : List Event) (id : ℕ) → e.kind ≡ k → (e.stream == id) ≡ b
-    → on id es ≡ last_words ws
-    → on id (cond (is_closed k) (e ∷ es) es) ≡ last_words (on_by (word_of k) b ws)
-less_by (event.Closed why) true ws e es id kind here h = rw (kind, here, h) refl
-less_by (event.Closed why) false ws e es id kind here h = rw (kind, here) h
-less_by other true ws e es id kind here h = h
-less_by other false ws e es id kind here h = h
-
-less_on : (id : ℕ) (es : List Event) → on id (filter closes_stream es) ≡ last_words (on id es)
-less_on id [] = refl
-less_on id (e ∷ es) = less_by e.kind (e.stream == id) (on id es) e (filter closes_stream es) id refl refl (less_on id es)
-
--- of the queue the last events of streams alone are left
-pub goes_filtered : (es : List (ℕ × Entry)) (ids : Ids) (q : List Event) → Goes [] es ids q es ids (filter closes_stream q)
-goes_filtered es ids q = record {
-  seen = λ k w. w;
-  sound = λ s. s;
-  told = λ s k p g. rw (less_on k q) (path_less (on k q) p (status_at es ids k) g);
-}

@@ -15,8 +15,9 @@ use Rattle.vesgrauf.specs.Ids.{was, own_bit, peer_bit, kind_by, kind_of, next_ow
 use Rattle.vesgrauf.specs.declared.config.Config.{Config}
 use Rattle.vesgrauf.specs.declared.connection.Connection.{Connection}
 use Rattle.vesgrauf.specs.declared.connection.Ended.{Ended}
-use Rattle.vesgrauf.specs.Halves.{halves_in, halves_at, Holds, Lasts}
+use Rattle.vesgrauf.specs.Halves.{halves_in, halves_at, Holds}
 use Rattle.vesgrauf.specs.Keeps.{KeepsAll, Kept, Keeps}
+use Rattle.vesgrauf.specs.Members.{is_member, is_noted, session_in}
 use Rattle.vesgrauf.specs.Own.{entry_at, own_in, IsUntouched, UntouchedBut}
 use Rattle.vesgrauf.specs.State.{knows_of, IsStill}
 use Rattle.vesgrauf.specs.Theirs.{theirs_in, IsLeft}
@@ -107,16 +108,42 @@ seen_stays (Some e) a b h = stays_refl e.told
 seen_stays None true b h = rw (h refl) refl
 seen_stays None false b h = tt
 
+-- the streams of sessions are what they were
+member_same : (ids jds : Ids) (session id : ℕ) → jds.members ≡ ids.members → is_member ids session id ≡ true
+    → is_member jds session id ≡ true
+member_same ids jds session id h m =
+    subst (λ s. is_noted s.keys (record { session = session; id = id }) ≡ true) (sym h) m
+
+taken_members : (ids : Ids) (k : StreamKind) → (taken ids k).members ≡ ids.members
+taken_members ids kind.Bidirectional = refl
+taken_members ids kind.Unidirectional = refl
+
+seen_members : (ids : Ids) (k : StreamKind) → (seen ids k).members ≡ ids.members
+seen_members ids kind.Bidirectional = refl
+seen_members ids kind.Unidirectional = refl
+
+blocked_members : (ids : Ids) (k : StreamKind) (b : Bool) → (blocked ids k b).members ≡ ids.members
+blocked_members ids kind.Bidirectional b = refl
+blocked_members ids kind.Unidirectional b = refl
+
+open_members : (ids : Ids) (k : StreamKind) → (opened ids k).members ≡ ids.members
+open_members ids kind.Bidirectional = refl
+open_members ids kind.Unidirectional = refl
+
 -- more IDs are taken or seen, and no stream changes
-ids_grow : (es : List (ℕ × Entry)) (ids jds : Ids) (q : List Event) → (AreIds ids → AreIds jds)
-    → ((id : ℕ) → was ids id ≡ true → was jds id ≡ true) → Goes [] es ids q es jds q
-ids_grow es ids jds q are grow = by_none es es ids jds q grow
-    (λ s. record { ids_are = are s.ids_are; were = λ id have. grow id (s.were id have) })
+ids_grow : (es : List (ℕ × Entry)) (ids jds : Ids) (q : List Event) → jds.members ≡ ids.members
+    → (AreIds ids → AreIds jds) → ((id : ℕ) → was ids id ≡ true → was jds id ≡ true) → Goes [] es ids q es jds q
+ids_grow es ids jds q members are grow = by_none es es ids jds q grow
+    (λ s. record {
+      ids_are = are s.ids_are;
+      were = λ id have. grow id (s.were id have);
+      linked = λ id session h. member_same ids jds session id members (s.linked id session h);
+    })
     (λ s id. seen_stays (entry_at es id) (was ids id) (was jds id) (grow id))
 
 taken_if : (b : Bool) (es : List (ℕ × Entry)) (ids : Ids) (q : List Event) (k : StreamKind)
     → Goes [] es ids q es (cond b (taken ids k) ids) q
-taken_if true es ids q k = ids_grow es ids (taken ids k) q (are_taken ids k) (was_taken ids k)
+taken_if true es ids q k = ids_grow es ids (taken ids k) q (taken_members ids k) (are_taken ids k) (was_taken ids k)
 taken_if false es ids q k = goes_refl es ids q
 
 -- an ID is taken: of a stream of which there are no events
@@ -138,13 +165,32 @@ some_new : (b : Bool) (o : Option Entry) (e : Entry) (a : Bool) → (b ≡ true 
 some_new true o e a g h s = g refl
 some_new false o e a g h s = h s
 
+-- a stream is noted as one of its session
+abbrev pub IsNoted : Ids → ℕ → Option Entry → Type 0
+IsNoted ids id o = (s : ℕ) → session_in o ≡ Some s → is_member ids s id ≡ true
+
+-- one without a session need not be
+pub noted_alone : (ids : Ids) (id : ℕ) (o : Option Entry) → session_in o ≡ None → IsNoted ids id o
+noted_alone ids id o none s h = absurd (let bad : None ≡ Some s = sym none ∙ h in cc)
+
+begins_linked : (b : Bool) (es : List (ℕ × Entry)) (ids : Ids) (id k s : ℕ) (e : Entry) → is_at (nat_cmp id) k ≡ b
+    → Sound es ids → IsNoted ids id (Some e) → session_in (cond b (Some e) (entry_at es k)) ≡ Some s
+    → is_member ids s k ≡ true
+begins_linked true es ids id k s e at g noted h =
+    subst (λ n. is_member ids s n ≡ true) (sym (same_at id k at)) (noted s h)
+begins_linked false es ids id k s e at g noted h = g.linked k s h
+
 -- a stream begins that there was not
 begins : (es fs : List (ℕ × Entry)) (ids jds : Ids) (q : List Event) (id : ℕ) (e : Entry) → Sets id (Some e) es fs
+    → IsNoted ids id (Some e) → jds.members ≡ ids.members
     → (AreIds ids → AreIds jds) → ((k : ℕ) → was ids k ≡ true → was jds k ≡ true)
     → (AreIds ids → was ids id ≡ false) → (AreIds ids → was jds id ≡ true) → Goes [] es ids q fs jds q
-begins es fs ids jds q id e sets are grow before now = by_none es fs ids jds q grow
+begins es fs ids jds q id e sets noted members are grow before now = by_none es fs ids jds q grow
     (λ s. record {
       ids_are = are s.ids_are;
+      linked = λ k session h. member_same ids jds session k members
+          (begins_linked (is_at (nat_cmp id) k) es ids id k session e refl s noted
+          (subst (λ o. session_in o ≡ Some session) (sets k) h));
       were = λ k have.
           let h : is_some (entry_at fs k) ≡ true = have in
           let g : is_some (cond (is_at (nat_cmp id) k) (Some e) (entry_at es k)) ≡ true = rw (sets k) at h in
@@ -225,15 +271,15 @@ peer_is ids k a = let x = peer_next ids k ids.side refl a in
 
 -- an own stream is opened
 pub goes_opened : (es fs : List (ℕ × Entry)) (ids : Ids) (q : List Event) (k : StreamKind) (e : Entry)
-    → Sets (next_own ids k) (Some e) es fs → Goes [] es ids q fs (taken ids k) q
-goes_opened es fs ids q k e sets = begins es fs ids (taken ids k) q (next_own ids k) e sets
-    (are_taken ids k) (was_taken ids k) (own_was ids k) (own_is ids k)
+    → Sets (next_own ids k) (Some e) es fs → IsNoted ids (next_own ids k) (Some e) → Goes [] es ids q fs (taken ids k) q
+goes_opened es fs ids q k e sets noted = begins es fs ids (taken ids k) q (next_own ids k) e sets noted
+    (taken_members ids k) (are_taken ids k) (was_taken ids k) (own_was ids k) (own_is ids k)
 
 -- a stream of the peer is registered
 pub goes_accepted : (es fs : List (ℕ × Entry)) (ids : Ids) (q : List Event) (k : StreamKind) (e : Entry)
-    → Sets (next_peer ids k) (Some e) es fs → Goes [] es ids q fs (seen ids k) q
-goes_accepted es fs ids q k e sets = begins es fs ids (seen ids k) q (next_peer ids k) e sets
-    (are_seen ids k) (was_seen ids k) (peer_was ids k) (peer_is ids k)
+    → Sets (next_peer ids k) (Some e) es fs → e.session ≡ None → Goes [] es ids q fs (seen ids k) q
+goes_accepted es fs ids q k e sets alone = begins es fs ids (seen ids k) q (next_peer ids k) e sets
+    (noted_alone ids (next_peer ids k) (Some e) alone) (seen_members ids k) (are_seen ids k) (was_seen ids k) (peer_was ids k) (peer_is ids k)
 
 -- ---- by what the maps say
 
@@ -246,39 +292,42 @@ sets_by es fs id w here others k = sets_here (is_at (nat_cmp id) k) (entry_at fs
     (λ at. rw (same_at id k at) here) (others k)
 
 goes_seen : (b : Bool) (es fs : List (ℕ × Entry)) (ids jds : Ids) (q : List Event) (k : StreamKind) (e : Entry)
-    → b ≡ true → jds ≡ cond b (seen ids k) ids → Sets (next_peer ids k) (Some e) es fs → Goes [] es ids q fs jds q
-goes_seen true es fs ids jds q k e h i sets = rw i (goes_accepted es fs ids q k e sets)
-goes_seen false es fs ids jds q k e h i sets = absurd (let bad : false ≡ true = h in cc)
+    → b ≡ true → jds ≡ cond b (seen ids k) ids → Sets (next_peer ids k) (Some e) es fs → e.session ≡ None
+    → Goes [] es ids q fs jds q
+goes_seen true es fs ids jds q k e h i sets alone = rw i (goes_accepted es fs ids q k e sets alone)
+goes_seen false es fs ids jds q k e h i sets alone = absurd (let bad : false ≡ true = h in cc)
 
 -- a stream of the peer is registered, if there is one more
 pub goes_accepts : (es fs : List (ℕ × Entry)) (ids jds : Ids) (q : List Event) (k : StreamKind) (id : ℕ) (e : Entry)
     → id ≡ next_peer ids k → id < 2 ^ 62 → jds ≡ (if nat_lt (next_peer ids k) (2 ^ 62) then seen ids k else ids)
-    → entry_at fs id ≡ Some e → AreOthers id es fs → Goes [] es ids q fs jds q
-goes_accepts es fs ids jds q k id e at below i here others =
+    → entry_at fs id ≡ Some e → AreOthers id es fs → e.session ≡ None → Goes [] es ids q fs jds q
+goes_accepts es fs ids jds q k id e at below i here others alone =
     let t : nat_lt (next_peer ids k) (2 ^ 62) ≡ true = grind (arith, at, below) in
     goes_seen (nat_lt (next_peer ids k) (2 ^ 62)) es fs ids jds q k e t i
-    (rw (sym at) (sets_by es fs id (Some e) here others))
+    (rw (sym at) (sets_by es fs id (Some e) here others)) alone
 
 goes_took : (b : Bool) (es fs : List (ℕ × Entry)) (ids jds : Ids) (q : List Event) (k : StreamKind) (e : Entry)
-    → b ≡ true → jds ≡ cond b (taken ids k) ids → Sets (next_own ids k) (Some e) es fs → Goes [] es ids q fs jds q
-goes_took true es fs ids jds q k e h i sets = rw i (goes_opened es fs ids q k e sets)
-goes_took false es fs ids jds q k e h i sets = absurd (let bad : false ≡ true = h in cc)
+    → b ≡ true → jds ≡ cond b (taken ids k) ids → Sets (next_own ids k) (Some e) es fs
+    → IsNoted ids (next_own ids k) (Some e) → Goes [] es ids q fs jds q
+goes_took true es fs ids jds q k e h i sets noted = rw i (goes_opened es fs ids q k e sets noted)
+goes_took false es fs ids jds q k e h i sets noted = absurd (let bad : false ≡ true = h in cc)
 
 opens_by : (o : Option Entry) (es fs : List (ℕ × Entry)) (ids jds : Ids) (q : List Event) (k : StreamKind) (id : ℕ)
     → id ≡ next_own ids k → id < 2 ^ 62 → jds ≡ (if nat_lt (next_own ids k) (2 ^ 62) then taken ids k else ids)
-    → entry_at fs id ≡ o → knows_of o ≡ true → AreOthers id es fs → Goes [] es ids q fs jds q
-opens_by None es fs ids jds q k id at below i here known others = absurd (let bad : false ≡ true = known in cc)
-opens_by (Some e) es fs ids jds q k id at below i here known others =
+    → entry_at fs id ≡ o → knows_of o ≡ true → AreOthers id es fs → IsNoted ids id o → Goes [] es ids q fs jds q
+opens_by None es fs ids jds q k id at below i here known others noted = absurd (let bad : false ≡ true = known in cc)
+opens_by (Some e) es fs ids jds q k id at below i here known others noted =
     let t : nat_lt (next_own ids k) (2 ^ 62) ≡ true = grind (arith, at, below) in
     goes_took (nat_lt (next_own ids k) (2 ^ 62)) es fs ids jds q k e t i
-    (rw (sym at) (sets_by es fs id (Some e) here others))
+    (rw (sym at) (sets_by es fs id (Some e) here others)) (subst (λ n. IsNoted ids n (Some e)) at noted)
 
 -- an own stream is opened, of which the program knows
 pub goes_opens : (es fs : List (ℕ × Entry)) (ids jds : Ids) (q : List Event) (k : StreamKind) (id : ℕ)
     → id ≡ next_own ids k → id < 2 ^ 62 → jds ≡ (if nat_lt (next_own ids k) (2 ^ 62) then taken ids k else ids)
-    → knows_of (entry_at fs id) ≡ true → AreOthers id es fs → Goes [] es ids q fs jds q
-goes_opens es fs ids jds q k id at below i known others =
-    opens_by (entry_at fs id) es fs ids jds q k id at below i refl known others
+    → knows_of (entry_at fs id) ≡ true → AreOthers id es fs → IsNoted ids id (entry_at fs id)
+    → Goes [] es ids q fs jds q
+goes_opens es fs ids jds q k id at below i known others noted =
+    opens_by (entry_at fs id) es fs ids jds q k id at below i refl known others noted
 
 undone_by : (b : Bool) (o p : Option Entry) (a : Bool) → (b ≡ true → ((p ≡ o) ⊎ (p ≡ None)) × (is_some o ≡ true → a ≡ true) × (a ≡ false))
     → (b ≡ false → p ≡ o) → Stays (status_by o a) (status_by p a)
@@ -301,6 +350,17 @@ undone_had true o p a h g had have = had_at o p a (h refl) had have
     had_at o p a (inl same) had have = had (rw same at have)
     had_at o p a (inr none) had have = absurd (let bad : false ≡ true = (rw none at have) in cc)
 
+undone_linked : (b : Bool) (es : List (ℕ × Entry)) (ids : Ids) (k s : ℕ) (p : Option Entry)
+    → (b ≡ true → (p ≡ entry_at es k) ⊎ (p ≡ None)) → (b ≡ false → p ≡ entry_at es k) → Sound es ids
+    → session_in p ≡ Some s → is_member ids s k ≡ true
+undone_linked false es ids k s p h g sound have =
+    sound.linked k s (subst (λ o. session_in o ≡ Some s) (g refl) have)
+undone_linked true es ids k s p h g sound have = linked_at (h refl)
+  where
+    linked_at : (p ≡ entry_at es k) ⊎ (p ≡ None) → is_member ids s k ≡ true
+    linked_at (inl same) = sound.linked k s (subst (λ o. session_in o ≡ Some s) same have)
+    linked_at (inr none) = absurd (let bad : None ≡ Some s = subst (λ o. session_in o ≡ Some s) none have in cc)
+
 undone_here : (es fs : List (ℕ × Entry)) (id k : ℕ) → is_at (nat_cmp id) k ≡ true → IsUndone id es fs
     → (entry_at fs k ≡ entry_at es k) ⊎ (entry_at fs k ≡ None)
 undone_here es fs id k at u = rw (same_at id k at) u.1
@@ -313,6 +373,8 @@ goes_undone es fs ids q kd id at u = by_none es fs ids ids q (λ k w. w)
       ids_are = s.ids_are;
       were = λ k have. undone_had (is_at (nat_cmp id) k) (entry_at es k) (entry_at fs k) (was ids k)
           (λ t. undone_here es fs id k t u) (u.0 k) (s.were k) have;
+      linked = λ k session h. undone_linked (is_at (nat_cmp id) k) es ids k session (entry_at fs k)
+          (λ t. undone_here es fs id k t u) (u.0 k) s h;
     })
     (λ s k. undone_by (is_at (nat_cmp id) k) (entry_at es k) (entry_at fs k) (was ids k)
     (λ t. (undone_here es fs id k t u, s.were k, rw (same_at id k t, at) (own_was ids kd s.ids_are))) (u.0 k))
@@ -324,11 +386,11 @@ undone_is false id k es fs t u = inl (u.0 k t)
 
 own_undone : (x y : Option Entry) → (y ≡ x) ⊎ (y ≡ None) → IsUntouched (own_in x) (own_in y)
 own_undone x y (inl h) = inl (ap own_in h)
-own_undone x y (inr h) = inr (ap own_in h)
+own_undone x y (inr h) = inr (inl (ap own_in h))
 
 left_undone : (x y : Option Entry) → (y ≡ x) ⊎ (y ≡ None) → IsLeft (theirs_in x) (theirs_in y)
 left_undone x y (inl h) = inl (ap theirs_in h)
-left_undone x y (inr h) = inr (ap theirs_in h)
+left_undone x y (inr h) = inr (inl (ap theirs_in h))
 
 halves_none : (x y : Option Entry) → x ≡ None → Holds (halves_in x) (halves_in y)
 halves_none x y h = subst (λ o. Holds (halves_in o) (halves_in y)) (sym h) tt
@@ -387,7 +449,7 @@ are_blocked ids kind.Unidirectional b s = record {
 -- QUIC opens no stream of a kind, or does again
 pub goes_blocked : (es : List (ℕ × Entry)) (ids : Ids) (q : List Event) (k : StreamKind) (b : Bool)
     → Goes [] es ids q es (blocked ids k b) q
-goes_blocked es ids q k b = ids_grow es ids (blocked ids k b) q (are_blocked ids k b)
+goes_blocked es ids q k b = ids_grow es ids (blocked ids k b) q (blocked_members ids k b) (are_blocked ids k b)
     (λ id h. was_blocked ids k b id ∙ h)
 
 was_open : (ids : Ids) (k : StreamKind) (id : ℕ) → was (opened ids k) id ≡ was ids id
@@ -411,7 +473,8 @@ are_open ids kind.Unidirectional s = record {
 -- QUIC has opened a stream, if one was to be opened
 pub goes_unopened : (b : Bool) (es : List (ℕ × Entry)) (ids : Ids) (q : List Event) (k : StreamKind)
     → Goes [] es ids q es (cond b (opened ids k) ids) q
-goes_unopened true es ids q k = ids_grow es ids (opened ids k) q (are_open ids k) (λ id h. was_open ids k id ∙ h)
+goes_unopened true es ids q k = ids_grow es ids (opened ids k) q (open_members ids k) (are_open ids k)
+    (λ id h. was_open ids k id ∙ h)
 goes_unopened false es ids q k = goes_refl es ids q
 
 -- the entries of other streams are what they were

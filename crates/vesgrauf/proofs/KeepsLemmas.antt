@@ -11,20 +11,24 @@ use Rattle.vesgrauf.specs.declared.connection.ids.Ids.{Ids}
 use Rattle.vesgrauf.specs.declared.entry.Entry.{Entry}
 use Rattle.vesgrauf.specs.declared.event.Event.{Event}
 use Rattle.vesgrauf.specs.State.{knows_of}
-use Rattle.vesgrauf.specs.Own.{Own, Over, EndsOwn, own_in, own_at, entry_at, IsUntouched, Untouched}
+use Rattle.vesgrauf.specs.Own.{Own, Over, Sends, Open, EndsOwn, own_of, own_in, own_at, entry_at, IsClosed, IsUntouched, Untouched}
 use Rattle.vesgrauf.specs.Theirs.{Gone, theirs_in, theirs_at, IsLeft, Left}
 use Rattle.vesgrauf.specs.declared.event.EventKind.{EventKind}
 use Rattle.vesgrauf.specs.declared.event.EventKind.TheVariants as event
-use Rattle.vesgrauf.specs.Told.{Sets, Says, Fails, Closes, word_of, ends, status_in, ended_by, ended_at, Goes, Sound}
-use Rattle.vesgrauf.specs.Halves.{Halves, Ending, OfOwn, OfPeer, OfBoth, reads_in, halves_in, halves_at, ending_queued, ending_told, after_if, after_queued, Holds, but_for, Lasts}
+use Rattle.vesgrauf.specs.Told.{Sets, Says, Fails, Closes, word_of, ends, ended_by, ended_at, Goes, Sound}
+use Rattle.vesgrauf.specs.Halves.{Halves, is_sending, halves_if, Ending, OfOwn, OfPeer, OfBoth, reads_by, reads_in, halves_in, halves_at, ending_queued, ending_told, after_if, after_queued, Holds, but_for, Lasts}
 use Rattle.vesgrauf.specs.Streams.{is_known, becomes_known}
 use Rattle.vesgrauf.specs.declared.entry.Told.TheVariants as told
 use Rattle.vesgrauf.specs.Keeps.{KeepsAll, Kept}
-use Rattle.vesgrauf.proofs.OwnLemmas.{untouched_refl, untouched_trans, untouched_set}
-use Rattle.vesgrauf.proofs.TheirsLemmas.{left_set}
+use Rattle.vesgrauf.specs.Members.{session_in}
+use Rattle.vesgrauf_stream.specs.Writing.{Ends, is_connect}
+use Rattle.vesgrauf_stream.specs.Moves.{Moves}
+use Rattle.vesgrauf_stream.specs.Reading.{IsStill}
+use Rattle.vesgrauf.proofs.OwnLemmas.{untouched_refl, untouched_trans, untouched_set, own_closed}
+use Rattle.vesgrauf.proofs.TheirsLemmas.{left_set, left_turned}
 use Rattle.vesgrauf.proofs.StepLemmas.{left_trans}
 use Rattle.vesgrauf.proofs.TellsLemmas.{gone_left}
-use Rattle.vesgrauf.proofs.GoesLemmas.{goes_refl, goes_then, goes_after, goes_set, goes_known, goes_queued, goes_tells, goes_removed, goes_over, goes_closed, goes_last, set_sets}
+use Rattle.vesgrauf.proofs.GoesLemmas.{standing_of, standing_in, status_of_standing, goes_refl, goes_then, goes_after, goes_set, goes_known, goes_queued, goes_tells, goes_removed, goes_over, goes_closed, goes_last, set_sets}
 use Rattle.vesgrauf.proofs.GoesSteps.{goes_told_first, goes_dropped}
 use Rattle.vesgrauf.proofs.LastsLemmas.{Adds, adds_none, adds_queued, adds_told, adds_first, adds_dropped, IsLasting, holds_closed, holds_by_word, holds_unknown, holds_stopped, holds_ended, reads_gone, lasts_refl, lasts_trans, lasts_after, lasts_adds, lasts_sets, lasts_set, lasts_but_set, lasts_weak, lasts_unknown, lasts_known, lasts_queued_set, lasts_told_set}
 
@@ -66,23 +70,23 @@ keeps_after but said es fs gs ids jds kds q r s a b c x y z (Kept o l g e m h) (
     Kept (untouched_trans o p) (left_trans l k) (goes_after said es fs gs ids jds kds q r s g i) (f ∙ e) (λ t. n (m t))
     (λ t v. lasts_after but said es fs gs q r s (h (was_not (is_some y) (is_some z) n t) v) (j t (g.sound v)))
 
--- one stream changes, of which the program knows what it knew, and whose halves go on
+-- one stream changes, of which the program knows what it knew, of the same session, and whose halves go on
 pub keeps_set : (but : Option ℕ) (es : List (ℕ × Entry)) (ids : Ids) (q : List Event) (a : Config) (x : Option Ended)
     (id : ℕ) (f : Entry)
     → IsUntouched (own_at es id) (own_in (Some f)) → IsLeft (theirs_at es id) (theirs_in (Some f))
-    → status_in (entry_at es id) ≡ Some f.told → IsLasting (entry_at es id) (Some f)
+    → standing_in (entry_at es id) ≡ Some (standing_of f) → IsLasting (entry_at es id) (Some f)
     → KeepsAll but [] es ids q a x (set_value (is_at (nat_cmp id)) es f) ids q a x
 keeps_set but es ids q a x id f o l t h = Kept (untouched_set es id f o) (left_set es id f l) (goes_set es ids q id f t) refl
-    (λ n. n) (λ n s. lasts_set but es q id f t h)
+    (λ n. n) (λ n s. lasts_set but es q id f (status_of_standing (entry_at es id) f t) h)
 
 -- one becomes known
 pub keeps_known : (but : Option ℕ) (es : List (ℕ × Entry)) (ids : Ids) (q : List Event) (a : Config) (x : Option Ended)
-    (id : ℕ) (e f : Entry) → entry_at es id ≡ Some e → f.told ≡ becomes_known e.told
+    (id : ℕ) (e f : Entry) → entry_at es id ≡ Some e → f.told ≡ becomes_known e.told → f.session ≡ e.session
     → own_in (Some f) ≡ own_in (Some e) → theirs_in (Some f) ≡ theirs_in (Some e) → reads_in (Some f) ≡ reads_in (Some e)
     → KeepsAll but [] es ids q a x (set_value (is_at (nat_cmp id)) es f) ids q a x
-keeps_known but es ids q a x id e f h t o l r = Kept
+keeps_known but es ids q a x id e f h t same o l r = Kept
     (untouched_set es id f (inl (o ∙ sym (ap own_in h)))) (left_set es id f (inl (l ∙ sym (ap theirs_in h))))
-    (goes_known es ids q id e f h t) refl (λ n. n) (λ n s. lasts_known but es q id e f h t o r)
+    (goes_known es ids q id e f h t (λ s n. inl (sym same ∙ n))) refl (λ n. n) (λ n s. lasts_known but es q id e f h t o r)
 
 -- an event of the queue is told
 pub keeps_told_first : (es : List (ℕ × Entry)) (ids : Ids) (ev said : Event) (q r : List Event) (a : Config)
@@ -170,7 +174,8 @@ keeps_over_own {but} {said} {es} {fs} id h k = own_over (own_at es id) (own_at f
   where
     own_over : (x y : Own) → x ≡ Over → IsUntouched x y → y ≡ Over
     own_over x y h (inl p) = p ∙ h
-    own_over x y h (inr p) = p
+    own_over x y h (inr (inl p)) = p
+    own_over x y h (inr (inr p)) = absurd (subst (λ o. IsClosed o y) h p)
 
 pub keeps_ends : (ds : List (ℕ × Entry)) {but : Option ℕ} {said : List Event} {es fs : List (ℕ × Entry)} {ids jds : Ids}
     {q r : List Event} {a b : Config} {x y : Option Ended} (id : ℕ) → EndsOwn id ds es
@@ -196,10 +201,10 @@ ends_not other w h n = absurd (let bad : None ≡ Some w = h in cc)
 -- a stream changes of whose halves nothing is said
 pub keeps_but_set : (es : List (ℕ × Entry)) (ids : Ids) (q : List Event) (a : Config) (x : Option Ended) (id : ℕ) (f : Entry)
     → IsUntouched (own_at es id) (own_in (Some f)) → IsLeft (theirs_at es id) (theirs_in (Some f))
-    → status_in (entry_at es id) ≡ Some f.told
+    → standing_in (entry_at es id) ≡ Some (standing_of f)
     → KeepsAll (Some id) [] es ids q a x (set_value (is_at (nat_cmp id)) es f) ids q a x
 keeps_but_set es ids q a x id f o l t = Kept (untouched_set es id f o) (left_set es id f l) (goes_set es ids q id f t) refl
-    (λ n. n) (λ n s. lasts_but_set es q id f t)
+    (λ n. n) (λ n s. lasts_but_set es q id f (status_of_standing (entry_at es id) f t))
 
 -- what is kept of all streams is of all but one
 pub keeps_weak : (id : ℕ) {es fs : List (ℕ × Entry)} {ids jds : Ids} {q r : List Event} {a b : Config} {x y : Option Ended}
@@ -224,23 +229,23 @@ keeps_unknown id {es} {fs} {ids} {jds} {q} {r} u (Kept o l g e n h) =
 -- that the own half is stopped is queued, and it ends
 stopped_at : (es : List (ℕ × Entry)) (ids : Ids) (q : List Event) (a : Config) (x : Option Ended) (ev : Event)
     (e f : Entry) → entry_at es ev.stream ≡ Some e → is_known e.told ≡ true → ending_queued ev.kind ≡ Some OfOwn
-    → f.told ≡ e.told → own_in (Some f) ≡ Over → theirs_in (Some f) ≡ theirs_in (Some e)
+    → standing_of f ≡ standing_of e → own_in (Some f) ≡ Over → theirs_in (Some f) ≡ theirs_in (Some e)
     → reads_in (Some f) ≡ reads_in (Some e)
     → KeepsAll None [] es ids q a x (set_value (is_at (nat_cmp ev.stream)) es f) ids (q ++ (ev ∷ [])) a x
 stopped_at es ids q a x ev e f there known word t o l r = Kept
-    (untouched_set es ev.stream f (inr o)) (left_set es ev.stream f (inl (l ∙ sym (ap theirs_in there))))
+    (untouched_set es ev.stream f (inr (inl o))) (left_set es ev.stream f (inl (l ∙ sym (ap theirs_in there))))
     (goes_then [] [] es es (set_value (is_at (nat_cmp ev.stream)) es f) ids ids ids q (q ++ (ev ∷ [])) (q ++ (ev ∷ []))
     (goes_queued es ids q ev (ap knows_of there ∙ known) (ends_not ev.kind OfOwn word (λ h. let bad : OfOwn ≡ OfBoth = h in cc)))
-    (goes_set es ids (q ++ (ev ∷ [])) ev.stream f (ap status_in there ∙ ap Some (sym t))))
+    (goes_set es ids (q ++ (ev ∷ [])) ev.stream f (ap standing_in there ∙ ap Some (sym t))))
     refl (λ n. n)
     (λ n s. lasts_queued_set es q ev e f there
     (holds_by_word (ending_queued ev.kind) (Some OfOwn) (halves_in (Some e)) (halves_in (Some f)) word
-    (holds_stopped e f t r)))
+    (holds_stopped e f (ap (λ p. p.told) t) r)))
 
 pub keeps_stopped : (es fs : List (ℕ × Entry)) (ids : Ids) (q r : List Event) (a : Config) (x : Option Ended) (id : ℕ)
     (ev : Event) (e f : Entry) → r ≡ q ++ (ev ∷ []) → ev.stream ≡ id → fs ≡ set_value (is_at (nat_cmp id)) es f
     → entry_at es id ≡ Some e → is_known e.told ≡ true → ending_queued ev.kind ≡ Some OfOwn
-    → f.told ≡ e.told → own_in (Some f) ≡ Over → theirs_in (Some f) ≡ theirs_in (Some e)
+    → standing_of f ≡ standing_of e → own_in (Some f) ≡ Over → theirs_in (Some f) ≡ theirs_in (Some e)
     → reads_in (Some f) ≡ reads_in (Some e) → KeepsAll None [] es ids q a x fs ids r a x
 keeps_stopped es fs ids q r a x id ev e f queued at set there known word t o l n =
     subst (λ z. KeepsAll None [] es ids q a x fs ids z a x) (sym queued)
@@ -251,22 +256,22 @@ keeps_stopped es fs ids q r a x id ev e f queued at set there known word t o l n
 -- that the peer's half is reset is queued, and it is read no further
 reset_at : (es : List (ℕ × Entry)) (ids : Ids) (q : List Event) (a : Config) (x : Option Ended) (ev : Event)
     (e f : Entry) → entry_at es ev.stream ≡ Some e → is_known e.told ≡ true → ending_queued ev.kind ≡ Some OfPeer
-    → f.told ≡ e.told → own_in (Some f) ≡ own_in (Some e) → theirs_in (Some f) ≡ Gone
+    → standing_of f ≡ standing_of e → own_in (Some f) ≡ own_in (Some e) → theirs_in (Some f) ≡ Gone
     → KeepsAll None [] es ids q a x (set_value (is_at (nat_cmp ev.stream)) es f) ids (q ++ (ev ∷ [])) a x
 reset_at es ids q a x ev e f there known word t o l = Kept
-    (untouched_set es ev.stream f (inl (o ∙ sym (ap own_in there)))) (left_set es ev.stream f (inr l))
+    (untouched_set es ev.stream f (inl (o ∙ sym (ap own_in there)))) (left_set es ev.stream f (inr (inl l)))
     (goes_then [] [] es es (set_value (is_at (nat_cmp ev.stream)) es f) ids ids ids q (q ++ (ev ∷ [])) (q ++ (ev ∷ []))
     (goes_queued es ids q ev (ap knows_of there ∙ known) (ends_not ev.kind OfPeer word (λ h. let bad : OfPeer ≡ OfBoth = h in cc)))
-    (goes_set es ids (q ++ (ev ∷ [])) ev.stream f (ap status_in there ∙ ap Some (sym t))))
+    (goes_set es ids (q ++ (ev ∷ [])) ev.stream f (ap standing_in there ∙ ap Some (sym t))))
     refl (λ n. n)
     (λ n s. lasts_queued_set es q ev e f there
     (holds_by_word (ending_queued ev.kind) (Some OfPeer) (halves_in (Some e)) (halves_in (Some f)) word
-    (holds_ended e f t o)))
+    (holds_ended e f (ap (λ p. p.told) t) o)))
 
 pub keeps_reset : (es fs : List (ℕ × Entry)) (ids : Ids) (q r : List Event) (a : Config) (x : Option Ended) (id : ℕ)
     (ev : Event) (e f : Entry) → r ≡ q ++ (ev ∷ []) → ev.stream ≡ id → fs ≡ set_value (is_at (nat_cmp id)) es f
     → entry_at es id ≡ Some e → is_known e.told ≡ true → ending_queued ev.kind ≡ Some OfPeer
-    → f.told ≡ e.told → own_in (Some f) ≡ own_in (Some e) → theirs_in (Some f) ≡ Gone
+    → standing_of f ≡ standing_of e → own_in (Some f) ≡ own_in (Some e) → theirs_in (Some f) ≡ Gone
     → KeepsAll None [] es ids q a x fs ids r a x
 keeps_reset es fs ids q r a x id ev e f queued at set there known word t o l =
     subst (λ z. KeepsAll None [] es ids q a x fs ids z a x) (sym queued)
@@ -277,36 +282,75 @@ keeps_reset es fs ids q r a x id ev e f queued at set there known word t o l =
 -- the end of the peer's half is told, and it is read no further
 end_at : (es : List (ℕ × Entry)) (ids : Ids) (q : List Event) (a : Config) (x : Option Ended) (ev : Event)
     (e f : Entry) → entry_at es ev.stream ≡ Some e → is_known e.told ≡ true → ev.kind ≡ event.End
-    → f.told ≡ e.told → own_in (Some f) ≡ own_in (Some e) → theirs_in (Some f) ≡ Gone
+    → standing_of f ≡ standing_of e → own_in (Some f) ≡ own_in (Some e) → theirs_in (Some f) ≡ Gone
     → KeepsAll None (ev ∷ []) es ids q a x (set_value (is_at (nat_cmp ev.stream)) es f) ids q a x
 end_at es ids q a x ev e f there known kind t o l = Kept
-    (untouched_set es ev.stream f (inl (o ∙ sym (ap own_in there)))) (left_set es ev.stream f (inr l))
+    (untouched_set es ev.stream f (inl (o ∙ sym (ap own_in there)))) (left_set es ev.stream f (inr (inl l)))
     (goes_after (ev ∷ []) es es (set_value (is_at (nat_cmp ev.stream)) es f) ids ids ids q q q
     (goes_tells es ids q ev (ap knows_of there ∙ known) (ap (λ k. ends (word_of k)) kind))
-    (goes_set es ids q ev.stream f (ap status_in there ∙ ap Some (sym t))))
+    (goes_set es ids q ev.stream f (ap standing_in there ∙ ap Some (sym t))))
     refl (λ n. n)
     (λ n s. lasts_told_set es q ev e f there
     (holds_by_word (ending_told ev.kind) (Some OfPeer) (halves_in (Some e)) (halves_in (Some f))
-    (ap (λ k. ending_told k) kind) (holds_ended e f t o)))
+    (ap (λ k. ending_told k) kind) (holds_ended e f (ap (λ p. p.told) t) o)))
 
 pub keeps_end : (es fs : List (ℕ × Entry)) (ids : Ids) (q : List Event) (a : Config) (x : Option Ended) (id : ℕ)
     (ev : Event) (e f : Entry) → ev.stream ≡ id → fs ≡ set_value (is_at (nat_cmp id)) es f
     → entry_at es id ≡ Some e → is_known e.told ≡ true → ev.kind ≡ event.End
-    → f.told ≡ e.told → own_in (Some f) ≡ own_in (Some e) → theirs_in (Some f) ≡ Gone
+    → standing_of f ≡ standing_of e → own_in (Some f) ≡ own_in (Some e) → theirs_in (Some f) ≡ Gone
     → KeepsAll None (ev ∷ []) es ids q a x fs ids q a x
 keeps_end es fs ids q a x id ev e f at set there known kind t o l =
     subst (λ z. KeepsAll None (ev ∷ []) es ids q a x z ids q a x)
     (ap (λ m. set_value (is_at (nat_cmp m)) es f) at ∙ sym set)
     (end_at es ids q a x ev e f (ap (λ m. entry_at es m) at ∙ there) known kind t o l)
 
+-- the connection ends the own half of a CONNECT
+closed_sends : (x y : Own) → IsClosed x y → is_sending y ≡ true
+closed_sends (Sends put waits (Open true)) y c = ap is_sending c
+closed_sends x y c = absurd c
+
+holds_ended_own : (k j : Bool) (x y : Own) (r s : Bool) → j ≡ k → IsClosed x y → s ≡ r
+    → Holds (halves_if k x r) (halves_if j y s)
+holds_ended_own true true x y r s h c p = (λ n. closed_sends x y c, λ n. p ∙ n)
+holds_ended_own true false x y r s h c p = absurd (let bad : false ≡ true = h in cc)
+holds_ended_own false j x y r s h c p = tt
+
+pub keeps_finished : (es fs : List (ℕ × Entry)) (ids : Ids) (q : List Event) (a : Config) (x : Option Ended) (id : ℕ)
+    (e f : Entry) → entry_at es id ≡ Some e → fs ≡ set_value (is_at (nat_cmp id)) es f
+    → is_connect e.writing.half ≡ true → Ends e.writing f.writing → standing_of f ≡ standing_of e
+    → theirs_in (Some f) ≡ theirs_in (Some e) → reads_in (Some f) ≡ reads_in (Some e)
+    → KeepsAll None [] es ids q a x fs ids q a x
+keeps_finished es fs ids q a x id e f there set connect ends t l r =
+    let closed : IsClosed (own_of e.writing) (own_of f.writing) = own_closed e.writing f.writing connect ends in
+    rw set (Kept
+    (untouched_set es id f (rw there (inr (inr closed)))) (left_set es id f (inl (l ∙ sym (ap theirs_in there))))
+    (goes_set es ids q id f (ap standing_in there ∙ ap Some (sym t))) refl (λ n. n)
+    (λ n s. lasts_sets None es (set_value (is_at (nat_cmp id)) es f) q id (Some f) (set_sets es id e f there)
+    (rw there (holds_ended_own (is_known e.told) (is_known f.told) (own_in (Some e)) (own_in (Some f))
+    (reads_in (Some e)) (reads_in (Some f)) (ap (λ p. is_known p.told) t) closed r))))
+
+-- a call that reads nothing changes the state of the peer's half
+pub keeps_turned : (es : List (ℕ × Entry)) (ids : Ids) (q : List Event) (a : Config) (x : Option Ended) (id : ℕ) (e f : Entry)
+    → entry_at es id ≡ Some e → Moves e.reading.stream f.reading.stream → IsStill e.reading f.reading
+    → f.peer ≡ e.peer → f.is_decoder ≡ e.is_decoder → standing_of f ≡ standing_of e → own_in (Some f) ≡ own_in (Some e)
+    → KeepsAll None [] es ids q a x (set_value (is_at (nat_cmp id)) es f) ids q a x
+keeps_turned es ids q a x id e f there moves still peer decoder t o = Kept
+    (untouched_set es id f (inl (o ∙ sym (ap own_in there)))) (left_turned es id e f there moves still peer decoder)
+    (goes_set es ids q id f (ap standing_in there ∙ ap Some (sym t))) refl (λ n. n)
+    (λ n s. lasts_set None es q id f
+    (status_of_standing (entry_at es id) f (ap standing_in there ∙ ap Some (sym t))) (inr (
+      o ∙ sym (ap own_in there),
+      ap (λ p. reads_by p f.is_decoder) peer ∙ ap (λ b. reads_by e.peer b) decoder ∙ sym (ap reads_in there),
+    )))
+
 -- a half that is read no further may be dropped
 pub keeps_gone_set : (es : List (ℕ × Entry)) (ids : Ids) (q : List Event) (a : Config) (x : Option Ended) (id : ℕ) (f : Entry)
     → theirs_at es id ≡ Gone → theirs_in (Some f) ≡ Gone → own_in (Some f) ≡ own_at es id
-    → status_in (entry_at es id) ≡ Some f.told
+    → standing_in (entry_at es id) ≡ Some (standing_of f)
     → KeepsAll None [] es ids q a x (set_value (is_at (nat_cmp id)) es f) ids q a x
 keeps_gone_set es ids q a x id f before now o t = Kept
-    (untouched_set es id f (inl o)) (left_set es id f (inr now)) (goes_set es ids q id f t) refl (λ n. n)
-    (λ n s. lasts_set None es q id f t (inr (o, reads_gone (Some f) now ∙ sym (reads_gone (entry_at es id) before))))
+    (untouched_set es id f (inl o)) (left_set es id f (inr (inl now))) (goes_set es ids q id f t) refl (λ n. n)
+    (λ n s. lasts_set None es q id f (status_of_standing (entry_at es id) f t) (inr (o, reads_gone (Some f) now ∙ sym (reads_gone (entry_at es id) before))))
 
 -- ---- for proofs by hand
 
@@ -320,11 +364,11 @@ keeps_then {but} {said} {es} {fs} {gs} {ids} {jds} {kds} {q} {r} {s} {a} {b} {c}
 -- ---- a stream is forgotten
 
 own_gone : (b : Bool) (x : Option Entry) → IsUntouched (own_in x) (own_in (cond b None x))
-own_gone true x = inr refl
+own_gone true x = inr (inl refl)
 own_gone false x = inl refl
 
 left_gone : (b : Bool) (x : Option Entry) → IsLeft (theirs_in x) (theirs_in (cond b None x))
-left_gone true x = inr refl
+left_gone true x = inr (inl refl)
 left_gone false x = inl refl
 
 pub keeps_removed : (es fs : List (ℕ × Entry)) (ids : Ids) (q : List Event) (a : Config) (x : Option Ended) (id : ℕ)
@@ -338,7 +382,7 @@ keeps_removed es fs ids q a x id sets have n = Kept
 
 -- ---- a stream is over
 
-key_same : (id : ℕ) → is_at (nat_cmp id) id ≡ true
+pub key_same : (id : ℕ) → is_at (nat_cmp id) id ≡ true
 key_same id = ap is_eq (sym (nat_cmp_is id id Equal refl))
 
 unknown_by : (o : Option Entry) (es : List (ℕ × Entry)) (id : ℕ) → entry_at es id ≡ o
@@ -358,7 +402,7 @@ over_by None es fs ids q a x id there n h = rw h (keeps_refl None es ids q a x)
 over_by (Some e) es fs ids q a x id there n h =
     let f : Entry = record e { told = told.Over } in
     rw h (Kept (untouched_set es id f (rw there (inl refl))) (left_set es id f (rw there (inl refl)))
-    (goes_over es ids q id e f there n refl) refl (λ g. g)
+    (goes_over es ids q id e f there n refl refl) refl (λ g. g)
     (λ g s. lasts_sets None es (set_value (is_at (nat_cmp id)) es f) q id (Some f) (set_sets es id e f there)
     (holds_unknown (entry_at es id) (halves_in (Some f)) (ap knows_of there ∙ n))))
 
@@ -396,7 +440,7 @@ closed_by None es fs ids q a x ev there n word h = absurd (let bad : false ≡ t
 closed_by (Some e) es fs ids q a x ev there n word h =
     let f : Entry = record e { told = told.Over } in
     rw h (Kept (untouched_set es ev.stream f (rw there (inl refl))) (left_set es ev.stream f (rw there (inl refl)))
-    (goes_closed es ids q ev f (rw there n) word refl) refl (λ g. g)
+    (goes_closed es ids q ev f (rw there n) word refl (ap session_in there)) refl (λ g. g)
     (λ g s. lasts_queued_set es q ev e f there
     (holds_closed (ending_queued ev.kind) (halves_in (Some e)) (halves_in (Some f)) (closed_ends ev.kind word))))
 
@@ -413,7 +457,7 @@ last_by None es fs ids q a x ev there n word none h = absurd (let bad : false �
 last_by (Some e) es fs ids q a x ev there n word none h =
     let f : Entry = record e { told = told.Over } in
     rw h (Kept (untouched_set es ev.stream f (rw there (inl refl))) (left_set es ev.stream f (rw there (inl refl)))
-    (goes_last es ids q ev f (rw there n) word refl none) refl (λ g. g)
+    (goes_last es ids q ev f (rw there n) word refl (ap session_in there) none) refl (λ g. g)
     (λ g s. lasts_told_set es q ev e f there
     (holds_closed (ending_told ev.kind) (halves_in (Some e)) (halves_in (Some f)) (closed_told ev.kind word))))
 

@@ -14,11 +14,11 @@ use Rattle.vesgrauf.specs.declared.event.Event.{Event}
 use Rattle.vesgrauf.specs.State.{IsStill, knows_of}
 use Rattle.vesgrauf.specs.declared.entry.Peer.{Peer}
 use Rattle.vesgrauf.specs.Own.{own_of, own_in, own_at, entry_at, IsUntouched, Untouched, UntouchedOrNew}
-use Rattle.vesgrauf.specs.Told.{status_in, Goes, Sound}
+use Rattle.vesgrauf.specs.Told.{Goes, Sound}
 use Rattle.vesgrauf.specs.Halves.{reads_by, reads_in, Lasts}
 use Rattle.vesgrauf.specs.Keeps.{KeepsAll, Kept, Keeps, KeepsOwnAll, KeptOwn, KeepsOwn}
 use Rattle.vesgrauf.proofs.OwnLemmas.{untouched_refl, untouched_set, new_of, new_trans}
-use Rattle.vesgrauf.proofs.GoesLemmas.{goes_then, goes_after, goes_set, goes_still}
+use Rattle.vesgrauf.proofs.GoesLemmas.{standing_of, standing_in, status_of_standing, goes_then, goes_after, goes_set, goes_still, standing_by}
 use Rattle.vesgrauf.proofs.LastsLemmas.{IsLasting, lasts_refl, lasts_trans, lasts_after, lasts_set, lasts_weak, lasts_unknown}
 use Rattle.vesgrauf.proofs.KeepsLemmas.{keeps_refl, was_not, keeps_left}
 
@@ -60,22 +60,23 @@ holds_after but said es fs gs ids jds kds q r s a b c x y z (KeptOwn o g e m h) 
 -- one stream changes, of which the program knows what it knew, and whose halves go on
 pub holds_set : (but : Option ℕ) (es : List (ℕ × Entry)) (ids : Ids) (q : List Event) (a : Config) (x : Option Ended)
     (id : ℕ) (f : Entry)
-    → IsUntouched (own_at es id) (own_in (Some f)) → status_in (entry_at es id) ≡ Some f.told
+    → IsUntouched (own_at es id) (own_in (Some f)) → standing_in (entry_at es id) ≡ Some (standing_of f)
     → IsLasting (entry_at es id) (Some f)
     → KeepsOwnAll but [] es ids q a x (set_value (is_at (nat_cmp id)) es f) ids q a x
 holds_set but es ids q a x id f o t h = KeptOwn (λ m. new_of ids (untouched_set es id f o)) (goes_set es ids q id f t) refl
-    (λ n. n) (λ m n s. lasts_set but es q id f t h)
+    (λ n. n) (λ m n s. lasts_set but es q id f (status_of_standing (entry_at es id) f t) h)
 
 reads_same : (p r : Peer) (b c : Bool) → r ≡ p → c ≡ b → reads_by r c ≡ reads_by p b
 reads_same p r b c h g = rw (h, g) refl
 
 -- bytes of one stream are read
 pub holds_looked : (but : Option ℕ) (es : List (ℕ × Entry)) (ids : Ids) (q : List Event) (a : Config) (x : Option Ended)
-    (id : ℕ) (e f : Entry) → entry_at es id ≡ Some e → f.told ≡ e.told → f.writing ≡ e.writing → f.peer ≡ e.peer
-    → f.is_decoder ≡ e.is_decoder
+    (id : ℕ) (e f : Entry) → entry_at es id ≡ Some e → f.told ≡ e.told → f.session ≡ e.session → f.writing ≡ e.writing
+    → f.peer ≡ e.peer → f.is_decoder ≡ e.is_decoder
     → KeepsOwnAll but [] es ids q a x (set_value (is_at (nat_cmp id)) es f) ids q a x
-holds_looked but es ids q a x id e f there told own peer decoder = holds_set but es ids q a x id f
-    (inl (ap own_of own ∙ sym (ap own_in there))) (ap status_in there ∙ ap Some (sym told))
+holds_looked but es ids q a x id e f there told session own peer decoder = holds_set but es ids q a x id f
+    (inl (ap own_of own ∙ sym (ap own_in there)))
+    (ap standing_in there ∙ ap Some (sym (standing_by e f told session)))
     (inr (
       ap own_of own ∙ sym (ap own_in there),
       reads_same e.peer f.peer e.is_decoder f.is_decoder peer decoder ∙ sym (ap reads_in there),

@@ -387,7 +387,7 @@ reads_gone (Some e) h = gone_by e.peer e.is_decoder e.reading h
   where
     gone_by : (p : Peer) (b : Bool) (r : Reading) → theirs_by p b r ≡ Gone → reads_by p b ≡ false
     gone_by peer.Reads true r h = refl
-    gone_by peer.Reads false r h = absurd (let bad : Unread (kept_of r) r.ended ≡ Gone = h in cc)
+    gone_by peer.Reads false r h = absurd (let bad : Unread (kept_of r) r.ended r.stream ≡ Gone = h in cc)
     gone_by other b r h = refl
 
 -- ---- a stream comes to be

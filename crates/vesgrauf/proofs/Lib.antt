@@ -1,13 +1,18 @@
 pub mod BoundLemmas
 pub mod CallLemmas
+pub mod CutLemmas
 pub mod GoesLemmas
 pub mod GoesSteps
 pub mod HalvesLemmas
 pub mod IdLemmas
+pub mod InstructionLemmas
 pub mod KeepsLemmas
 pub mod KeepsOwnLemmas
 pub mod LastsLemmas
+pub mod LookLemmas
+pub mod MemberLemmas
 pub mod MessageLemmas
+pub mod NotedLemmas
 pub mod OrderLemmas
 pub mod OwnLemmas
 pub mod PieceLemmas
@@ -18,3 +23,4 @@ pub mod StepLemmas
 pub mod TellsLemmas
 pub mod TheirsLemmas
 pub mod ToldLemmas
+pub mod UnreadLemmas

@@ -31,10 +31,11 @@ use Rattle.vesgrauf.specs.Inputs.{IsSameOrRead}
 use Rattle.vesgrauf.specs.State.{go_on, IsAfterEnd, IsStill}
 use Rattle.vesgrauf.specs.Items.{Item, Byte, content, has_end, items_found}
 use Rattle.vesgrauf.specs.Theirs.{Theirs, theirs_of, theirs_at, IsRead, IsHanded, ReadsOn, Hands, Tells, TellsAll, with_chunk, items_on}
-use Rattle.vesgrauf.proofs.ReadsLemmas.{looked_plain, reads_pass}
+use Rattle.vesgrauf.proofs.ReadsLemmas.{reads_pass}
+use Rattle.vesgrauf.proofs.LookLemmas.{looked_plain}
 use Rattle.vesgrauf.proofs.TellsLemmas.{taken_passes}
 use Rattle.vesgrauf.proofs.StepLemmas.{all_same}
-use Rattle.vesgrauf.proofs.GoesLemmas.{goes_after, goes_set, goes_tells}
+use Rattle.vesgrauf.proofs.GoesLemmas.{standing_of, standing_by, standing_in, goes_after, goes_set, goes_tells}
 use Rattle.vesgrauf.proofs.OwnLemmas.{untouched_set, new_of}
 
 -- what is heard of a piece is its bytes
@@ -83,18 +84,20 @@ piece_tells id stream items c d i j l same h g p t n =
 -- an event of its stream is told with it
 pub piece_keeps : (es : List (ℕ × Entry)) (ids : Ids) (q : List Event) (a : Config) (x : Option Ended) (id : ℕ)
     (e f : Entry) (ev : Event)
-    → entry_at es id ≡ Some e → is_known e.told ≡ true → f.told ≡ e.told → f.writing ≡ e.writing
+    → entry_at es id ≡ Some e → is_known e.told ≡ true → f.told ≡ e.told → f.session ≡ e.session → f.writing ≡ e.writing
     → reads_in (Some f) ≡ reads_in (Some e) → ev.stream ≡ id → ends (word_of ev.kind) ≡ false
     → KeepsOwnAll None (ev ∷ []) es ids q a x (set_value (is_at (nat_cmp id)) es f) ids q a x
-piece_keeps es ids q a x id e f ev there known same own reads at n = KeptOwn
+piece_keeps es ids q a x id e f ev there known told session own reads at n =
+    let same : standing_of f ≡ standing_of e = standing_by e f told session in
+    KeptOwn
     (λ m. new_of ids (untouched_set es id f (rw (there, own) (inl refl))))
     (goes_after (ev ∷ []) es es (set_value (is_at (nat_cmp id)) es f) ids ids ids q q q
     (goes_tells es ids q ev (rw (at, there) known) n)
-    (goes_set es ids q id f (rw (there, same) refl)))
+    (goes_set es ids q id f (ap standing_in there ∙ ap Some (sym same))))
     refl (λ h. h)
     (λ m h s. lasts_after None (ev ∷ []) es es (set_value (is_at (nat_cmp id)) es f) q q q
     (lasts_adds None es (adds_told q q ev refl))
-    (lasts_set None es q id f (rw (there, same) refl) (inr (rw (there, own) refl, rw there reads))))
+    (lasts_set None es q id f (rw (there, ap (λ p. p.told) same) refl) (inr (rw (there, own) refl, rw there reads))))
 
 -- there is no piece, and then this is told
 pub no_piece_all : (said : ℕ → List Item) (c d : Connection) {e : List (ℕ × Entry)} {i j l : Input} → IsStill c d → j ≡ i

@@ -1,6 +1,5 @@
 -- What is read of the peer's halves of streams, one call after the other.
-use Rattle.std.proofs.Common.{◌≡◌, ◌++◌, ◌||◌, ◌<◌, ◌≤◌, ◌&&◌, ℕ, List, [], ◌∷◌, Some, Bool, true, false, cond, refl, arith, inl, inr, sym, ap, ◌∙◌, drop, take, length, append_assoc, append-nil, length-append, length-take, subst, le_trans, Ordering, Less, Equal, Greater}
-use Rattle.std.specs.Prelude.{◌==◌, min}
+use Rattle.std.proofs.Common.{◌≡◌, ◌++◌, ◌||◌, ◌<◌, ◌≤◌, ℕ, List, [], ◌∷◌, Some, Bool, true, false, cond, refl, arith, inl, inr, sym, ap, ◌∙◌, drop, length, append_assoc, append-nil, length-append, subst, le_trans, Ordering, Less, Equal, Greater}
 use Rattle.std.specs.Ordering.{nat_cmp, is_eq, MatchOrdering}
 use Rattle.std.specs.Cmp.{nat_cmp_is}
 use Rattle.std.specs.Map.{lookup, set_value}
@@ -8,32 +7,34 @@ use Rattle.std.specs.BTreeMap.{is_at}
 use Rattle.std.proofs.lemmas.Cmp.{ranked, nat_cmp_total, eq_by_cmp_equiv}
 use Rattle.std.proofs.lemmas.Map.{lookup-set_value}
 use Rattle.std.proofs.lemmas.List.{take-append-le, drop-append-le}
-use Rattle.wtp_webtransport.specs.declared.connection.Connection.{Connection as Shared}
-use Rattle.wtp_webtransport.specs.Events.{Told as Say}
-use Rattle.wtp_webtransport.specs.Events as say
 use Rattle.wtp_webtransport.specs.Tables.{Call}
-use Rattle.wtp_webtransport.proofs.PlaceLemmas.{called_within}
-use Rattle.vesgrauf_stream.specs.Reading.{Hears, Keeps, Says, without_payload, kept_of, unread, is_ended}
+use Rattle.wtp_webtransport.specs.declared.stream.Stream.{Stream}
 use Rattle.vesgrauf_stream.specs.declared.bytes.Chunk.{Chunk}
-use Rattle.vesgrauf_stream.specs.declared.reading.Reading.{Reading}
-use Rattle.vesgrauf_stream.specs.declared.reading.Found.{Found}
-use Rattle.vesgrauf_stream.specs.declared.reading.Found.TheVariants as found
 use Rattle.vesgrauf.specs.declared.entry.Entry.{Entry}
-use Rattle.vesgrauf.specs.declared.entry.Peer.{Peer}
-use Rattle.vesgrauf.specs.declared.entry.Peer.TheVariants as peer
 use Rattle.vesgrauf.specs.declared.input.Input.{Input}
 use Rattle.vesgrauf.specs.declared.input.Report.{Report}
 use Rattle.vesgrauf.specs.declared.input.Report.TheVariants as report
-use Rattle.vesgrauf.specs.Items.{Item, has_end, items_of, items_found}
-use Rattle.vesgrauf.specs.Theirs.{Theirs, Gone, Unread, theirs_by, theirs_of, theirs_in, theirs_at, IsLeft, Left, Piece, IsCall, AreCalls, all_items, AreRead, IsReadTo, IsRead, IsTold, Same, ReadsOn, ReadsKept, Hands, Passes, IsHanded, TellsKept, Tells, unread_at, with_input, with_chunk, items_on, is_of}
+use Rattle.vesgrauf.specs.Items.{Item, has_end, items_of}
+use Rattle.vesgrauf.specs.Theirs.{Theirs, Gone, Unread, theirs_at, IsLeft, Left, Piece, IsCall, AreCalls, all_items, AreRead, IsReadTo, IsRead, IsTold, Turns, Still, Then, IsTurned, Same, ReadsOn, ReadsKept, Hands, Passes, IsHanded, TellsKept, Tells, unread_at, with_input, with_chunk, items_on, is_of}
 
 -- ---- calls one after the other
 
-pub calls_join : (ps qs : List Piece) (bytes mid rest : List ℕ) (ended : Bool)
-    → AreCalls ps bytes ended mid → AreCalls qs mid ended rest → AreCalls (ps ++ qs) bytes ended rest
-calls_join [] qs bytes mid rest ended p q = subst (λ b. AreCalls qs b ended rest) p q
-calls_join (x ∷ ps) qs bytes mid rest ended p q =
-    (p.0, calls_join ps qs (drop x.consumed bytes) mid rest ended p.1 q)
+pub turns_trans : (s t u : Stream) → Turns s t → Turns t u → Turns s u
+turns_trans s t u (Still h) q = subst (λ o. Turns o u) h q
+turns_trans s t u (Then m a b) q = Then m a (turns_trans m t u b q)
+
+-- calls that follow others which read nothing
+pub calls_turned : (qs : List Piece) (bytes rest : List ℕ) (ended : Bool) (s t u : Stream) → Turns s t
+    → AreCalls qs bytes ended t rest u → AreCalls qs bytes ended s rest u
+calls_turned [] bytes rest ended s t u h q = (q.0, turns_trans s t u h q.1)
+calls_turned (x ∷ qs) bytes rest ended s t u h q = (q.0, q.1, turns_trans s t q.0 h q.2, q.3, q.4)
+
+pub calls_join : (ps qs : List Piece) (bytes mid rest : List ℕ) (ended : Bool) (s t u : Stream)
+    → AreCalls ps bytes ended s mid t → AreCalls qs mid ended t rest u → AreCalls (ps ++ qs) bytes ended s rest u
+calls_join [] qs bytes mid rest ended s t u p q =
+    calls_turned qs bytes rest ended s t u p.1 (subst (λ b. AreCalls qs b ended t rest u) p.0 q)
+calls_join (x ∷ ps) qs bytes mid rest ended s t u p q =
+    (p.0, p.1, p.2, p.3, calls_join ps qs (drop x.consumed bytes) mid rest ended p.1 t u p.4 q)
 
 pub items_join : (ps qs : List Piece) → all_items (ps ++ qs) ≡ all_items ps ++ all_items qs
 items_join [] qs = refl
@@ -78,10 +79,19 @@ set_there es id k e f h t =
 pub left_refl : (x : Theirs) → IsLeft x x
 left_refl x = inl refl
 
+turned_steps : (x y z : Theirs) → IsTurned x y → IsTurned y z → IsTurned x z
+turned_steps Gone y z p q = absurd p
+turned_steps (Unread bytes ended s) y z p q =
+    let r : IsTurned (Unread bytes ended p.0) z = subst (λ o. IsTurned o z) p.2 q in
+    (r.0, turns_trans s p.0 r.0 p.1 r.1, r.2)
+
 pub left_steps : (x y z : Theirs) → IsLeft x y → IsLeft y z → IsLeft x z
-left_steps x y z p (inr q) = inr q
-left_steps x y z (inl p) (inl q) = inl (q ∙ p)
-left_steps x y z (inr p) (inl q) = inr (q ∙ p)
+left_steps x y z p (inr (inl q)) = inr (inl q)
+left_steps x y z (inl p) q = subst (λ o. IsLeft o z) p q
+left_steps x y z (inr (inl p)) (inl q) = inr (inl (q ∙ p))
+left_steps x y z (inr (inl p)) (inr (inr q)) = absurd (subst (λ o. IsTurned o z) p q)
+left_steps x y z (inr (inr p)) (inl q) = inr (inr (subst (λ o. IsTurned x o) (sym q) p))
+left_steps x y z (inr (inr p)) (inr (inr q)) = inr (inr (turned_steps x y z p q))
 
 -- nothing is read of what is left
 pub read_left : (x y : Theirs) → IsLeft x y → IsRead x [] y
@@ -91,16 +101,20 @@ join_reads : (x y z : Theirs) (a b : List Item) → AreRead x a y → AreRead y 
 join_reads x y z a b p q =
     let same : p.rest ≡ q.bytes = cc in
     let fin : q.ended ≡ p.ended = cc in
+    let at : q.before ≡ p.after = cc in
     record {
       bytes = p.bytes;
       rest = q.rest;
       ended = p.ended;
+      before = p.before;
+      after = q.after;
       pieces = p.pieces ++ q.pieces;
       from = p.from;
-      to = q.to ∙ ap (λ e. Unread q.rest e) fin;
-      calls = calls_join p.pieces q.pieces p.bytes p.rest q.rest p.ended p.calls
-          (subst (λ e. AreCalls q.pieces p.rest e q.rest) fin
-          (subst (λ l. AreCalls q.pieces l q.ended q.rest) (sym same) q.calls));
+      to = q.to ∙ ap (λ e. Unread q.rest e q.after) fin;
+      calls = calls_join p.pieces q.pieces p.bytes p.rest q.rest p.ended p.before p.after q.after p.calls
+          (subst (λ u. AreCalls q.pieces p.rest p.ended u q.rest q.after) at
+          (subst (λ e. AreCalls q.pieces p.rest e q.before q.rest q.after) fin
+          (subst (λ l. AreCalls q.pieces l q.ended q.before q.rest q.after) (sym same) q.calls)));
       says = items_join p.pieces q.pieces ∙ cc;
     }
 
@@ -116,7 +130,8 @@ join_to x y z a b (inr p) (inr q) = inr (join_reads x y z a b p q)
 -- what is gone stays so
 pub gone_left_by : (x y : Theirs) → x ≡ Gone → IsLeft x y → y ≡ Gone
 gone_left_by x y h (inl p) = p ∙ h
-gone_left_by x y h (inr p) = p
+gone_left_by x y h (inr (inl p)) = p
+gone_left_by x y h (inr (inr p)) = absurd (subst (λ o. IsTurned o y) h p)
 
 -- and nothing is read of it
 gone_read : (x z : Theirs) (items : List Item) → x ≡ Gone → IsReadTo x items z → (z ≡ Gone) × (items ≡ [])
@@ -128,15 +143,44 @@ gone_is_read x z items h p =
     let g : (p.0 ≡ Gone) × (items ≡ []) = gone_read x p.0 items h p.1 in
     (gone_left_by p.0 z g.0 p.2, g.1)
 
-steps_by : (x u y z : Theirs) (a b : List Item) → IsReadTo x a u → IsLeft u y → IsRead y b z → IsRead x (a ++ b) z
-steps_by x u y z a b p (inl e) q =
-    (q.0, join_to x u q.0 a b p (subst (λ t. IsReadTo t b q.0) e q.1), q.2)
-steps_by x u y z a b p (inr e) q =
-    let g : (z ≡ Gone) × (b ≡ []) = gone_is_read y z b e q in
-    (u, subst (λ l. IsReadTo x (a ++ l) u) (sym g.1) (subst (λ l. IsReadTo x l u) (sym (append-nil a)) p), inr g.0)
+turned_read : (x y z : Theirs) (items : List Item) → IsTurned x y → AreRead y items z → AreRead x items z
+turned_read Gone y z items p r = absurd p
+turned_read (Unread bytes ended s) y z items p r =
+    let whole : Unread bytes ended p.0 ≡ Unread r.bytes r.ended r.before = sym p.2 ∙ r.from in
+    let same : bytes ≡ r.bytes = cc in
+    let fin : ended ≡ r.ended = cc in
+    let at : p.0 ≡ r.before = cc in
+    record {
+      bytes = r.bytes;
+      rest = r.rest;
+      ended = r.ended;
+      before = s;
+      after = r.after;
+      pieces = r.pieces;
+      from = ap (λ l. Unread l ended s) same ∙ ap (λ e. Unread r.bytes e s) fin;
+      to = r.to;
+      calls = calls_turned r.pieces r.bytes r.rest r.ended s r.before r.after (subst (λ o. Turns s o) at p.1) r.calls;
+      says = r.says;
+    }
+
+turned_to : (x y u z : Theirs) (items : List Item) → IsTurned x y → IsReadTo y items u → IsLeft u z → IsRead x items z
+turned_to x y u z items p (inl r) l =
+    (x, inl (refl, r.1), left_steps x u z (inr (inr (subst (λ o. IsTurned x o) (sym r.0) p))) l)
+turned_to x y u z items p (inr r) l = (u, inr (turned_read x y u items p r), l)
+
+-- nothing is read, and then this
+quiet_by : (x y z : Theirs) (said : List Item) → IsLeft x y → IsRead y said z → IsRead x said z
+quiet_by x y z said (inl p) q = subst (λ t. IsRead t said z) p q
+quiet_by x y z said (inr (inl p)) q =
+    let g : (z ≡ Gone) × (said ≡ []) = gone_is_read y z said p q in
+    (x, inl (refl, g.1), inr (inl g.0))
+quiet_by x y z said (inr (inr p)) q = turned_to x y q.0 z said p q.1 q.2
+
+steps_by : (x u z : Theirs) (a b : List Item) → IsReadTo x a u → IsRead u b z → IsRead x (a ++ b) z
+steps_by x u z a b p q = (q.0, join_to x u q.0 a b p q.1, q.2)
 
 pub read_steps : (x y z : Theirs) (a b : List Item) → IsRead x a y → IsRead y b z → IsRead x (a ++ b) z
-read_steps x y z a b p q = steps_by x p.0 y z a b p.1 p.2 q
+read_steps x y z a b p q = steps_by x p.0 z a b p.1 (quiet_by p.0 y z b p.2 q)
 
 pub read_then : (x y z : Theirs) (items : List Item) → IsRead x items y → IsLeft y z → IsRead x items z
 read_then x y z items p q = (p.0, p.1, left_steps p.0 y z p.2 q)
@@ -147,7 +191,7 @@ none_ends (i ∷ items) h e = cc h
 
 pub hand_steps : (x y z : Theirs) (a b : List Item) → IsRead x a y → IsHanded y a b z → IsTold x b z
 hand_steps x y z a b p (inl q) = (subst (λ l. IsRead x l z) (sym q.1) (read_then x y z a p q.0), q.2)
-hand_steps x y z a b p (inr q) = ((x, inl (refl, q.1), inr q.0), λ e. q.0)
+hand_steps x y z a b p (inr q) = ((x, inl (refl, q.1), inr (inl q.0)), λ e. q.0)
 
 -- ---- with an input
 
@@ -158,9 +202,19 @@ gone_by false = refl
 with_gone : (i : Input) (k : ℕ) → with_input i k Gone ≡ Gone
 with_gone i k = gone_by (is_of i.report k)
 
+turned_chunk : (x y : Theirs) (i : Chunk) → IsTurned x y → IsTurned (with_chunk x i) (with_chunk y i)
+turned_chunk Gone y i p = absurd p
+turned_chunk (Unread bytes ended s) y i p = (p.0, p.1, ap (λ t. with_chunk t i) p.2)
+
+turned_by : (b : Bool) (x y : Theirs) (i : Chunk) → IsTurned x y
+    → IsTurned (cond b (with_chunk x i) x) (cond b (with_chunk y i) y)
+turned_by true x y i p = turned_chunk x y i p
+turned_by false x y i p = p
+
 left_with : (i : Input) (k : ℕ) (x y : Theirs) → IsLeft x y → IsLeft (with_input i k x) (with_input i k y)
 left_with i k x y (inl p) = inl (ap (with_input i k) p)
-left_with i k x y (inr p) = inr (ap (with_input i k) p ∙ with_gone i k)
+left_with i k x y (inr (inl p)) = inr (inl (ap (with_input i k) p ∙ with_gone i k))
+left_with i k x y (inr (inr p)) = inr (inr (turned_by (is_of i.report k) x y i.chunk p))
 
 -- nothing is read and the input stays: no byte is read or lost
 pub left_same : (c d : List (ℕ × Entry)) (i : Input) → Left c d → Same c i d i
@@ -225,9 +279,9 @@ reads_pass id items said c d e i j l h g p q = record {
 -- without an input
 pub chunk_none : (x : Theirs) (i : Chunk) → i.bytes.now ≡ [] → i.fin ≡ false → with_chunk x i ≡ x
 chunk_none Gone i h g = refl
-chunk_none (Unread bytes true) i h g = ap (λ l. Unread l true) (ap (λ l. bytes ++ l) h ∙ append-nil bytes)
-chunk_none (Unread bytes false) i h g =
-    ap (λ l. Unread l i.fin) (ap (λ l. bytes ++ l) h ∙ append-nil bytes) ∙ ap (λ b. Unread bytes b) g
+chunk_none (Unread bytes true s) i h g = ap (λ l. Unread l true s) (ap (λ l. bytes ++ l) h ∙ append-nil bytes)
+chunk_none (Unread bytes false s) i h g =
+    ap (λ l. Unread l i.fin s) (ap (λ l. bytes ++ l) h ∙ append-nil bytes) ∙ ap (λ b. Unread bytes b s) g
 
 pub none_left : (l : List ℕ) → length l ≤ 0 → l ≡ []
 none_left [] h = refl
@@ -276,30 +330,31 @@ or_true : (a b : Bool) → a ≡ true → (a || b) ≡ true
 or_true true b h = refl
 or_true false b h = absurd (cc h)
 
-call_more : (bytes more : List ℕ) (ended fin : Bool) (p : Piece) → IsCall bytes ended p
-    → IsCall (bytes ++ more) (ended || fin) p
-call_more bytes more ended fin p h = record {
+call_more : (bytes more : List ℕ) (ended fin : Bool) (p : Piece) (s t : Stream) → IsCall bytes ended p s t
+    → IsCall (bytes ++ more) (ended || fin) p s t
+call_more bytes more ended fin p s t h = record {
   limit = h.limit;
   c = h.c;
   d = h.d;
-  s = h.s;
-  t = h.t;
   fin = h.fin;
   within = omega (arith, h.within, length-append bytes more);
   reads = h.reads;
   ends = λ e. or_true ended fin (h.ends e);
-  gives = subst (λ l. Call h.limit h.c h.s l h.fin (p.consumed, p.say, h.d, h.t))
+  gives = subst (λ l. Call h.limit h.c s l h.fin (p.consumed, p.say, h.d, t))
       (sym (take-append-le p.reach bytes more h.within)) h.gives;
 }
 
-pub calls_more : (ps : List Piece) (bytes more rest : List ℕ) (ended fin : Bool) → AreCalls ps bytes ended rest
-    → AreCalls ps (bytes ++ more) (ended || fin) (rest ++ more)
-calls_more [] bytes more rest ended fin h = ap (λ l. l ++ more) h
-calls_more (p ∷ ps) bytes more rest ended fin h = (
-  call_more bytes more ended fin p h.0,
-  subst (λ l. AreCalls ps l (ended || fin) (rest ++ more))
-      (sym (drop-append-le p.consumed bytes more (le_trans h.0.reads h.0.within)))
-      (calls_more ps (drop p.consumed bytes) more rest ended fin h.1),
+pub calls_more : (ps : List Piece) (bytes more rest : List ℕ) (ended fin : Bool) (s t : Stream)
+    → AreCalls ps bytes ended s rest t → AreCalls ps (bytes ++ more) (ended || fin) s (rest ++ more) t
+calls_more [] bytes more rest ended fin s t h = (ap (λ l. l ++ more) h.0, h.1)
+calls_more (p ∷ ps) bytes more rest ended fin s t h = (
+  h.0,
+  h.1,
+  h.2,
+  call_more bytes more ended fin p h.0 h.1 h.3,
+  subst (λ l. AreCalls ps l (ended || fin) h.1 (rest ++ more) t)
+      (sym (drop-append-le p.consumed bytes more (le_trans h.3.reads h.3.within)))
+      (calls_more ps (drop p.consumed bytes) more rest ended fin h.1 t h.4),
 )
 
 read_more : (x y : Theirs) (items : List Item) (i : Chunk) → AreRead x items y
@@ -308,10 +363,12 @@ read_more x y items i p = record {
   bytes = p.bytes ++ i.bytes.now;
   rest = p.rest ++ i.bytes.now;
   ended = p.ended || i.fin;
+  before = p.before;
+  after = p.after;
   pieces = p.pieces;
   from = ap (λ t. with_chunk t i) p.from;
   to = ap (λ t. with_chunk t i) p.to;
-  calls = calls_more p.pieces p.bytes i.bytes.now p.rest p.ended i.fin p.calls;
+  calls = calls_more p.pieces p.bytes i.bytes.now p.rest p.ended i.fin p.before p.after p.calls;
   says = p.says;
 }
 
@@ -322,7 +379,8 @@ to_more x y items i (inr p) = inr (read_more x y items i p)
 
 pub chunk_left : (x y : Theirs) (i : Chunk) → IsLeft x y → IsLeft (with_chunk x i) (with_chunk y i)
 chunk_left x y i (inl p) = inl (ap (λ t. with_chunk t i) p)
-chunk_left x y i (inr p) = inr (ap (λ t. with_chunk t i) p)
+chunk_left x y i (inr (inl p)) = inr (inl (ap (λ t. with_chunk t i) p))
+chunk_left x y i (inr (inr p)) = inr (inr (turned_chunk x y i p))
 
 with_read : (b : Bool) (x y : Theirs) (items : List Item) (i : Chunk) → IsRead x items y
     → IsRead (cond b (with_chunk x i) x) items (cond b (with_chunk y i) y)
@@ -339,12 +397,6 @@ kept_tells said c d i p = record {
 }
 
 -- ---- steps
-
-quiet_by : (x y z : Theirs) (said : List Item) → IsLeft x y → IsRead y said z → IsRead x said z
-quiet_by x y z said (inl p) q = subst (λ t. IsRead t said z) p q
-quiet_by x y z said (inr p) q =
-    let g : (z ≡ Gone) × (said ≡ []) = gone_is_read y z said p q in
-    (x, inl (refl, g.1), inr g.0)
 
 pub same_tells : (said : ℕ → List Item) (c d e : List (ℕ × Entry)) (i j l : Input)
     → Same c i d j → Tells said d j e l → Tells said c i e l
@@ -374,137 +426,4 @@ same_tell said c d i j h p = record {
         (read_left (unread_at c i k) (unread_at d j k) (p.each k)),
     λ e. absurd (none_ends (said k) (h k) e),
   );
-}
-
--- ---- what calls write
-
-and_right : (a b : Bool) → (a && b) ≡ true → b ≡ true
-and_right true b h = h
-and_right false b h = absurd (cc h)
-
--- the payload of SETTINGS is no items
-no_payload : (say : Say) → items_of (without_payload say) ≡ items_of say
-no_payload (say.Settings settings payload) = refl
-no_payload other = refl
-
-heard_says : (f : Found) (say : Say) (reach all : ℕ) → Says f say reach all → items_of say ≡ items_found f
-heard_says (found.Heard h) say reach all p = sym (no_payload say) ∙ ap items_of (sym p.0)
-heard_says found.Again say reach all p = ap items_of p.0
-
-theirs_same : (e f : Entry) → f.peer ≡ e.peer → f.is_decoder ≡ e.is_decoder
-    → theirs_of f ≡ theirs_by e.peer e.is_decoder f.reading
-theirs_same e f p q = ap (λ x. theirs_by x f.is_decoder f.reading) p ∙ ap (λ x. theirs_by e.peer x f.reading) q
-
-call_reads : (consumed reach : ℕ) (bytes : List ℕ) → consumed ≤ length (take reach bytes)
-    → length (take reach bytes) ≡ min reach (length bytes) → consumed ≤ reach
-call_reads consumed reach bytes h e = omega (arith, h, e)
-
-hears_read : (limit : ℕ) (c d : Shared) (r s : Reading) (i j : Chunk) (found : Found) → Hears limit c r i found d s j
-    → AreRead (with_chunk (Unread (kept_of r) r.ended) i) (items_found found) (with_chunk (Unread (kept_of s) s.ended) j)
-hears_read limit c d r s i j found h = record {
-  bytes = unread r i;
-  rest = unread s j;
-  ended = is_ended r i;
-  pieces = record { reach = h.reach; consumed = h.consumed; say = h.say } ∷ [];
-  from = refl;
-  to = ap (λ e. Unread (unread s j) e) h.ends;
-  calls = (
-    record {
-      limit = limit;
-      c = c;
-      d = d;
-      s = r.stream;
-      t = s.stream;
-      fin = h.reach == length (unread r i) && is_ended r i;
-      within = h.within;
-      reads = call_reads h.consumed h.reach (unread r i) (called_within limit c r.stream (take h.reach (unread r i))
-          (h.reach == length (unread r i) && is_ended r i) (h.consumed, h.say, d, s.stream) h.gives)
-          (length-take h.reach (unread r i));
-      ends = and_right (h.reach == length (unread r i)) (is_ended r i);
-      gives = h.gives;
-    },
-    h.left,
-  );
-  says = append-nil (items_of h.say) ∙ heard_says found h.say h.reach (length (unread r i)) h.says;
-}
-
--- a stream is read, and nothing is said of items if its bytes are instructions for the own encoder
-reads_by_peer : (p : Peer) (b : Bool) (limit : ℕ) (c d : Shared) (r s : Reading) (i j : Chunk) (found told : Found)
-    → p ≡ peer.Reads → (b ≡ false → told ≡ found) → (b ≡ true → items_found told ≡ [])
-    → Hears limit c r i found d s j
-    → IsRead (with_chunk (theirs_by p b r) i) (items_found told) (with_chunk (theirs_by p b s) j)
-reads_by_peer peer.Reads false limit c d r s i j found told g same none h = (
-  with_chunk (Unread (kept_of s) s.ended) j,
-  inr (subst (λ f. AreRead (with_chunk (Unread (kept_of r) r.ended) i) (items_found f)
-      (with_chunk (Unread (kept_of s) s.ended) j)) (sym (same refl)) (hears_read limit c d r s i j found h)),
-  inl refl,
-)
-reads_by_peer peer.Reads true limit c d r s i j found told g same none h =
-    (Gone, inl (refl, none refl), inl refl)
-reads_by_peer other b limit c d r s i j found told g same none h = absurd (cc g)
-
--- what an entry finds
-pub looked : (e f : Entry) (limit : ℕ) (c d : Shared) (i j : Chunk) (found told : Found)
-    → e.peer ≡ peer.Reads → (e.is_decoder ≡ false → told ≡ found) → (e.is_decoder ≡ true → items_found told ≡ [])
-    → f.peer ≡ e.peer → f.is_decoder ≡ e.is_decoder → Hears limit c e.reading i found d f.reading j
-    → IsRead (with_chunk (theirs_of e) i) (items_found told) (with_chunk (theirs_of f) j)
-looked e f limit c d i j found told g same none p q h =
-    subst (λ y. IsRead (with_chunk (theirs_of e) i) (items_found told) (with_chunk y j)) (sym (theirs_same e f p q))
-    (reads_by_peer e.peer e.is_decoder limit c d e.reading f.reading i j found told g same none h)
-
-pub looked_plain : (e f : Entry) (limit : ℕ) (c d : Shared) (i j : Chunk) (found : Found)
-    → e.peer ≡ peer.Reads → e.is_decoder ≡ false
-    → f.peer ≡ e.peer → f.is_decoder ≡ e.is_decoder → Hears limit c e.reading i found d f.reading j
-    → IsRead (with_chunk (theirs_of e) i) (items_found found) (with_chunk (theirs_of f) j)
-looked_plain e f limit c d i j found g n p q h =
-    looked e f limit c d i j found found g (λ _. refl) (λ t. absurd (cc (sym n ∙ t))) p q h
-
-pub not_looked : (e : Entry) (i : Chunk) → IsRead (with_chunk (theirs_of e) i) [] (with_chunk (theirs_of e) i)
-not_looked e i = read_left (with_chunk (theirs_of e) i) (with_chunk (theirs_of e) i) (inl refl)
-
--- and then its stream
-pub reads_set : (es : List (ℕ × Entry)) (id : ℕ) (e f : Entry) (items : List Item) (i j : Chunk)
-    → lookup (is_at (nat_cmp id)) es ≡ Some e
-    → IsRead (with_chunk (theirs_of e) i) items (with_chunk (theirs_of f) j)
-    → ReadsOn id items es i (set_value (is_at (nat_cmp id)) es f) j
-reads_set es id e f items i j h p = record {
-  here = subst (λ y. IsRead (with_chunk (theirs_at es id) i) items (with_chunk y j))
-      (sym (ap theirs_in (set_here es id e f h)))
-      (subst (λ x. IsRead (with_chunk x i) items (with_chunk (theirs_of f) j)) (sym (ap theirs_in h)) p);
-  there = λ k t. inl (ap theirs_in (set_there es id k e f h t));
-}
-
-pub counted_set : (es : List (ℕ × Entry)) (id : ℕ) (e f g : Entry) (items : List Item) (i j : Chunk)
-    → lookup (is_at (nat_cmp id)) es ≡ Some e → theirs_of g ≡ theirs_of f
-    → IsRead (with_chunk (theirs_of e) i) items (with_chunk (theirs_of f) j)
-    → ReadsOn id items es i (set_value (is_at (nat_cmp id)) es g) j
-counted_set es id e f g items i j h q p =
-    reads_set es id e g items i j h
-    (subst (λ t. IsRead (with_chunk (theirs_of e) i) items (with_chunk t j)) (sym q) p)
-
--- the bytes of an input are kept
-keeps_by_peer : (p : Peer) (b : Bool) (r s : Reading) (i j : Chunk) → Keeps r i s j
-    → theirs_by p b s ≡ with_chunk (theirs_by p b r) i
-keeps_by_peer peer.Reads false r s i j k = ap (λ l. Unread l s.ended) k.kept ∙ ap (λ e. Unread (unread r i) e) k.ended
-keeps_by_peer peer.Reads true r s i j k = refl
-keeps_by_peer other b r s i j k = refl
-
-keep_at : (b : Bool) (es : List (ℕ × Entry)) (id k : ℕ) (e f : Entry) (i j : Chunk)
-    → is_at (nat_cmp id) k ≡ b
-    → lookup (is_at (nat_cmp id)) es ≡ Some e → f.peer ≡ e.peer → f.is_decoder ≡ e.is_decoder
-    → Keeps e.reading i f.reading j
-    → theirs_at (set_value (is_at (nat_cmp id)) es f) k ≡ cond b (with_chunk (theirs_at es k) i) (theirs_at es k)
-keep_at true es id k e f i j t h p q keeps =
-    subst (λ n. theirs_at (set_value (is_at (nat_cmp id)) es f) n ≡ with_chunk (theirs_at es n) i) (same_key id k t)
-    (ap theirs_in (set_here es id e f h) ∙ theirs_same e f p q
-    ∙ keeps_by_peer e.peer e.is_decoder e.reading f.reading i j keeps ∙ sym (ap (λ o. with_chunk (theirs_in o) i) h))
-keep_at false es id k e f i j t h p q keeps = ap theirs_in (set_there es id k e f h t)
-
-pub keep_set : (es : List (ℕ × Entry)) (id : ℕ) (e f : Entry) (i j : Input)
-    → lookup (is_at (nat_cmp id)) es ≡ Some e → f.peer ≡ e.peer → f.is_decoder ≡ e.is_decoder
-    → Keeps e.reading i.chunk f.reading j.chunk → i.report ≡ report.Stream id → j.report ≡ report.Nothing
-    → Same es i (set_value (is_at (nat_cmp id)) es f) j
-keep_set es id e f i j h p q keeps s n = record {
-  each = λ k. inl (rw (ap (λ x. is_of x k) n, ap (λ x. is_of x k) s)
-      (keep_at (is_at (nat_cmp id) k) es id k e f i.chunk j.chunk refl h p q keeps));
 }

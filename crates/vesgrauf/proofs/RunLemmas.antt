@@ -1,9 +1,10 @@
 -- What comes on one stream, call after call, and what is told of it.
 use Rattle.std.proofs.Common.{◌≡◌, ◌++◌, ◌||◌, ℕ, List, [], ◌∷◌, Bool, true, false, refl, inl, inr, sym, ap, ◌∙◌, append_assoc, append-nil, subst}
+use Rattle.wtp_webtransport.specs.declared.stream.Stream.{Stream}
 use Rattle.vesgrauf.specs.Items.{Item, has_end}
-use Rattle.vesgrauf.specs.Theirs.{Theirs, Gone, Unread, AreCalls, all_items, IsLeft, AreRead, IsReadTo}
+use Rattle.vesgrauf.specs.Theirs.{Theirs, Gone, Unread, AreCalls, all_items, Turns, Still, IsTurned, IsLeft, AreRead, IsReadTo}
 use Rattle.vesgrauf.specs.Runs.{Step, Comes, Tells, Rests, with_more, Does, Leads, came, ends, told, IsToldOf}
-use Rattle.vesgrauf.proofs.ReadsLemmas.{gone_left_by, gone_is_read, calls_join, calls_more, items_join}
+use Rattle.vesgrauf.proofs.ReadsLemmas.{gone_left_by, gone_is_read, calls_turned, calls_join, calls_more, items_join}
 
 or_none : (a : Bool) → (a || false) ≡ a
 or_none true = refl
@@ -25,98 +26,127 @@ gone_run (Tells items ∷ steps) x y g p =
 gone_run (Rests ∷ steps) x y g p = gone_run steps p.0 y (gone_left_by x p.0 g p.1) p.2
 
 -- nothing more is read of these bytes
-gone_told : (bytes : List ℕ) (ended : Bool) (items : List Item) (y : Theirs) → y ≡ Gone → items ≡ []
-    → IsToldOf bytes ended items y
-gone_told bytes ended items y g h = record {
+gone_told : (bytes : List ℕ) (ended : Bool) (s : Stream) (items : List Item) (y : Theirs) → y ≡ Gone → items ≡ []
+    → IsToldOf bytes ended s items y
+gone_told bytes ended s items y g h = record {
   pieces = [];
   rest = bytes;
-  calls = refl;
+  t = s;
+  calls = (refl, Still refl);
   says = sym h;
   left = inr g;
 }
 
--- these were read, and then nothing more is
-last_told : (bytes more : List ℕ) (ended fin : Bool) (items later : List Item) (x u y : Theirs)
-    → x ≡ Unread bytes ended → AreRead x items u → y ≡ Gone → later ≡ []
-    → IsToldOf (bytes ++ more) (ended || fin) (items ++ later) y
-last_told bytes more ended fin items later x u y h r g n =
+-- what was read of the first bytes
+calls_from : (bytes more : List ℕ) (ended fin : Bool) (s : Stream) (items : List Item) (x u : Theirs)
+    → x ≡ Unread bytes ended s → (r : AreRead x items u)
+    → AreCalls r.pieces (bytes ++ more) (ended || fin) s (r.rest ++ more) r.after
+calls_from bytes more ended fin s items x u h r =
     let same : r.bytes ≡ bytes = cc in
     let whether : r.ended ≡ ended = cc in
-    record {
-      pieces = r.pieces;
-      rest = r.rest ++ more;
-      calls = calls_more r.pieces bytes more r.rest ended fin
-          (subst (λ e. AreCalls r.pieces bytes e r.rest) whether
-          (subst (λ l. AreCalls r.pieces l r.ended r.rest) same r.calls));
-      says = r.says ∙ sym (append-nil items) ∙ ap (λ l. items ++ l) (sym n);
-      left = inr g;
-    }
+    let at : r.before ≡ s = cc in
+    calls_more r.pieces bytes more r.rest ended fin s r.after
+    (subst (λ o. AreCalls r.pieces bytes ended o r.rest r.after) at
+    (subst (λ e. AreCalls r.pieces bytes e r.before r.rest r.after) whether
+    (subst (λ l. AreCalls r.pieces l r.ended r.before r.rest r.after) same r.calls)))
+
+-- these were read, and then nothing more is
+last_told : (bytes more : List ℕ) (ended fin : Bool) (s : Stream) (items later : List Item) (x u y : Theirs)
+    → x ≡ Unread bytes ended s → AreRead x items u → y ≡ Gone → later ≡ []
+    → IsToldOf (bytes ++ more) (ended || fin) s (items ++ later) y
+last_told bytes more ended fin s items later x u y h r g n = record {
+  pieces = r.pieces;
+  rest = r.rest ++ more;
+  t = r.after;
+  calls = calls_from bytes more ended fin s items x u h r;
+  says = r.says ∙ sym (append-nil items) ∙ ap (λ l. items ++ l) (sym n);
+  left = inr g;
+}
 
 -- these were read, and then those that the rest says
-then_told : (bytes more : List ℕ) (ended fin : Bool) (items later : List Item) (x u y : Theirs)
-    → x ≡ Unread bytes ended → (r : AreRead x items u) → IsToldOf (r.rest ++ more) (ended || fin) later y
-    → IsToldOf (bytes ++ more) (ended || fin) (items ++ later) y
-then_told bytes more ended fin items later x u y h r q =
-    let same : r.bytes ≡ bytes = cc in
-    let whether : r.ended ≡ ended = cc in
-    record {
-      pieces = r.pieces ++ q.pieces;
-      rest = q.rest;
-      calls = calls_join r.pieces q.pieces (bytes ++ more) (r.rest ++ more) q.rest (ended || fin)
-          (calls_more r.pieces bytes more r.rest ended fin
-          (subst (λ e. AreCalls r.pieces bytes e r.rest) whether
-          (subst (λ l. AreCalls r.pieces l r.ended r.rest) same r.calls))) q.calls;
-      says = items_join r.pieces q.pieces ∙ ap (λ l. l ++ all_items q.pieces) r.says ∙ ap (λ l. items ++ l) q.says;
-      left = q.left;
-    }
+then_told : (bytes more : List ℕ) (ended fin : Bool) (s : Stream) (items later : List Item) (x u y : Theirs)
+    → x ≡ Unread bytes ended s → (r : AreRead x items u) → IsToldOf (r.rest ++ more) (ended || fin) r.after later y
+    → IsToldOf (bytes ++ more) (ended || fin) s (items ++ later) y
+then_told bytes more ended fin s items later x u y h r q = record {
+  pieces = r.pieces ++ q.pieces;
+  rest = q.rest;
+  t = q.t;
+  calls = calls_join r.pieces q.pieces (bytes ++ more) (r.rest ++ more) q.rest (ended || fin) s r.after q.t
+      (calls_from bytes more ended fin s items x u h r) q.calls;
+  says = items_join r.pieces q.pieces ∙ ap (λ l. l ++ all_items q.pieces) r.says ∙ ap (λ l. items ++ l) q.says;
+  left = q.left;
+}
 
-rest_run : (steps : List Step) (bytes : List ℕ) (ended : Bool) (x z y : Theirs) → x ≡ Unread bytes ended
-    → IsLeft x z → (z ≡ Unread bytes ended → IsToldOf (bytes ++ came steps) (ended || ends steps) (told steps) y)
-    → Leads steps z y → IsToldOf (bytes ++ came steps) (ended || ends steps) (told steps) y
-rest_run steps bytes ended x z y h (inl e) f p = f (e ∙ h)
-rest_run steps bytes ended x z y h (inr e) f p =
+-- after calls that read nothing
+told_turned : (bytes : List ℕ) (ended : Bool) (s t : Stream) (items : List Item) (y : Theirs) → Turns s t
+    → IsToldOf bytes ended t items y → IsToldOf bytes ended s items y
+told_turned bytes ended s t items y h q = record {
+  pieces = q.pieces;
+  rest = q.rest;
+  t = q.t;
+  calls = calls_turned q.pieces bytes q.rest ended s t q.t h q.calls;
+  says = q.says;
+  left = q.left;
+}
+
+rest_run : (steps : List Step) (bytes : List ℕ) (ended : Bool) (s : Stream) (x z y : Theirs) → x ≡ Unread bytes ended s
+    → IsLeft x z
+    → ((t : Stream) → z ≡ Unread bytes ended t → IsToldOf (bytes ++ came steps) (ended || ends steps) t (told steps) y)
+    → Leads steps z y → IsToldOf (bytes ++ came steps) (ended || ends steps) s (told steps) y
+rest_run steps bytes ended s x z y h (inl e) f p = f s (e ∙ h)
+rest_run steps bytes ended s x z y h (inr (inl e)) f p =
     let g : (y ≡ Gone) × (told steps ≡ []) = gone_run steps z y e p in
-    gone_told (bytes ++ came steps) (ended || ends steps) (told steps) y g.0 g.1
+    gone_told (bytes ++ came steps) (ended || ends steps) s (told steps) y g.0 g.1
+rest_run steps bytes ended s x z y h (inr (inr e)) f p =
+    let r : IsTurned (Unread bytes ended s) z = subst (λ o. IsTurned o z) h e in
+    told_turned (bytes ++ came steps) (ended || ends steps) s r.0 (told steps) y r.1 (f r.0 r.2)
 
-read_run : (steps : List Step) (bytes : List ℕ) (ended : Bool) (items : List Item) (x u z y : Theirs)
-    → x ≡ Unread bytes ended → IsReadTo x items u → IsLeft u z
-    → ((l : List ℕ) → z ≡ Unread l ended → IsToldOf (l ++ came steps) (ended || ends steps) (told steps) y)
-    → Leads steps z y → IsToldOf (bytes ++ came steps) (ended || ends steps) (items ++ told steps) y
-read_run steps bytes ended items x u z y h (inl r) l f p =
-    subst (λ c. IsToldOf (bytes ++ came steps) (ended || ends steps) (c ++ told steps) y) (sym r.1)
-    (rest_run steps bytes ended u z y (r.0 ∙ h) l (f bytes) p)
-read_run steps bytes ended items x u z y h (inr r) (inl e) f p =
-    then_told bytes (came steps) ended (ends steps) items (told steps) x u y h r
-    (f r.rest (e ∙ r.to ∙ ap (λ b. Unread r.rest b) (let whether : r.ended ≡ ended = cc in whether)))
-read_run steps bytes ended items x u z y h (inr r) (inr e) f p =
-    let g : (y ≡ Gone) × (told steps ≡ []) = gone_run steps z y e p in
-    last_told bytes (came steps) ended (ends steps) items (told steps) x u y h r g.0 g.1
+-- the rest is left, and its state
+rest_at : (steps : List Step) (x u z y : Theirs) (items : List Item) (ended : Bool) (r : AreRead x items u) → r.ended ≡ ended
+    → IsLeft u z
+    → ((l : List ℕ) (t : Stream) → z ≡ Unread l ended t → IsToldOf (l ++ came steps) (ended || ends steps) t (told steps) y)
+    → Leads steps z y → IsToldOf (r.rest ++ came steps) (ended || ends steps) r.after (told steps) y
+rest_at steps x u z y items ended r whether l f p =
+    rest_run steps r.rest ended r.after u z y (r.to ∙ ap (λ b. Unread r.rest b r.after) whether) l
+    (λ t e. f r.rest t e) p
 
-run_from : (steps : List Step) (bytes : List ℕ) (ended : Bool) (x y : Theirs) → x ≡ Unread bytes ended
-    → Leads steps x y → IsToldOf (bytes ++ came steps) (ended || ends steps) (told steps) y
-run_from [] bytes ended x y h p = record {
+read_run : (steps : List Step) (bytes : List ℕ) (ended : Bool) (s : Stream) (items : List Item) (x u z y : Theirs)
+    → x ≡ Unread bytes ended s → IsReadTo x items u → IsLeft u z
+    → ((l : List ℕ) (t : Stream) → z ≡ Unread l ended t → IsToldOf (l ++ came steps) (ended || ends steps) t (told steps) y)
+    → Leads steps z y → IsToldOf (bytes ++ came steps) (ended || ends steps) s (items ++ told steps) y
+read_run steps bytes ended s items x u z y h (inl r) l f p =
+    subst (λ c. IsToldOf (bytes ++ came steps) (ended || ends steps) s (c ++ told steps) y) (sym r.1)
+    (rest_run steps bytes ended s u z y (r.0 ∙ h) l (λ t e. f bytes t e) p)
+read_run steps bytes ended s items x u z y h (inr r) l f p =
+    then_told bytes (came steps) ended (ends steps) s items (told steps) x u y h r
+    (rest_at steps x u z y items ended r (let whether : r.ended ≡ ended = cc in whether) l f p)
+
+run_from : (steps : List Step) (bytes : List ℕ) (ended : Bool) (s : Stream) (x y : Theirs) → x ≡ Unread bytes ended s
+    → Leads steps x y → IsToldOf (bytes ++ came steps) (ended || ends steps) s (told steps) y
+run_from [] bytes ended s x y h p = record {
   pieces = [];
   rest = bytes ++ [];
-  calls = refl;
+  t = s;
+  calls = (refl, Still refl);
   says = refl;
-  left = inl (p ∙ h ∙ ap (λ l. Unread l ended) (sym (append-nil bytes))
-      ∙ ap (λ b. Unread (bytes ++ []) b) (sym (or_none ended)));
+  left = inl (p ∙ h ∙ ap (λ l. Unread l ended s) (sym (append-nil bytes))
+      ∙ ap (λ b. Unread (bytes ++ []) b s) (sym (or_none ended)));
 }
-run_from (Comes more fin ∷ steps) bytes ended x y h p =
-    subst (λ b. IsToldOf (bytes ++ (more ++ came steps)) b (told steps) y) (sym (or_assoc ended fin (ends steps)))
-    (subst (λ l. IsToldOf l ((ended || fin) || ends steps) (told steps) y) (append_assoc bytes more (came steps))
-    (run_from steps (bytes ++ more) (ended || fin) p.0 y (p.1 ∙ ap (λ t. with_more t more fin) h) p.2))
-run_from (Tells items ∷ steps) bytes ended x y h p =
-    read_run steps bytes ended items x p.1.0.0 p.0 y h p.1.0.1 p.1.0.2
-    (λ l e. run_from steps l ended p.0 y e p.2) p.2
-run_from (Rests ∷ steps) bytes ended x y h p =
-    rest_run steps bytes ended x p.0 y h p.1 (λ e. run_from steps bytes ended p.0 y e p.2) p.2
+run_from (Comes more fin ∷ steps) bytes ended s x y h p =
+    subst (λ b. IsToldOf (bytes ++ (more ++ came steps)) b s (told steps) y) (sym (or_assoc ended fin (ends steps)))
+    (subst (λ l. IsToldOf l ((ended || fin) || ends steps) s (told steps) y) (append_assoc bytes more (came steps))
+    (run_from steps (bytes ++ more) (ended || fin) s p.0 y (p.1 ∙ ap (λ t. with_more t more fin) h) p.2))
+run_from (Tells items ∷ steps) bytes ended s x y h p =
+    read_run steps bytes ended s items x p.1.0.0 p.0 y h p.1.0.1 p.1.0.2
+    (λ l t e. run_from steps l ended t p.0 y e p.2) p.2
+run_from (Rests ∷ steps) bytes ended s x y h p =
+    rest_run steps bytes ended s x p.0 y h p.1 (λ t e. run_from steps bytes ended t p.0 y e p.2) p.2
 
 -- nothing is told after the end
 pub end_is_last : (items : List Item) (steps : List Step) (x y z : Theirs) → Does (Tells items) x y
     → has_end items ≡ true → Leads steps y z → told steps ≡ []
 end_is_last items steps x y z p e q = (gone_run steps y z (p.1 e) q).1
 
-pub run_tells : (steps : List Step) (y : Theirs) → Leads steps (Unread [] false) y
-    → IsToldOf (came steps) (ends steps) (told steps) y
-run_tells steps y p = run_from steps [] false (Unread [] false) y refl p
+pub run_tells : (steps : List Step) (s : Stream) (y : Theirs) → Leads steps (Unread [] false s) y
+    → IsToldOf (came steps) (ends steps) s (told steps) y
+run_tells steps s y p = run_from steps [] false s (Unread [] false s) y refl p

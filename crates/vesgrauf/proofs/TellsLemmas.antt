@@ -8,6 +8,8 @@ use Rattle.std.specs.BTreeMap.{is_at}
 use Rattle.wtp_webtransport.specs.declared.connection.Connection.{Connection as Shared}
 use Rattle.wtp_webtransport.specs.Events as say
 use Rattle.vesgrauf_stream.specs.declared.bytes.Chunk.{Chunk}
+use Rattle.vesgrauf_stream.specs.declared.reading.Reading.{Reading}
+use Rattle.vesgrauf_stream.specs.Reading.{kept_of}
 use Rattle.vesgrauf.specs.declared.entry.Entry.{Entry}
 use Rattle.vesgrauf.specs.declared.event.Event.{Event}
 use Rattle.vesgrauf.specs.declared.input.Input.{Input}
@@ -17,7 +19,7 @@ use Rattle.vesgrauf.specs.Ids.{was, seen, own_bit, kind_of, next_own, next_peer}
 use Rattle.vesgrauf.specs.declared.output.StreamKind.{StreamKind}
 use Rattle.vesgrauf.specs.declared.output.StreamKind.TheVariants as kind
 use Rattle.vesgrauf.specs.Items.{Item, has_end, items_of, items_told}
-use Rattle.vesgrauf.specs.Theirs.{Theirs, Gone, Unread, theirs_of, theirs_in, theirs_at, IsLeft, Left, IsRead, IsTold, Same, ReadsOn, ReadsKept, Hands, Passes, IsHanded, TellsKept, Tells, IsStart, Accepts, TellsAll, unread_at, with_input, with_chunk, items_on, is_of, told_in, IsSilent, IsOf, OnlyAt}
+use Rattle.vesgrauf.specs.Theirs.{Theirs, Gone, Unread, theirs_of, theirs_in, theirs_at, IsLeft, Left, IsRead, IsTold, Same, ReadsOn, ReadsKept, Hands, Passes, IsHanded, TellsKept, Tells, IsBlank, IsStart, Accepts, TellsAll, unread_at, with_input, with_chunk, items_on, is_of, told_in, IsSilent, IsOf, OnlyAt}
 use Rattle.vesgrauf.specs.Inputs.{IsSameOrRead}
 use Rattle.vesgrauf.specs.declared.connection.Step.{Step}
 use Rattle.vesgrauf.specs.declared.connection.Step.TheVariants as step
@@ -33,7 +35,7 @@ use Rattle.wtp_connection.specs.Streams.{Joined as After, joins as joins_streams
 use Rattle.wtp_webtransport.specs.Joining.{Outcome, joins, joined_by, joined_told, joining_of}
 use Rattle.wtp_webtransport.specs.Receiving.{closed_in}
 use Rattle.wtp_webtransport.specs.Fault.{scope_of}
-use Rattle.wtp_webtransport.specs.Streams.{with_streams}
+use Rattle.wtp_webtransport.specs.Streams.{with_streams, accepted}
 use Rattle.vesgrauf.proofs.ReadsLemmas.{same_key, read_left, gone_left_by, read_steps, gone_by, left_same, same_steps, same_passes, hand_with, input_by, chunk_none, none_left, on_none, none_ends, kept_left, chunk_left, same_tell, set_here, set_there, left_steps, read_then, reads_at}
 
 -- ---- after a read
@@ -118,7 +120,7 @@ dropped_by : (b g : Bool) (id k : ℕ) (c d : List (ℕ × Entry)) (i j : Chunk)
     → IsLeft (cond b (with_chunk (theirs_at c k) i) (theirs_at c k)) (cond g (with_chunk (theirs_at d k) j) (theirs_at d k))
 dropped_by true g id k c d i j t f h p =
     let gone : theirs_at d k ≡ Gone = subst (λ n. theirs_at d n ≡ Gone) (same_key id k t) (gone_left c d id h p) in
-    inr (ap (λ x. cond g (with_chunk x j) x) gone ∙ gone_by g)
+    inr (inl (ap (λ x. cond g (with_chunk x j) x) gone ∙ gone_by g))
 dropped_by false g id k c d i j t f h p =
     subst (λ x. IsLeft (theirs_at c k) (cond x (with_chunk (theirs_at d k) j) (theirs_at d k))) (sym (f refl)) (p.each k)
 
@@ -200,7 +202,8 @@ accepts_all a b said c d e i j p q = record { each = λ k. (theirs_at d k, p.eac
 
 start_by : (s t : Bool) (x y z : Theirs) → (s ≡ true → t ≡ true) → IsStart s x y → IsStart t y z → IsStart s x z
 start_by s t x y z h (inl p) (inl q) = inl (q ∙ p)
-start_by s t x y z h (inr p) (inl q) = inr (p.0, q ∙ p.1)
+start_by s t x y z h (inr p) (inl q) =
+    inr (p.0, record { at = p.1.at; new = p.1.new; nothing = q ∙ p.1.nothing })
 start_by true t x y z h p (inr q) = absurd (cc (h refl, q.0))
 start_by false t x y z h p (inr q) = inr (refl, q.1)
 
@@ -213,13 +216,23 @@ accepts_steps a b f c d e p q = record {
 pub accepts_none : (a : Ids) (c : List (ℕ × Entry)) → Accepts a c a c
 accepts_none a c = record { each = λ k. inl refl; seen = λ k h. h }
 
+-- a stream of the peer of which nothing came
+pub blank_of : (r : Reading) (c : Shared) (id : ℕ) → r.stream ≡ (accepted c id).1 → kept_of r ≡ [] → r.ended ≡ false
+    → IsBlank (Unread (kept_of r) r.ended r.stream)
+blank_of r c id at kept ended = record {
+  at = r.stream;
+  new = record { c = c; id = id; is = at };
+  nothing = ap (λ l. Unread l r.ended r.stream) kept ∙ ap (λ e. Unread [] e r.stream) ended;
+}
+
 accept_by : (b : Bool) (a : Ids) (es fs : List (ℕ × Entry)) (id k : ℕ) (e : Entry) → is_at (nat_cmp id) k ≡ b
-    → was a id ≡ false → theirs_of e ≡ Unread [] false
+    → was a id ≡ false → IsBlank (theirs_of e)
     → lookup (is_at (nat_cmp id)) fs ≡ Some e
     → ((k : ℕ) → is_at (nat_cmp id) k ≡ false → lookup (is_at (nat_cmp k)) fs ≡ lookup (is_at (nat_cmp k)) es)
     → IsStart (was a k) (theirs_at es k) (theirs_at fs k)
 accept_by true a es fs id k e t w n here there =
-    subst (λ m. IsStart (was a m) (theirs_at es m) (theirs_at fs m)) (same_key id k t) (inr (w, ap theirs_in here ∙ n))
+    subst (λ m. IsStart (was a m) (theirs_at es m) (theirs_at fs m)) (same_key id k t)
+    (inr (w, record { at = n.at; new = n.new; nothing = ap theirs_in here ∙ n.nothing }))
 accept_by false a es fs id k e t w n here there = inl (ap theirs_in (there k t))
 
 seen_lt : (id n : ℕ) → nat_lt id n ≡ true → nat_lt id (n + 4) ≡ true
@@ -246,7 +259,7 @@ seen_next true kd a k h = was_seen kd a k h
 seen_next false kd a k h = h
 
 pub accepts_insert : (a b : Ids) (t : Bool) (kd : StreamKind) (es fs : List (ℕ × Entry)) (id : ℕ) (e : Entry)
-    → was a id ≡ false → theirs_of e ≡ Unread [] false → b ≡ cond t (seen a kd) a
+    → was a id ≡ false → IsBlank (theirs_of e) → b ≡ cond t (seen a kd) a
     → lookup (is_at (nat_cmp id)) fs ≡ Some e
     → ((k : ℕ) → is_at (nat_cmp id) k ≡ false → lookup (is_at (nat_cmp k)) fs ≡ lookup (is_at (nat_cmp k)) es)
     → Accepts a es b fs

@@ -1,10 +1,16 @@
 -- What the peer sends on the streams of a connection.
-use Rattle.std.proofs.Common.{◌≡◌, ℕ, List, [], ◌∷◌, Option, Some, Bool, true, false, cond, refl, arith, inl}
+use Rattle.std.proofs.Common.{◌≡◌, ℕ, List, [], ◌∷◌, Option, Some, Bool, true, false, cond, refl, arith, inl, inr, ap, ◌∙◌}
 use Rattle.std.specs.Ordering.{nat_cmp}
 use Rattle.std.specs.Map.{lookup, set_value}
 use Rattle.std.specs.BTreeMap.{is_at}
 use Rattle.vesgrauf.specs.declared.entry.Entry.{Entry}
-use Rattle.vesgrauf.specs.Theirs.{theirs_in, theirs_at, IsLeft, Left}
+use Rattle.vesgrauf_stream.specs.Moves.{Moves}
+use Rattle.vesgrauf_stream.specs.Reading.{kept_of, IsStill}
+use Rattle.vesgrauf_stream.specs.declared.reading.Reading.{Reading}
+use Rattle.vesgrauf.specs.declared.entry.Peer.{Peer}
+use Rattle.vesgrauf.specs.declared.entry.Peer.TheVariants as peer
+use Rattle.vesgrauf.specs.Own.{entry_at}
+use Rattle.vesgrauf.specs.Theirs.{Unread, Still, Then, theirs_by, theirs_in, theirs_at, IsLeft, Left}
 
 -- ---- one stream changes
 
@@ -43,3 +49,19 @@ set_at ((key, e) ∷ es) id k f q =
 pub left_set : (es : List (ℕ × Entry)) (id : ℕ) (f : Entry) → IsLeft (theirs_at es id) (theirs_in (Some f))
     → Left es (set_value (is_at (nat_cmp id)) es f)
 left_set es id f q = record { each = λ k. set_at es id k f q }
+
+-- a call that reads nothing changes the state of a stream
+turned_by : (p : Peer) (b : Bool) (r s : Reading) → Moves r.stream s.stream → IsStill r s
+    → IsLeft (theirs_by p b r) (theirs_by p b s)
+turned_by peer.Reads true r s m q = inl refl
+turned_by peer.Reads false r s m q = inr (inr (
+  s.stream,
+  Then s.stream m (Still refl),
+  ap (λ l. Unread l s.ended s.stream) q.kept ∙ ap (λ e. Unread (kept_of r) e s.stream) q.ended,
+))
+turned_by other b r s m q = inl refl
+
+pub left_turned : (es : List (ℕ × Entry)) (id : ℕ) (e f : Entry) → entry_at es id ≡ Some e
+    → Moves e.reading.stream f.reading.stream → IsStill e.reading f.reading → f.peer ≡ e.peer → f.is_decoder ≡ e.is_decoder
+    → Left es (set_value (is_at (nat_cmp id)) es f)
+left_turned es id e f there m q p d = left_set es id f (rw (there, p, d) (turned_by e.peer e.is_decoder e.reading f.reading m q))

@@ -14,7 +14,7 @@ most_kept c = c.receive_buffer + c.max_paused
 -- no more of a stream are: none of one that is not read
 abbrev pub Fits : ℕ → Theirs → Type 0
 Fits most Gone = Unit {0}
-Fits most (Unread bytes ended) = length bytes ≤ most
+Fits most (Unread bytes ended s) = length bytes ≤ most
 
 -- of each of these streams
 pub record AllFit (most : ℕ) (streams : List (ℕ × Entry)) : Type 0 where

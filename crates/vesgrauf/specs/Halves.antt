@@ -22,7 +22,7 @@ pub data Halves : Type 0 where
 
 abbrev pub is_sending : Own → Bool
 is_sending Over = false
-is_sending (Sends put waits) = true
+is_sending (Sends put waits end) = true
 
 -- the peer's half is read, as one of which bytes are unread, or may come to be (`Unread` in Theirs.antt)
 abbrev pub reads_by : Peer → Bool → Bool

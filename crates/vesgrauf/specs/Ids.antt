@@ -1,5 +1,5 @@
 -- The IDs of streams (RFC 9000, section 2.1).
-use Rattle.std.specs.Prelude.{◌≡◌, ◌==◌, ◌&&◌, ℕ, ◌+◌, ◌-◌, ◌/◌, ◌%◌, nat_lt, Bool, true, false, if◌then◌else◌, Option, Some, None}
+use Rattle.std.specs.Prelude.{◌≡◌, ◌==◌, ◌&&◌, ℕ, ◌+◌, ◌-◌, ◌/◌, ◌%◌, nat_lt, Bool, true, false, if◌then◌else◌, [], Option, Some, None}
 use Rattle.wtp_frames.specs.declared.endpoint.Side.{Side}
 use Rattle.wtp_frames.specs.declared.endpoint.Side.TheVariants as side
 use Rattle.vesgrauf.specs.declared.output.StreamKind.{StreamKind}
@@ -100,3 +100,4 @@ pub record IsFirst (s : Side) (ids : Ids) : Type 0 where
   pub unidirectional : ids.unidirectional ≡ own_bit s + 2
   pub peer_bidirectional : ids.peer_bidirectional ≡ peer_bit s
   pub peer_unidirectional : ids.peer_unidirectional ≡ peer_bit s + 2
+  pub members : ids.members.keys ≡ []

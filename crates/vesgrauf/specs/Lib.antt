@@ -3,12 +3,17 @@ pub mod Bounds
 pub mod Closes
 pub mod Codes
 pub mod Config
+pub mod Datagrams
+pub mod Cuts
 pub mod Fields
 pub mod Halves
 pub mod Ids
 pub mod Inputs
+pub mod Instructions
 pub mod Items
 pub mod Keeps
+pub mod Leaving
+pub mod Members
 pub mod Messages
 pub mod Order
 pub mod Own

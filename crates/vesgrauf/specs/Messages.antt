@@ -2,6 +2,7 @@
 use Rattle.std.specs.Prelude.{◌≡◌, ◌==◌, ◌&&◌, ◌^◌, ◌-◌, ℕ, Bool, true, false, List, [], length, MatchBool, Some, Ok, unwrap_or}
 use Rattle.wtp_sending.specs.declared.peer.Peer.{Peer as Allows}
 use Rattle.wtp_webtransport.specs.Sessions.{allows_sessions}
+use Rattle.wtp_webtransport.specs.Streams.{session_stream}
 use Rattle.wtp_webtransport.specs.declared.connection.Connection.{Connection as Shared}
 use Rattle.vesgrauf_queue.specs.Steps.{IsNew}
 use Rattle.vesgrauf_ready.specs.declared.rank.Priority.{Priority}
@@ -113,6 +114,7 @@ pub record IsMember (config : Config) (session : ℕ) (k : StreamKind) (bytes : 
   pub begins : Pushes bytes before e.writing
   pub unread : kept_of e.reading ≡ []
   pub goes_on : e.reading.ended ≡ false
+  pub at : e.reading.stream ≡ session_stream session
   pub is : e ≡ record (new_entry e.reading (peer_of k) e.writing) {
     session = Some session;
     priority = shared;

@@ -1,5 +1,6 @@
 -- What comes on one stream of the peer, call after call, and what is told of it.
 use Rattle.std.specs.Prelude.{◌≡◌, ◌⊎◌, ◌++◌, ◌||◌, ℕ, Bool, false, List, [], ◌∷◌}
+use Rattle.wtp_webtransport.specs.declared.stream.Stream.{Stream}
 use Rattle.vesgrauf.specs.Theirs.{Theirs, Gone, Unread, Piece, AreCalls, all_items, IsLeft, IsTold}
 use Rattle.vesgrauf.specs.Items.{Item}
 
@@ -13,7 +14,7 @@ pub data Step : Type 0 where
 -- more bytes are unread
 abbrev pub with_more : Theirs → List ℕ → Bool → Theirs
 with_more Gone bytes fin = Gone
-with_more (Unread before ended) bytes fin = Unread (before ++ bytes) (ended || fin)
+with_more (Unread before ended s) bytes fin = Unread (before ++ bytes) (ended || fin) s
 
 -- what a step does to the bytes that are unread: as the contracts of the calls say
 abbrev pub Does : Step → Theirs → Theirs → Type 0
@@ -43,11 +44,13 @@ told [] = []
 told (Tells items ∷ steps) = items ++ told steps
 told (s ∷ steps) = told steps
 
--- The layer below reads these bytes from the first on, one call after the other. What its calls say is what was told. The
--- rest is what is unread, unless the stream is read no further.
-pub record IsToldOf (bytes : List ℕ) (ended : Bool) (items : List Item) (y : Theirs) : Type 0 where
+-- The layer below reads these bytes from the first on, one call after the other, each in the state in which the one before left
+-- the stream, and the first in this one. What its calls say is what was told. The rest is what is unread, unless the stream is
+-- read no further.
+pub record IsToldOf (bytes : List ℕ) (ended : Bool) (s : Stream) (items : List Item) (y : Theirs) : Type 0 where
   pub pieces : List Piece
   pub rest : List ℕ
-  pub calls : AreCalls pieces bytes ended rest
+  pub t : Stream
+  pub calls : AreCalls pieces bytes ended s rest t
   pub says : all_items pieces ≡ items
-  pub left : (y ≡ Unread rest ended) ⊎ (y ≡ Gone)
+  pub left : (y ≡ Unread rest ended t) ⊎ (y ≡ Gone)

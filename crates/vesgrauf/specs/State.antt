@@ -1,5 +1,5 @@
 -- A connection as its contracts speak of it.
-use Rattle.std.specs.Prelude.{◌^◌, ◌≤◌, ◌%◌, ◌==◌, ◌&&◌, ◌++◌, nat_lt, max, ◌≡◌, ◌⊎◌, ◌||◌, ℕ, if◌then◌else◌, Bool, true, false, not, is_some, IfOk, IfSome, List, [], ◌∷◌, length, Option, None, Some, Result, Ok, Err}
+use Rattle.std.specs.Prelude.{if◌then◌else◌, ◌%◌, ◌==◌, ◌&&◌, ◌++◌, nat_lt, max, ◌≡◌, ◌⊎◌, ◌||◌, ℕ, Bool, true, false, not, is_some, IfOk, IfSome, List, [], ◌∷◌, length, Option, None, Some, Result, Ok, Err}
 use Rattle.std.specs.List.{filter, list_any}
 use Rattle.std.specs.declared.vec.Vec.{Vec}
 use Rattle.std.specs.declared.alloc.Global.{Global}
@@ -8,7 +8,6 @@ use Rattle.std.specs.Map.{lookup, set_value}
 use Rattle.std.specs.BTreeMap.{is_at}
 use Rattle.vesgrauf_stream.specs.declared.writing.Writing.{Writing}
 use Rattle.vesgrauf.specs.declared.connection.Connection.{Connection}
-use Rattle.vesgrauf.specs.declared.connection.DatagramQueue.{DatagramQueue}
 use Rattle.vesgrauf.specs.declared.connection.Ended.{Ended}
 use Rattle.vesgrauf.specs.declared.connection.Step.{Step}
 use Rattle.vesgrauf.specs.declared.connection.Step.TheVariants as step
@@ -25,8 +24,8 @@ use Rattle.vesgrauf.specs.declared.refused.Refused.TheVariants as refused
 use Rattle.vesgrauf_ready.specs.declared.rank.Priority.{Priority}
 use Rattle.vesgrauf_queue.specs.Steps.{Does, Refuses}
 use Rattle.vesgrauf_stream.specs.declared.error.NotSent.{NotSent}
-use Rattle.vesgrauf_stream.specs.Writing.{RefusesContent, RefusesBy, Ends as EndsHalf, content_at, session_at, message_at, head_by, is_finished, is_none}
-use Rattle.wtp_sending.specs.Session.{drain_wire, datagram_head}
+use Rattle.vesgrauf_stream.specs.Writing.{RefusesContent, RefusesBy, Ends as EndsHalf, content_at, session_at, is_finished, is_none}
+use Rattle.wtp_sending.specs.Session.{drain_wire}
 use Rattle.wtp_frames.specs.declared.endpoint.Side.{Side}
 use Rattle.wtp_frames.specs.declared.endpoint.Side.TheVariants.{Client, Server}
 use Rattle.wtp_connection.specs.declared.connection.Known.{Known}
@@ -39,9 +38,6 @@ use Rattle.vesgrauf.specs.Codes.{number_of}
 use Rattle.vesgrauf.specs.declared.code.StreamCode.{StreamCode}
 use Rattle.vesgrauf.specs.declared.code.StreamCode.TheVariants as codes
 use Rattle.vesgrauf.specs.declared.output.Scope.{Scope}
-use Rattle.vesgrauf.specs.declared.output.Shutdown.{Shutdown}
-use Rattle.vesgrauf.specs.declared.output.Shutdown.TheVariants as shutdown
-use Rattle.wtp_sending.specs.Control.{after_goaway, goaway_bytes}
 use Rattle.vesgrauf.specs.declared.output.Scope.TheVariants as scope
 use Rattle.vesgrauf_queue.specs.declared.ending.Ending.TheVariants.{Open}
 use Rattle.vesgrauf_stream.specs.declared.error.NotSent.TheVariants as error
@@ -480,76 +476,3 @@ pub record Instructs (How : (bytes rest : List ℕ) → Critical → Critical �
   pub decoder : How c.told.items d.told.items c.decoder d.decoder
   pub encoder : How c.tools.instructions.items d.tools.instructions.items c.encoder d.encoder
   pub table : d.tools.encoder ≡ c.tools.encoder
-
--- ---- GOAWAY
-
-abbrev pub is_final : Shutdown → Bool
-is_final shutdown.Notice = false
-is_final shutdown.Final = true
-
--- The ID of a GOAWAY (RFC 9114, section 5.2): a push's at a client, which allows none; a request's at a server, of which
--- the greatest rejects none.
-abbrev pub goaway_id : Side → Shutdown → Ids → ℕ
-goaway_id Client phase ids = 0
-goaway_id Server shutdown.Notice ids = 4611686018427387900
-goaway_id Server shutdown.Final ids = ids.peer_bidirectional
-
-abbrev pub goaway_for : Shutdown → Connection → ℕ
-goaway_for phase c = goaway_id c.config.side phase c.ids
-
--- GOAWAY is queued on the control stream, and nothing else changes; the last one is followed by the end.
-pub record ShutsDown (phase : Shutdown) (c d : Connection) : Type 0 where
-  pub may : after_goaway c.goaways (goaway_for phase c) ≡ Ok d.goaways
-  pub queued : Says (goaway_bytes (goaway_for phase c)) c.control d.control
-  pub view : view_of d ≡ record (view_of c) {
-    control = d.control;
-    goaways = d.goaways;
-    is_leaving = c.is_leaving || is_final phase;
-  }
-
--- Why it is not: an ID below 2^62 is refused by `after_goaway`.
-abbrev pub RefusesGoaway : Bool → ControlSending → ℕ → Refused → Type 0
-RefusesGoaway true g id e = e ≡ refused.Closed
-RefusesGoaway false g id e =
-    (e ≡ refused.Memory)
-    ⊎ (((2 ^ 62 ≤ id) × (e ≡ refused.Send sending.InvalidId))
-    ⊎ ((why : SendError) × (after_goaway g id ≡ Err why) × (e ≡ refused_by why)))
-
--- ---- datagrams
-
--- the first bytes of a datagram of the session whose own stream this is
-abbrev pub IsHead : Entry → List ℕ → Type 0
-IsHead e bytes = (session_at e.writing ≡ Ok tt) × (bytes ≡ head_by datagram_head (message_at e.writing))
-
--- Fewer datagrams wait than may, of which there is at least one.
-abbrev pub has_place : Connection → Bool
-has_place c = nat_lt (length c.datagrams.queue.items) (max c.config.datagram_queue 1)
-
--- the first bytes of a datagram of this session are these
-abbrev pub HeadOf : Connection → ℕ → List ℕ → Type 0
-HeadOf c session bytes = Of (stream_at c session) (λ e. IsHead e bytes)
-
--- nothing else changes
-abbrev pub KeepsOthers : Connection → Connection → Type 0
-KeepsOthers c d = view_of d ≡ record (view_of c) { datagrams = d.datagrams.queue.items }
-
--- the datagrams that wait stay, and what is owed
-abbrev pub KeepsDatagrams : Connection → Connection → Type 0
-KeepsDatagrams c d =
-    (d.datagrams.queue.items ≡ c.datagrams.queue.items) × (d.datagrams.is_owed ≡ c.datagrams.is_owed)
-
--- a datagram of these bytes is queued after those that wait
-abbrev pub Adds : List ℕ → DatagramQueue → DatagramQueue → Type 0
-Adds bytes q r =
-    (datagram : Vec ℕ Global) × (r.queue.items ≡ q.queue.items ++ (datagram ∷ [])) × (datagram.items ≡ bytes)
-
--- one of the session is: its first bytes, and the payload
-abbrev pub QueuesDatagram : ℕ → List ℕ → Connection → Connection → Type 0
-QueuesDatagram session payload c d =
-    (first : List ℕ) × HeadOf c session first × Adds (first ++ payload) c.datagrams d.datagrams
-
--- it is queued if there is a place; otherwise none is, and a `DatagramsWritable` is owed
-abbrev pub SendsDatagram : Bool → ℕ → List ℕ → Connection → Connection → Type 0
-SendsDatagram true session payload c d = (has_place c ≡ true) × QueuesDatagram session payload c d
-SendsDatagram false session payload c d =
-    (has_place c ≡ false) × (d.datagrams.queue.items ≡ c.datagrams.queue.items) × (d.datagrams.is_owed ≡ true)

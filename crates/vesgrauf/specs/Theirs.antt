@@ -6,9 +6,11 @@ use Rattle.std.specs.BTreeMap.{is_at}
 use Rattle.wtp_webtransport.specs.declared.connection.Connection.{Connection as Shared}
 use Rattle.wtp_webtransport.specs.declared.stream.Stream.{Stream}
 use Rattle.wtp_webtransport.specs.Events.{Told as Say}
+use Rattle.wtp_webtransport.specs.Streams.{accepted}
 use Rattle.wtp_webtransport.specs.Tables.{Call}
 use Rattle.vesgrauf_stream.specs.declared.bytes.Chunk.{Chunk}
 use Rattle.vesgrauf_stream.specs.declared.reading.Reading.{Reading}
+use Rattle.vesgrauf_stream.specs.Moves.{Moves}
 use Rattle.vesgrauf_stream.specs.Reading.{kept_of}
 use Rattle.vesgrauf.specs.declared.connection.Step.{Step}
 use Rattle.vesgrauf.specs.declared.connection.Step.TheVariants as step
@@ -25,13 +27,13 @@ use Rattle.vesgrauf.specs.Items.{Item, has_end, items_of, items_told}
 use Rattle.vesgrauf.specs.Own.{entry_at}
 
 -- Gone: the stream is not read, or is forgotten, or there is none yet; or its bytes are instructions for the own encoder.
--- Unread: these bytes of it came and were not read, and whether it ends after them.
+-- Unread: these bytes of it came and were not read, whether it ends after them, and the state in which it is read on.
 pub data Theirs : Type 0 where
   Gone : Theirs
-  Unread : (bytes : List ℕ) → (ended : Bool) → Theirs
+  Unread : (bytes : List ℕ) → (ended : Bool) → (at : Stream) → Theirs
 
 abbrev pub theirs_by : Peer → Bool → Reading → Theirs
-theirs_by peer.Reads is_decoder r = if is_decoder then Gone else Unread (kept_of r) r.ended
+theirs_by peer.Reads is_decoder r = if is_decoder then Gone else Unread (kept_of r) r.ended r.stream
 theirs_by other is_decoder r = Gone
 
 abbrev pub theirs_of : Entry → Theirs
@@ -47,9 +49,19 @@ theirs_at streams id = theirs_in (entry_at streams id)
 
 -- ---- nothing is read
 
+-- calls that read nothing lead from one state of a stream to the other: a request is answered, a session joined
+pub data Turns : Stream → Stream → Type 0 where
+  Still : {s t : Stream} → t ≡ s → Turns s t
+  Then : {s t : Stream} → (m : Stream) → Moves s m → Turns m t → Turns s t
+
+-- the state of the stream alone changes, by such calls
+abbrev pub IsTurned : Theirs → Theirs → Type 0
+IsTurned Gone y = ⊥
+IsTurned (Unread bytes ended s) y = (t : Stream) × Turns s t × (y ≡ Unread bytes ended t)
+
 -- no byte is read and none is lost, unless the stream is read no further
 abbrev pub IsLeft : Theirs → Theirs → Type 0
-IsLeft x y = (y ≡ x) ⊎ (y ≡ Gone)
+IsLeft x y = (y ≡ x) ⊎ ((y ≡ Gone) ⊎ IsTurned x y)
 
 -- that of all streams
 pub record Left (c d : List (ℕ × Entry)) : Type 0 where
@@ -64,7 +76,7 @@ pub record OnlyAt (id : ℕ) (c d : List (ℕ × Entry)) : Type 0 where
 -- the bytes of an input come after those that are kept
 abbrev pub with_chunk : Theirs → Chunk → Theirs
 with_chunk Gone i = Gone
-with_chunk (Unread bytes ended) i = Unread (bytes ++ i.bytes.now) (ended || i.fin)
+with_chunk (Unread bytes ended s) i = Unread (bytes ++ i.bytes.now) (ended || i.fin) s
 
 -- these are bytes of this stream
 abbrev pub is_of : Report → ℕ → Bool
@@ -86,23 +98,24 @@ pub record Piece : Type 0 where
   pub consumed : ℕ
   pub say : Say
 
--- The layer below says so of the first of these bytes. It is told of the end only if the stream ends after them.
-pub record IsCall (bytes : List ℕ) (ended : Bool) (p : Piece) : Type 0 where
+-- The layer below says so of the first of these bytes, from this state of the stream to that one. It is told of the end only if
+-- the stream ends after them.
+pub record IsCall (bytes : List ℕ) (ended : Bool) (p : Piece) (s t : Stream) : Type 0 where
   pub limit : ℕ
   pub c : Shared
   pub d : Shared
-  pub s : Stream
-  pub t : Stream
   pub fin : Bool
   pub within : p.reach ≤ length bytes
   pub reads : p.consumed ≤ p.reach
   pub ends : fin ≡ true → ended ≡ true
   pub gives : Call limit c s (take p.reach bytes) fin (p.consumed, p.say, d, t)
 
--- it does so one time after the other, and the rest is still to be read
-abbrev pub AreCalls : List Piece → List ℕ → Bool → List ℕ → Type 0
-AreCalls [] bytes ended rest = rest ≡ bytes
-AreCalls (p ∷ ps) bytes ended rest = IsCall bytes ended p × AreCalls ps (drop p.consumed bytes) ended rest
+-- It does so one time after the other, each time in the state in which the time before left the stream, and the rest is still
+-- to be read.
+abbrev pub AreCalls : List Piece → List ℕ → Bool → Stream → List ℕ → Stream → Type 0
+AreCalls [] bytes ended s rest t = (rest ≡ bytes) × Turns s t
+AreCalls (p ∷ ps) bytes ended s rest t =
+    (u : Stream) × (v : Stream) × Turns s u × IsCall bytes ended p u v × AreCalls ps (drop p.consumed bytes) ended v rest t
 
 -- the items that they say
 abbrev pub all_items : List Piece → List Item
@@ -114,10 +127,12 @@ pub record AreRead (x : Theirs) (items : List Item) (y : Theirs) : Type 0 where
   pub bytes : List ℕ
   pub rest : List ℕ
   pub ended : Bool
+  pub before : Stream
+  pub after : Stream
   pub pieces : List Piece
-  pub from : x ≡ Unread bytes ended
-  pub to : y ≡ Unread rest ended
-  pub calls : AreCalls pieces bytes ended rest
+  pub from : x ≡ Unread bytes ended before
+  pub to : y ≡ Unread rest ended after
+  pub calls : AreCalls pieces bytes ended before rest after
   pub says : all_items pieces ≡ items
 
 -- that, or none is read
@@ -208,9 +223,21 @@ pub record Tells (said : ℕ → List Item) (c : List (ℕ × Entry)) (i : Input
 
 -- ---- streams that come to be
 
+-- the state of a stream that the peer opened, of which nothing was read
+pub record IsNew (s : Stream) : Type 0 where
+  pub c : Shared
+  pub id : ℕ
+  pub is : s ≡ (accepted c id).1
+
+-- nothing of such a stream is kept
+pub record IsBlank (y : Theirs) : Type 0 where
+  pub at : Stream
+  pub new : IsNew at
+  pub nothing : y ≡ Unread [] false at
+
 -- they are as they were; or the ID was not seen before, and nothing is kept
 abbrev pub IsStart : Bool → Theirs → Theirs → Type 0
-IsStart seen x y = (y ≡ x) ⊎ ((seen ≡ false) × (y ≡ Unread [] false))
+IsStart seen x y = (y ≡ x) ⊎ ((seen ≡ false) × IsBlank y)
 
 -- that of all streams; and what was seen stays so
 pub record Accepts (a : Ids) (c : List (ℕ × Entry)) (b : Ids) (d : List (ℕ × Entry)) : Type 0 where

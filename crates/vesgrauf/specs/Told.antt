@@ -14,6 +14,7 @@ use Rattle.vesgrauf.specs.declared.connection.Step.{Step}
 use Rattle.vesgrauf.specs.declared.connection.Step.TheVariants as step
 use Rattle.vesgrauf.specs.declared.connection.ids.Ids.{Ids}
 use Rattle.vesgrauf.specs.Ids.{own_bit, peer_bit, was}
+use Rattle.vesgrauf.specs.Members.{Linked}
 use Rattle.vesgrauf.specs.Own.{entry_at}
 use Rattle.vesgrauf.specs.State.{knows_of}
 
@@ -124,10 +125,11 @@ pub record AreIds (ids : Ids) : Type 0 where
   pub peer_both : ids.peer_bidirectional % 4 ≡ peer_bit ids.side
   pub peer_one : ids.peer_unidirectional % 4 ≡ peer_bit ids.side + 2
 
--- there was each stream of which there is an entry
+-- there was each stream of which there is an entry, and each stream of a session is noted as one of it
 pub record Sound (es : List (ℕ × Entry)) (ids : Ids) : Type 0 where
   pub ids_are : AreIds ids
   pub were : (id : ℕ) → is_some (entry_at es id) ≡ true → was ids id ≡ true
+  pub linked : Linked es ids
 
 -- From these streams, IDs and queued events to those, where the program was told this meanwhile. What it is told of a
 -- stream leads on to what it knows of it once it is told what is queued. What was seen stays so.

@@ -1,4 +1,5 @@
 //! A whole connection.
+mod beginning;
 mod calls;
 mod closing;
 mod control;
@@ -26,6 +27,7 @@ mod table;
 mod waiting;
 
 use crate::config::Config;
+use crate::connection::beginning::{other_side, shared_for};
 use crate::connection::ids::Ids;
 use crate::critical::Critical;
 use crate::entry::{Entry, Member};
@@ -41,8 +43,6 @@ use vesgrauf_streams::map::StreamMap;
 use wtp_connection::budget::RequestBudget;
 use wtp_connection::settings::PeerSettings;
 use wtp_core::error::Code;
-use wtp_dynamic_decoder::decoder::QpackDecoder;
-use wtp_frames::endpoint::{Endpoint, Side};
 use wtp_sending::control::ControlSending;
 use wtp_webtransport::connection::Connection as Shared;
 use wtp_webtransport::fault::Fault;
@@ -61,8 +61,6 @@ pub struct Connection {
     tools: Tools,
     /// The streams, but for the own critical ones.
     streams: StreamMap<Entry>,
-    /// The streams of sessions.
-    members: BTreeSet<Member>,
     /// The streams that wait, or are paused.
     waiting: BTreeSet<u64>,
     /// The streams of which a `Writable` is owed.
@@ -288,7 +286,6 @@ impl Connection {
             fields: Fields::new(alloc, u64::from(config.max_field_section_size)),
             tools: Tools::new(alloc),
             streams: StreamMap::new(alloc),
-            members: BTreeSet::new(alloc),
             waiting: BTreeSet::new(alloc),
             full: BTreeSet::new(alloc),
             ready: Ready::new(alloc, config.fair.max(1)),
@@ -297,7 +294,7 @@ impl Connection {
             encoder: Critical::new(alloc, queue),
             goaways: ControlSending::new(other_side(config.side)),
             told: Vec::new(alloc),
-            ids: Ids::new(config.side),
+            ids: Ids::new(alloc, config.side),
             events: VecDeque::new(alloc),
             outputs: VecDeque::new(alloc),
             datagrams: DatagramQueue::new(alloc),
@@ -437,7 +434,7 @@ impl Connection {
     {
         self.reserve_all()?;
         self.place_due()?;
-        self.shared.increment(&mut self.told)?;
+        self.count_inserts()?;
         self.begin_table()?;
         self.queue_instructions()?;
         self.check_instructions()
@@ -473,29 +470,4 @@ impl Connection {
             None
         }
     }
-}
-
-// Returns the side of the peer.
-fn other_side(side: Side) -> Side {
-    match side {
-        Side::Client => Side::Server,
-        Side::Server => Side::Client,
-    }
-}
-
-// Returns what the peer's halves of a connection have in common.
-fn shared_for(alloc: Global, config: &Config) -> Shared {
-    let mut endpoint = Endpoint::new(config.side);
-    endpoint.webtransport = config.webtransport;
-    endpoint.datagrams = config.datagrams;
-    endpoint.max_section = config.max_field_section_size;
-    let mut shared = Shared::new(endpoint, config.extended_connect);
-    if config.qpack_max_table_capacity > 0 {
-        shared.allow_table(QpackDecoder::new(
-            alloc,
-            u64::from(config.qpack_max_table_capacity),
-            u64::from(config.qpack_blocked_streams),
-        ));
-    }
-    shared
 }

@@ -1,7 +1,8 @@
 //! Laws of all runs of a connection. Each function does nothing: its contract is the law.
-ghost use Rattle.std.specs.Prelude.{◌≡◌, ◌++◌, ℕ, Bool, List, [], ◌∷◌, Some, true, false};
+ghost use Rattle.std.specs.Prelude.{◌≡◌, ◌++◌, ◌<◌, min, ℕ, Bool, List, [], ◌∷◌, Some, None, true, false};
 ghost use Rattle.wtp_qpack.specs.Field.{Field};
 ghost use Rattle.wtp_webtransport.specs.Events as say;
+ghost use Rattle.wtp_webtransport.specs.declared.stream.Stream.{Stream};
 ghost use Rattle.wtp_webtransport.specs.declared.event.HeadersKind.TheVariants as headers;
 ghost use Rattle.vesgrauf.specs.declared.event.EventKind.TheVariants as event;
 ghost use Rattle.vesgrauf.specs.declared.event.Tunnel.TheVariants as tunnel;
@@ -14,15 +15,29 @@ ghost use Rattle.vesgrauf.specs.Told.{Says, Fails, Closes, Path, on, knows};
 ghost use Rattle.vesgrauf.specs.declared.event.Event.{Event as EventOf};
 ghost use Rattle.vesgrauf.specs.Halves.{Hears, Holds, NotKnown, Has, OfOwn, OfPeer, OfBoth, after, after_told, after_queued, halves_at, told_by_all};
 ghost use Rattle.vesgrauf.specs.Told.{Sound};
+ghost use Rattle.vesgrauf.specs.Instructions.{Table, Does as SaysBy, Leaves, Counts, Acknowledges, AreSaid, Turn, Turns, all_deeds, all_taken, bytes_of_all};
+ghost use Rattle.wtp_dynamic.specs.declared.acknowledgment.Acknowledgment.{Acknowledgment};
+ghost use Rattle.wtp_dynamic.specs.declared.acknowledgment.Acknowledgment.TheVariants as instruction;
+ghost use Rattle.wtp_dynamic.specs.DecoderStream.{acknowledgment_bytes};
+ghost use Rattle.wtp_dynamic.specs.Table.{insert_count};
+ghost use Rattle.wtp_dynamic_decoder.specs.Decoder.{Decoder};
+ghost use Rattle.wtp_webtransport.specs.Unacknowledged.{just_read};
 ghost use Rattle.vesgrauf.specs.Calls.{Call, Run, told_in_all, opened_in, EndsOnce, says, closes};
+ghost use Rattle.vesgrauf.specs.Cuts.{IsCut, is_read_out};
+ghost use Rattle.vesgrauf.specs.Members.{Linked};
+ghost use Rattle.vesgrauf.specs.Own.{End, Sends, entry_at, is_sent, own_in};
+ghost use Rattle.vesgrauf.specs.Theirs.{theirs_in};
+ghost use Rattle.vesgrauf.specs.declared.entry.Entry.{Entry as EntryOf};
 
 /// What events told of a stream - its field sections, each with its kind and fields, its content, and its end -, joined in
-/// their order, is what calls of the layer below, each from some state, say of the bytes that came on it, read from the
-/// first on: no byte is skipped, and none is read twice, however the bytes were cut, kept, paused and resumed. What it says
-/// of the bytes that are left is still to be told, unless the stream is read no further.
+/// their order, is what calls of the layer below say of the bytes that came on it, read from the first on: no byte is skipped,
+/// and none is read twice, however the bytes were cut, kept, paused and resumed. Each call goes on in the state in which the
+/// one before left the stream, but for an answer to its request, a session that it joins, and the like (`Moves`); with what
+/// its streams have in common a call may be made in any state. What it says of the bytes that are left is still to be told,
+/// unless the stream is read no further.
 pub fn told_is_what_came()
-    ensures { (steps : List Step) (y : Theirs) → Leads steps (Unread [] false) y
-        → IsToldOf (came steps) (ends steps) (told steps) y }
+    ensures { (steps : List Step) (s : Stream) (y : Theirs) → Leads steps (Unread [] false s) y
+        → IsToldOf (came steps) (ends steps) s (told steps) y }
 {}
 
 /// After the end of a stream nothing is told of what came on it, and the end is told once.
@@ -87,6 +102,37 @@ pub fn wrong_endings_are_refused()
     ensures failure { Path entry.NotYet (Fails ∷ []) entry.NotYet }
 {}
 
+/// In each run from the beginning what `close_session` takes for granted is so: each stream of a session is noted as one of
+/// it, and so is cut when the session ends (draft-ietf-webtrans-http3-02, section 5).
+pub fn streams_of_sessions_are_noted()
+    ensures sound { (calls : List Call) (d : Connection) → Run calls d → Sound d.streams.entries d.ids }
+    ensures noted { (calls : List Call) (d : Connection) → Run calls d → Linked d.streams.entries d.ids }
+{}
+
+/// Of a stream that is cut, and that is not read up to an end that came, the last event, `Closed`, was told or is queued, if
+/// the program was told of the stream, or opened it.
+pub fn cut_streams_are_closed()
+    ensures told { (calls : List Call) (d : Connection) → Run calls d → (id : ℕ)
+        → IsCut (entry_at d.streams.entries id) → is_read_out (entry_at d.streams.entries id) ≡ false
+        → says (on id (told_in_all calls ++ d.events.items)) ≡ true
+        → closes (on id (told_in_all calls ++ d.events.items)) ≡ true }
+    ensures opened { (calls : List Call) (d : Connection) → Run calls d → (id : ℕ)
+        → IsCut (entry_at d.streams.entries id) → is_read_out (entry_at d.streams.entries id) ≡ false
+        → opened_in id calls ≡ true
+        → closes (on id (told_in_all calls ++ d.events.items)) ≡ true }
+{}
+
+/// The definition of a stream that is cut refuses one on which more is to be sent, and, unless its end came, one that the
+/// program knows of and one that is read. It allows one that is forgotten.
+pub fn wrong_cuts_are_refused()
+    ensures sends { (e : EntryOf) (put : ℕ) (waits : List ℕ) (end : End) → own_in (Some e) ≡ Sends put waits end
+        → is_sent (Some e) ≡ false → IsCut (Some e) → ⊥ }
+    ensures known { (e : EntryOf) → e.told ≡ entry.Known → is_read_out (Some e) ≡ false → IsCut (Some e) → ⊥ }
+    ensures reads { (e : EntryOf) (bytes : List ℕ) (ended : Bool) (at : Stream) → theirs_in (Some e) ≡ Unread bytes ended at
+        → is_read_out (Some e) ≡ false → IsCut (Some e) → ⊥ }
+    ensures forgotten { IsCut None }
+{}
+
 /// Over calls of `next_event` that do not end the connection: of a stream that the program knew of before, no own half is
 /// reset or given up, and no half of the peer is left unread, unless the program is told so, or an event that says so is
 /// queued. For the own half that is `Stopped`, for the peer's `End` or `Reset`, and for both `Closed`.
@@ -110,4 +156,40 @@ pub fn wrong_halves_are_refused()
     ensures ended { Holds (after (Some OfPeer) (Has true true)) (Has true false) }
     ensures closed { Holds (after (Some OfBoth) (Has true true)) NotKnown }
     ensures unknown { (s : Bool) (r : Bool) → Holds NotKnown (Has s r) }
+{}
+
+/// What QUIC takes of the own decoder stream, and then what waits there, is what waited at first and then whole instructions, in
+/// the order of what is done: for bytes of a stream that are looked at at most one Section Acknowledgment with the ID of this
+/// stream, for a stream that is left at most one Stream Cancellation, and for insertions at most one Insert Count Increment.
+#[tactic(auto, using(crate::proofs::InstructionLemmas::turns_in_order))]
+pub fn instructions_are_sent_in_order()
+    ensures { (turns : List Turn) (t u : Table) → Turns turns t u
+        → (said : List Acknowledgment) × AreSaid (all_deeds turns) said
+        × (all_taken turns ++ u.bytes ≡ t.bytes ++ bytes_of_all said) }
+{}
+
+/// A section that was read with the own table is acknowledged once, on its stream, if its Required Insert Count is not 0;
+/// where none was read, nothing is said (RFC 9204, section 4.4.1).
+#[tactic(auto, using(crate::proofs::InstructionLemmas::acknowledged_once, crate::proofs::InstructionLemmas::unread_is_silent))]
+pub fn sections_are_acknowledged_once()
+    ensures read { (id : ℕ) (t u : Table) (a : Acknowledges id t u) (k : Decoder) (required : ℕ)
+        → a.d.decoder ≡ Some k → a.d.read ≡ Some (just_read required) → 0 < min required (insert_count k.table)
+        → (u.bytes ≡ t.bytes ++ acknowledgment_bytes (instruction.Section id)) × (u.read ≡ None) }
+    ensures unread { (id : ℕ) (t u : Table) (a : Acknowledges id t u) → a.d.read ≡ None → u.bytes ≡ t.bytes }
+{}
+
+/// The decoder stream of RFC 9204, appendix B.2 to B.4: the section of stream 4 is acknowledged, which needs the two entries
+/// that there are; the third entry is counted; and stream 8 is left. Where the own capacity is 0, or there is no table, a
+/// stream is left without a word.
+#[tactic(auto, using(crate::proofs::InstructionLemmas::row_section, crate::proofs::InstructionLemmas::row_count, crate::proofs::InstructionLemmas::row_left, crate::proofs::InstructionLemmas::silent_left, crate::proofs::InstructionLemmas::silent_without))]
+pub fn decoder_stream_of_the_standard()
+    ensures section { (t u : Table) (a : Acknowledges 4 t u) (k : Decoder) → a.d.decoder ≡ Some k
+        → a.d.read ≡ Some (just_read 2) → insert_count k.table ≡ 2 → u.bytes ≡ t.bytes ++ (0x84 ∷ []) }
+    ensures count { (t u : Table) (k : Decoder) → SaysBy Counts t u → t.decoder ≡ Some k → insert_count k.table ≡ 3
+        → k.known ≡ 2 → u.bytes ≡ t.bytes ++ (0x01 ∷ []) }
+    ensures left { (t u : Table) (k : Decoder) → SaysBy (Leaves 8) t u → t.decoder ≡ Some k → k.table.limit ≡ 220
+        → u.bytes ≡ t.bytes ++ (0x48 ∷ []) }
+    ensures no_capacity { (id : ℕ) (t u : Table) (k : Decoder) → SaysBy (Leaves id) t u → t.decoder ≡ Some k
+        → k.table.limit ≡ 0 → u.bytes ≡ t.bytes }
+    ensures no_table { (id : ℕ) (t u : Table) → SaysBy (Leaves id) t u → t.decoder ≡ None → u.bytes ≡ t.bytes }
 {}

@@ -1,14 +1,16 @@
 //! Streams that are closed.
-ghost use Rattle.std.specs.Prelude.{◌≡◌, [], false, not, OnOk};
-ghost use Rattle.vesgrauf.specs.Own.{Over, EndsOwn, is_sent, own_at};
+ghost use Rattle.std.specs.Prelude.{◌≡◌, [], true, false, not, OnOk};
+ghost use Rattle.vesgrauf.specs.Cuts.{Alone, AreCut, Asks, IsOwnOver, is_over_in, is_read_out};
+ghost use Rattle.vesgrauf.specs.Members.{DropsAt};
+ghost use Rattle.vesgrauf.specs.Own.{Over, EndsOwn, entry_at, is_sent, own_at};
 ghost use Rattle.vesgrauf.specs.Keeps.{Keeps, KeepsBut};
 ghost use Rattle.vesgrauf.specs.State.{stream_at, knows_of};
-ghost use Rattle.vesgrauf.specs.Told.{ended_at};
+ghost use Rattle.vesgrauf.specs.Told.{Sound, ended_at};
 ghost use Rattle.vesgrauf.specs.Theirs.{Gone, theirs_at};
 
 use crate::code::StreamCode;
 use crate::connection::Connection;
-use crate::entry::{Entry, Member, Peer, Told};
+use crate::entry::{Entry, Peer, Told};
 use crate::event::{Event, EventKind, Why};
 use crate::output::Output;
 use std::alloc::AllocError;
@@ -26,6 +28,8 @@ impl Connection {
     #[tactic(auto, using(crate::proofs::KeepsLemmas::keep, crate::proofs::KeepsLemmas::keeps_gone))]
     pub(super) fn shut(&mut self, id: u64, code: Code, why: Why) -> Result<(), AllocError>
         ensures keeps { Keeps [] self.old self.new }
+        ensures cut { Sound self.old.streams.entries self.old.ids
+            → OnOk result (AreCut id self.old.streams.entries self.new.streams.entries) }
         ensures gone { OnOk result (theirs_at self.new.streams.entries id ≡ Gone) }
     {
         self.end_session(id)?;
@@ -35,8 +39,10 @@ impl Connection {
     }
 
     // Tells the program that a stream is over, and why, if it knows of the stream.
+    #[tactic(auto, using(crate::proofs::KeepsLemmas::keep, crate::proofs::CutLemmas::alone))]
     pub(super) fn tell_closed(&mut self, id: u64, why: Why) -> Result<(), AllocError>
         ensures keeps { Keeps [] self.old self.new }
+        ensures alone { Alone id self.old self.new }
         ensures done { OnOk result (knows_of (stream_at self.new id) ≡ false) }
     {
         self.tell_failure(id, &why)?;
@@ -47,15 +53,21 @@ impl Connection {
     #[tactic(auto, using(crate::proofs::KeepsLemmas::keeps_unknown))]
     pub(super) fn end_left(&mut self, id: u64, code: u64) -> Result<(), AllocError>
         ensures keeps { knows_of (stream_at self.old id) ≡ false → Keeps [] self.old self.new }
+        ensures alone { Alone id self.old self.new }
+        ensures own { OnOk result (IsOwnOver (entry_at self.new.streams.entries id)) }
+        ensures asks { Asks id code self.old.outputs.items self.new.outputs.items }
         ensures gone { OnOk result (theirs_at self.new.streams.entries id ≡ Gone) }
     {
         self.end_halves(id, code)
     }
 
     // Ends both halves of a stream.
-    #[tactic(auto, using(crate::proofs::KeepsLemmas::but))]
+    #[tactic(auto, using(crate::proofs::KeepsLemmas::but, crate::proofs::CutLemmas::alone, crate::proofs::CutLemmas::stays, crate::proofs::CutLemmas::asks))]
     pub(super) fn end_halves(&mut self, id: u64, code: u64) -> Result<(), AllocError>
         ensures keeps { KeepsBut id self.old self.new }
+        ensures alone { Alone id self.old self.new }
+        ensures own { OnOk result (IsOwnOver (entry_at self.new.streams.entries id)) }
+        ensures asks { Asks id code self.old.outputs.items self.new.outputs.items }
         ensures gone { OnOk result (theirs_at self.new.streams.entries id ≡ Gone) }
     {
         self.reset_own(id, code)?;
@@ -64,17 +76,22 @@ impl Connection {
     }
 
     // Forgets a stream that is left, if both halves are over.
+    #[tactic(auto, using(crate::proofs::KeepsLemmas::keep, crate::proofs::CutLemmas::alone))]
     pub(super) fn leave(&mut self, id: u64) -> Result<(), AllocError>
         ensures keeps { Keeps [] self.old self.new }
+        ensures alone { Alone id self.old self.new }
     {
         self.cancel_left(id);
         self.remove_if_done(id)
     }
 
     // Resets the own half.
-    #[tactic(auto, using(crate::proofs::KeepsLemmas::but, crate::proofs::KeepsLemmas::keeps_ends))]
+    #[tactic(auto, using(crate::proofs::KeepsLemmas::but, crate::proofs::KeepsLemmas::keeps_ends, crate::proofs::CutLemmas::alone, crate::proofs::CutLemmas::asks))]
     pub(super) fn reset_own(&mut self, id: u64, code: u64) -> Result<(), AllocError>
         ensures keeps { KeepsBut id self.old self.new }
+        ensures alone { Alone id self.old self.new }
+        ensures own { OnOk result (IsOwnOver (entry_at self.new.streams.entries id)) }
+        ensures asks { Asks id code self.old.outputs.items self.new.outputs.items }
         ensures ends { OnOk result (EndsOwn id self.old.streams.entries self.new.streams.entries) }
     {
         if self.reset_half(id, code)? {
@@ -85,9 +102,11 @@ impl Connection {
 
     // Resets the own half of a session's own stream of which QUIC took the end: more may not come after a close of the peer
     // (draft-ietf-webtrans-http3-02, section 5).
-    #[tactic(auto, using(crate::proofs::KeepsLemmas::but))]
+    #[tactic(auto, using(crate::proofs::KeepsLemmas::but, crate::proofs::CutLemmas::alone, crate::proofs::CutLemmas::asks))]
     fn reset_session(&mut self, id: u64, code: u64) -> Result<(), AllocError>
         ensures keeps { KeepsBut id self.old self.new }
+        ensures alone { Alone id self.old self.new }
+        ensures asks { Asks id code self.old.outputs.items self.new.outputs.items }
     {
         if self.is_session(id) {
             self.reset_ended(id, code)?;
@@ -96,9 +115,12 @@ impl Connection {
     }
 
     // Resets the own half, unless nothing is to be done for it. Returns whether something was.
-    #[tactic(auto, using(crate::proofs::KeepsLemmas::but, crate::proofs::KeepsLemmas::keeps_over_own))]
+    #[tactic(auto, using(crate::proofs::KeepsLemmas::but, crate::proofs::KeepsLemmas::keeps_over_own, crate::proofs::CutLemmas::alone, crate::proofs::CutLemmas::stays, crate::proofs::CutLemmas::asks, crate::proofs::CutLemmas::own_sent, crate::proofs::CutLemmas::own_reset))]
     fn reset_half(&mut self, id: u64, code: u64) -> Result<bool, AllocError>
         ensures keeps { KeepsBut id self.old self.new }
+        ensures alone { Alone id self.old self.new }
+        ensures own { OnOk result (IsOwnOver (entry_at self.new.streams.entries id)) }
+        ensures asks { Asks id code self.old.outputs.items self.new.outputs.items }
         ensures ends { OnOk result (EndsOwn id self.old.streams.entries self.new.streams.entries) }
     {
         if !self.has_own(id) {
@@ -120,9 +142,11 @@ impl Connection {
     }
 
     // Resets the own half, if it may be.
-    #[tactic(auto, using(crate::proofs::KeepsLemmas::keep, crate::proofs::KeepsLemmas::keeps_but_set, crate::proofs::OwnLemmas::own_set, std::proofs::lemmas::Map::Steps::set_value_same))]
+    #[tactic(auto, using(crate::proofs::KeepsLemmas::keep, crate::proofs::KeepsLemmas::keeps_but_set, crate::proofs::CutLemmas::alone, crate::proofs::CutLemmas::alone_over, crate::proofs::CutLemmas::asks, crate::proofs::CutLemmas::asks_reset, crate::proofs::OwnLemmas::own_set, std::proofs::lemmas::Map::Steps::set_value_same))]
     fn reset_writing(&mut self, id: u64, code: u64) -> Result<(), AllocError>
         ensures keeps { KeepsBut id self.old self.new }
+        ensures alone { Alone id self.old self.new }
+        ensures asks { Asks id code self.old.outputs.items self.new.outputs.items }
         ensures over { OnOk result (own_at self.new.streams.entries id ≡ Over) }
     {
         let Some(entry) = self.streams.get_mut(&id) else {
@@ -139,8 +163,12 @@ impl Connection {
     }
 
     // Nothing more is sent on the own half of a stream. A request on it is refused.
+    #[tactic(auto, using(crate::proofs::KeepsLemmas::keep, crate::proofs::CutLemmas::alone, crate::proofs::CutLemmas::read_set, crate::proofs::KeepsLemmas::keeps_turned))]
     pub(super) fn leave_order(&mut self, id: u64)
         ensures keeps { Keeps [] self.old self.new }
+        ensures alone { Alone id self.old self.new }
+        ensures read { is_read_out (stream_at self.new id) ≡ is_read_out (stream_at self.old id) }
+        ensures outputs { self.new.outputs ≡ self.old.outputs }
     {
         let Some(entry) = self.streams.get_mut(&id) else {
             return;
@@ -152,9 +180,11 @@ impl Connection {
 
     // Resets an own half of which QUIC took the end, unless all of it is acknowledged: QUIC may still send some of it (RFC
     // 9000, section 3.5). Returns whether it is reset.
-    #[tactic(auto, using(crate::proofs::KeepsLemmas::but))]
+    #[tactic(auto, using(crate::proofs::KeepsLemmas::but, crate::proofs::CutLemmas::alone, crate::proofs::CutLemmas::asks))]
     pub(super) fn reset_ended(&mut self, id: u64, code: u64) -> Result<(), AllocError>
         ensures keeps { KeepsBut id self.old self.new }
+        ensures alone { Alone id self.old self.new }
+        ensures asks { Asks id code self.old.outputs.items self.new.outputs.items }
     {
         if !self.may_reset_ended(id) {
             return Ok(());
@@ -174,6 +204,7 @@ impl Connection {
 
     // Resets the own half, as the peer asks or since its session is over. The program is told so, if it knows of the
     // stream. Without memory nothing changes.
+    #[tactic(auto, using(crate::proofs::KeepsLemmas::keep, crate::proofs::KeepsLemmas::keeps_over_own, crate::proofs::CutLemmas::alone, crate::proofs::CutLemmas::asks))]
     pub(super) fn stop_own(
         &mut self,
         id: u64,
@@ -181,6 +212,10 @@ impl Connection {
         shown: StreamCode,
     ) -> Result<(), AllocError>
         ensures keeps { Keeps [] self.old self.new }
+        ensures alone { Alone id self.old self.new }
+        ensures over { OnOk result (own_at self.new.streams.entries id ≡ Over) }
+        ensures read { is_read_out (stream_at self.new id) ≡ is_read_out (stream_at self.old id) }
+        ensures asks { Asks id code self.old.outputs.items self.new.outputs.items }
     {
         self.tell_stopped(id, code, shown)?;
         self.leave_order(id);
@@ -189,7 +224,7 @@ impl Connection {
     }
 
     // Resets the own half, and tells the program so, if it knows of the stream.
-    #[tactic(auto, using(crate::proofs::KeepsLemmas::keep, crate::proofs::KeepsLemmas::keeps_stopped))]
+    #[tactic(auto, using(crate::proofs::KeepsLemmas::keep, crate::proofs::KeepsLemmas::keeps_stopped, crate::proofs::CutLemmas::alone, crate::proofs::CutLemmas::alone_over, crate::proofs::CutLemmas::asks, crate::proofs::CutLemmas::asks_reset, crate::proofs::CutLemmas::asks_popped, crate::proofs::CutLemmas::read_set, crate::proofs::OwnLemmas::own_set))]
     pub(super) fn tell_stopped(
         &mut self,
         id: u64,
@@ -197,6 +232,10 @@ impl Connection {
         shown: StreamCode,
     ) -> Result<(), AllocError>
         ensures keeps { Keeps [] self.old self.new }
+        ensures alone { Alone id self.old self.new }
+        ensures over { OnOk result (own_at self.new.streams.entries id ≡ Over) }
+        ensures read { is_read_out (stream_at self.new id) ≡ is_read_out (stream_at self.old id) }
+        ensures asks { Asks id code self.old.outputs.items self.new.outputs.items }
     {
         let Some(entry) = self.streams.get_mut(&id) else {
             return Ok(());
@@ -257,14 +296,18 @@ impl Connection {
         Ok(is_lost)
     }
 
-    // Ends the own half after what is queued, if a message may end there. Without memory it has its place in the order of
-    // sending from the next step on.
+    // Ends the own half of a CONNECT after what is queued, if the message may end there. Without memory it has its place in the
+    // order of sending from the next step on.
+    #[tactic(auto, using(crate::proofs::KeepsLemmas::keep, crate::proofs::KeepsLemmas::keeps_finished))]
     pub(super) fn end_own(&mut self, id: u64)
         ensures keeps { Keeps [] self.old self.new }
     {
         let Some(entry) = self.streams.get_mut(&id) else {
             return;
         };
+        if !entry.writing.is_connect() {
+            return;
+        }
         if entry.may_send() && !entry.writing.is_ended() {
             if self.ready.insert(id, entry.kind()).is_err() {
                 self.pending.unplaced = Some(id);
@@ -292,9 +335,11 @@ impl Connection {
     }
 
     // Tells the program that a stream is over, if it knows of the stream.
-    #[tactic(auto, using(crate::proofs::KeepsLemmas::keeps_refl, crate::proofs::KeepsLemmas::keeps_over, crate::proofs::KeepsLemmas::keeps_closed, crate::proofs::KeepsLemmas::ended_unknown))]
+    #[tactic(auto, using(crate::proofs::KeepsLemmas::keeps_refl, crate::proofs::KeepsLemmas::keeps_over, crate::proofs::KeepsLemmas::keeps_closed, crate::proofs::KeepsLemmas::ended_unknown, crate::proofs::CutLemmas::alone_refl, crate::proofs::CutLemmas::alone_ended, crate::proofs::CutLemmas::ended_over))]
     pub(super) fn closed(&mut self, id: u64, why: Why) -> Result<(), AllocError>
         ensures keeps { Keeps [] self.old self.new }
+        ensures alone { Alone id self.old self.new }
+        ensures over { OnOk result (is_over_in (entry_at self.new.streams.entries id) ≡ true) }
         ensures done { OnOk result (knows_of (stream_at self.new id) ≡ false) }
         ensures outputs { self.new.outputs ≡ self.old.outputs }
         ensures closes { self.new.closes ≡ self.old.closes }
@@ -350,8 +395,10 @@ impl Connection {
     }
 
     // Forgets a stream of which both halves are over.
+    #[tactic(auto, using(crate::proofs::KeepsLemmas::keep, crate::proofs::CutLemmas::alone))]
     pub(super) fn remove_if_done(&mut self, id: u64) -> Result<(), AllocError>
         ensures keeps { Keeps [] self.old self.new }
+        ensures alone { Alone id self.old self.new }
         ensures outputs { self.new.outputs ≡ self.old.outputs }
         ensures closes { self.new.closes ≡ self.old.closes }
     {
@@ -374,8 +421,10 @@ impl Connection {
     }
 
     // Forgets a stream.
+    #[tactic(auto, using(crate::proofs::KeepsLemmas::keep, crate::proofs::CutLemmas::alone, crate::proofs::CutLemmas::alone_removed))]
     pub(super) fn remove(&mut self, id: u64)
         ensures keeps { knows_of (stream_at self.old id) ≡ false → Keeps [] self.old self.new }
+        ensures alone { Alone id self.old self.new }
         ensures outputs { self.new.outputs ≡ self.old.outputs }
         ensures closes { self.new.closes ≡ self.old.closes }
     {
@@ -386,9 +435,10 @@ impl Connection {
     }
 
     // Forgets what is noted of a stream that was removed.
+    #[tactic(auto, using(crate::proofs::MemberLemmas::drops_refl, crate::proofs::MemberLemmas::drops_at))]
     fn forget(&mut self, id: u64, entry: &Entry)
         ensures streams { self.new.streams ≡ self.old.streams }
-        ensures ids { self.new.ids ≡ self.old.ids }
+        ensures ids { DropsAt id self.old.ids self.new.ids }
         ensures events { self.new.events ≡ self.old.events }
         ensures config { self.new.config ≡ self.old.config }
         ensures ended { self.new.ended ≡ self.old.ended }
@@ -402,7 +452,7 @@ impl Connection {
             self.sessions = self.sessions.saturating_sub(1);
         }
         if let Some(session) = entry.session {
-            self.members.remove(&Member { session, id });
+            self.ids.forget(session, id);
         }
         self.ready.remove(id, entry.kind());
         self.waiting.remove(&id);

@@ -1,7 +1,8 @@
 //! The own control stream, and the end of the connection.
 ghost use Rattle.std.specs.Prelude.{◌≡◌, ◌++◌, false, Some, length, option_map, IfOk, OnOk, OnErr, IfErr, []};
 ghost use Rattle.vesgrauf.specs.Keeps.{Keeps};
-ghost use Rattle.vesgrauf.specs.State.{is_over, next_output, stream_at, view_of, with_begun, EndsUnless, IsAfterEnd, IsStill, ShutsDown, RefusesGoaway, goaway_for as goaway_is};
+ghost use Rattle.vesgrauf.specs.State.{is_over, next_output, stream_at, view_of, with_begun, EndsUnless, IsAfterEnd, IsStill};
+ghost use Rattle.vesgrauf.specs.Leaving.{ShutsDown, RefusesGoaway, goaway_for as goaway_is};
 ghost use Rattle.vesgrauf.specs.declared.output.Output.TheVariants as output;
 ghost use Rattle.vesgrauf_queue.specs.State.{counted, waiting};
 ghost use Rattle.vesgrauf.specs.Config.{announced};

@@ -1,28 +1,37 @@
 //! Sessions that end, and their streams.
-ghost use Rattle.std.specs.Prelude.{[]};
+ghost use Rattle.std.specs.Prelude.{◌≡◌, false, true, OnOk, []};
+ghost use Rattle.vesgrauf.specs.Cuts.{Alone, AreCut, Asks, IsCut, IsOwnOver, MembersCut, is_read_out as is_read_out_in};
 ghost use Rattle.vesgrauf.specs.Keeps.{Keeps};
+ghost use Rattle.vesgrauf.specs.Own.{entry_at};
+ghost use Rattle.vesgrauf.specs.State.{stream_at};
+ghost use Rattle.vesgrauf.specs.Told.{Sound};
 
 use crate::code::StreamCode;
 use crate::connection::Connection;
-use crate::entry::{Member, Peer};
+use crate::entry::Peer;
 use crate::event::Why;
 use std::alloc::AllocError;
 use wtp_core::error::Code;
 
 #[tactic(auto, using(crate::proofs::KeepsLemmas::keep))]
 impl Connection {
-    // Ends the session whose own stream this is, if it is one: its streams are closed (draft-ietf-webtrans-http3-02,
-    // section 5).
+    // Ends the session whose own stream this is, if it is one: its streams are cut (draft-ietf-webtrans-http3-02, section
+    // 5).
+    #[tactic(auto, using(crate::proofs::KeepsLemmas::keep, crate::proofs::CutLemmas::cut_linked))]
     pub(super) fn end_session(&mut self, session: u64) -> Result<(), AllocError>
         ensures keeps { Keeps [] self.old self.new }
+        ensures cut { Sound self.old.streams.entries self.old.ids
+            → OnOk result (AreCut session self.old.streams.entries self.new.streams.entries) }
     {
         self.lose_own(session)?;
         self.cut_all(session)
     }
 
     // If this is the own stream of a session, there is none any more: its datagrams are dropped.
+    #[tactic(auto, using(crate::proofs::KeepsLemmas::keep, crate::proofs::CutLemmas::alone))]
     fn lose_own(&mut self, session: u64) -> Result<(), AllocError>
         ensures keeps { Keeps [] self.old self.new }
+        ensures alone { Alone session self.old self.new }
     {
         let Some(entry) = self.streams.get(&session) else {
             return Ok(());
@@ -37,43 +46,39 @@ impl Connection {
     }
 
     // This stream has no session any more.
+    #[tactic(auto, using(crate::proofs::KeepsLemmas::keep, crate::proofs::CutLemmas::alone))]
     fn note_over(&mut self, session: u64)
         ensures keeps { Keeps [] self.old self.new }
+        ensures alone { Alone session self.old self.new }
     {
         if let Some(entry) = self.streams.get_mut(&session) {
             entry.has_session = false;
         }
     }
 
-    // Closes the streams of a session that is over.
+    // Cuts the streams of a session that is over. Without memory for one, all are when it is ended again.
+    #[tactic(auto, using(crate::proofs::KeepsLemmas::keep, crate::proofs::CutLemmas::cutting_first, crate::proofs::CutLemmas::cutting_next, crate::proofs::CutLemmas::cutting_last))]
     fn cut_all(&mut self, session: u64) -> Result<(), AllocError>
         ensures keeps { Keeps [] self.old self.new }
+        ensures cut { OnOk result (MembersCut session self.old.ids self.new.streams.entries) }
     {
-        for _stream in 0..self.members.len() {
-            let Some(member) = self.first_member(session) else {
-                break;
-            };
-            // (one that is not closed for want of memory is among them still)
-            self.cut(member.id)?;
-            self.members.remove(&member);
+        let mut next = self.ids.first_member(session);
+        'members: while let Some(id) = next {
+            self.cut(id)?;
+            next = self.ids.member_after(session, id);
         }
         self.wake();
         Ok(())
     }
 
-    // Returns the first stream of a session.
-    fn first_member(&self, session: u64) -> Option<Member> {
-        let first = Member { session, id: 0 };
-        match self.members.range(first..).next() {
-            Some(member) if member.session == session => Some(*member),
-            _ => None,
-        }
-    }
-
     // Closes a stream whose session is over. One whose end came is read to its end; the program is told that the own half is
     // reset.
+    #[tactic(auto, using(crate::proofs::KeepsLemmas::keep, crate::proofs::KeepsLemmas::keeps_gone, crate::proofs::CutLemmas::alone, crate::proofs::CutLemmas::stays, crate::proofs::CutLemmas::asks, crate::proofs::CutLemmas::cut_shut, crate::proofs::CutLemmas::cut_read))]
     fn cut(&mut self, id: u64) -> Result<(), AllocError>
         ensures keeps { Keeps [] self.old self.new }
+        ensures alone { Alone id self.old self.new }
+        ensures cut { OnOk result (IsCut (entry_at self.new.streams.entries id)) }
+        ensures asks { Asks id 0x170d7b68 self.old.outputs.items self.new.outputs.items }
     {
         let gone = Code::WEBTRANSPORT_SESSION_GONE;
         if self.is_read_out(id) {
@@ -85,8 +90,13 @@ impl Connection {
     }
 
     // Resets the own half of a stream whose session is over, if it is still to be sent, or its end to be taken.
+    #[tactic(auto, using(crate::proofs::KeepsLemmas::keep, crate::proofs::CutLemmas::alone, crate::proofs::CutLemmas::stays, crate::proofs::CutLemmas::asks, crate::proofs::CutLemmas::own_reset))]
     fn cut_own(&mut self, id: u64, gone: Code) -> Result<(), AllocError>
         ensures keeps { Keeps [] self.old self.new }
+        ensures alone { Alone id self.old self.new }
+        ensures own { OnOk result (IsOwnOver (entry_at self.new.streams.entries id)) }
+        ensures read { is_read_out_in (stream_at self.new id) ≡ is_read_out_in (stream_at self.old id) }
+        ensures asks { Asks id gone self.old.outputs.items self.new.outputs.items }
     {
         if !self.is_to_reset(id) {
             return Ok(());
@@ -95,7 +105,10 @@ impl Connection {
     }
 
     // Returns whether the own half of a stream is still to be sent, or its end to be taken.
-    fn is_to_reset(&self, id: u64) -> bool {
+    #[tactic(auto, using(crate::proofs::CutLemmas::own_sent, crate::proofs::CutLemmas::own_was_reset))]
+    fn is_to_reset(&self, id: u64) -> bool
+        ensures { result ≡ false → IsOwnOver (stream_at self.now id) }
+    {
         match self.streams.get(&id) {
             Some(entry) => {
                 let was_reset = entry.writing.is_ended() && !entry.writing.is_finished();
@@ -106,7 +119,9 @@ impl Connection {
     }
 
     // Returns whether the end of a stream came that is still read.
-    fn is_read_out(&self, id: u64) -> bool {
+    fn is_read_out(&self, id: u64) -> bool
+        ensures { result ≡ is_read_out_in (stream_at self.now id) }
+    {
         match self.streams.get(&id) {
             Some(entry) => entry.peer == Peer::Reads && entry.is_ended,
             None => false,

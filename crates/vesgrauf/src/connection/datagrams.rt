@@ -1,7 +1,8 @@
 //! Datagrams (RFC 9297).
 ghost use Rattle.std.specs.Prelude.{◌≡◌, ◌≤◌, ◌+◌, ◌-◌, ◌++◌, [], Ok, Some, MatchOption, OnOk, IfOk, IfSome, OnErr, IfErr, List, ℕ, length, option_map};
 ghost use Rattle.vesgrauf.specs.Keeps.{Keeps};
-ghost use Rattle.vesgrauf.specs.State.{Adds, head, open_session, HeadOf, KeepsDatagrams, KeepsOthers, SendsDatagram};
+ghost use Rattle.vesgrauf.specs.State.{head, open_session};
+ghost use Rattle.vesgrauf.specs.Datagrams.{Adds, HeadOf, KeepsDatagrams, KeepsOthers, SendsDatagram};
 ghost use Rattle.vesgrauf.specs.Bounds.{DatagramsFit};
 ghost use Rattle.vesgrauf.specs.Order.{TakesFirst};
 ghost use Rattle.vesgrauf.specs.Own.{Untouched};
@@ -210,6 +211,7 @@ impl Connection {
     // 9297, section 2.1).
     pub(super) fn drop_datagrams(&mut self, session: u64) -> Result<(), AllocError>
         ensures keeps { Keeps [] self.old self.new }
+        ensures others { self.new ≡ record self.old { events = self.new.events; datagrams = self.new.datagrams } }
     {
         self.datagrams
             .queue
@@ -223,6 +225,7 @@ impl Connection {
     fn tell_room(&mut self, left: usize) -> Result<(), AllocError>
         ensures queue { self.new.datagrams.queue ≡ self.old.datagrams.queue }
         ensures keeps { Keeps [] self.old self.new }
+        ensures others { self.new ≡ record self.old { events = self.new.events; datagrams = self.new.datagrams } }
     {
         if self.ended.is_some() || !self.datagrams.is_owed {
             return Ok(());

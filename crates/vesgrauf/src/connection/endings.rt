@@ -46,6 +46,7 @@ impl Connection {
     }
 
     // The peer's half is reset. Returns what the stream says, or `None` if there is none.
+    #[tactic(auto, using(crate::proofs::KeepsLemmas::keep, crate::proofs::KeepsLemmas::keeps_turned))]
     fn note_reset(&mut self, id: u64, is_rejected: bool) -> Option<Said<'static>>
         ensures keeps { Keeps [] self.old self.new }
     {
@@ -169,6 +170,7 @@ impl Connection {
     }
 
     // The own half of a stream is stopped. Returns what the stream says, or `None` if there is none.
+    #[tactic(auto, using(crate::proofs::KeepsLemmas::keep, crate::proofs::KeepsLemmas::keeps_turned))]
     fn note_stop(&mut self, id: u64, code: u64) -> Option<Said<'static>>
         ensures keeps { Keeps [] self.old self.new }
     {
@@ -353,7 +355,7 @@ impl Connection {
     }
 
     // Ends the connection by an error.
-    #[tactic(auto, using(crate::proofs::KeepsLemmas::kept, crate::proofs::GoesLemmas::goes_filtered))]
+    #[tactic(auto, using(crate::proofs::KeepsLemmas::kept, crate::proofs::GoesSteps::goes_filtered))]
     pub(super) fn break_off(&mut self, code: u64)
         ensures end { EndsUnless (is_over self.old) code self.old self.new }
         ensures after { is_over self.old ≡ false → IsAfterEnd self.new }

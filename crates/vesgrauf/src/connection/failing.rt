@@ -61,6 +61,8 @@ impl Connection {
     #[tactic(auto, using(crate::proofs::KeepsLemmas::keep, crate::proofs::KeepsLemmas::keeps_at_end))]
     pub(super) fn fail(&mut self, stream: Option<u64>, code: u64, fault: Option<Fault>)
         ensures keeps { Keeps [] self.old self.new }
+        ensures streams { self.new.streams.entries ≡ self.old.streams.entries }
+        ensures ids { self.new.ids ≡ self.old.ids }
         ensures over { is_over self.new ≡ true }
     {
         if let Some(fault) = fault {
@@ -79,9 +81,10 @@ impl Connection {
 
     // Tells of the rule that the peer violated on a stream, if the program is to know of it: nothing follows the last event
     // of a stream.
-    #[tactic(auto, using(crate::proofs::KeepsLemmas::keep, crate::proofs::GoesLemmas::goes_failed))]
+    #[tactic(auto, using(crate::proofs::KeepsLemmas::keep, crate::proofs::GoesSteps::goes_failed))]
     pub(super) fn tell_failure(&mut self, id: u64, why: &Why) -> Result<(), AllocError>
         ensures keeps { Keeps [] self.old self.new }
+        ensures others { self.new ≡ record self.old { events = self.new.events } }
     {
         let Some(rule) = rule_of(why) else {
             return Ok(());

@@ -189,7 +189,7 @@ impl Connection {
     {
         match joining {
             Joining::Joined(session) => {
-                self.joined(id, session);
+                self.joined(id, session)?;
                 self.tell_stop(id)?;
                 Ok(self.tell(id, EventKind::NewStream(StreamKind::of(id))))
             }
@@ -299,6 +299,7 @@ impl Connection {
     }
 
     // Rejects a request, if its ID says so.
+    #[tactic(auto, using(crate::proofs::KeepsLemmas::keep, crate::proofs::KeepsLemmas::keeps_turned))]
     fn reject_half(&mut self, id: u64, first: Option<u64>) -> Joining
         ensures keeps { Keeps [] self.old self.new }
     {

@@ -1,12 +1,19 @@
-//! The IDs of streams (RFC 9000, section 2.1).
+//! The IDs of streams (RFC 9000, section 2.1), and of which sessions they are.
+ghost use Rattle.std.specs.Prelude.{◌≡◌, None, Some};
+ghost use Rattle.vesgrauf.specs.Members.{IsFirstNoted, id_of_session};
+
+use crate::entry::Member;
 use crate::output::StreamKind;
+use std::alloc::{AllocError, Global};
+use std::collections::BTreeSet;
+use std::ops::Bound;
 use wtp_frames::endpoint::Side;
 
 /// The first number that is no stream ID.
 const END: u64 = 1 << 62;
 
-/// The next streams of each kind.
-#[derive(Clone, Copy)]
+/// The next streams of each kind, and the streams of sessions.
+#[derive(Drop)]
 pub(crate) struct Ids {
     pub(crate) side: Side,
     /// Own ones.
@@ -21,14 +28,17 @@ pub(crate) struct Ids {
     /// The peer's.
     pub(crate) peer_bidirectional: u64,
     pub(crate) peer_unidirectional: u64,
+    /// The streams of sessions.
+    members: BTreeSet<Member>,
 }
 
 impl Ids {
-    ghost use Rattle.std.specs.Prelude.{◌≡◌, ◌<◌, ◌≤◌, ◌^◌, ◌%◌, ◌==◌, ◌&&◌, nat_lt, min, true, false, MatchOption, if◌then◌else◌};
+    ghost use Rattle.std.specs.Prelude.{◌≡◌, ◌<◌, ◌≤◌, ◌^◌, ◌%◌, ◌==◌, ◌&&◌, nat_lt, min, true, false, None, Some, MatchOption, MatchResult, if◌then◌else◌};
+    ghost use Rattle.vesgrauf.specs.Members.{IsNextMember, Notes, Drops, is_member as is_member_is};
     ghost use Rattle.vesgrauf.specs.Ids.{IsFirst, own_bit, kind_of, opens, next_own, unopened, next_peer, to_open, taken, opened, seen, was as was_is, blocked as blocked_is, count_unopened as count_unopened_is};
 
     // Creates those of a connection without streams.
-    pub(crate) fn new(side: Side) -> Self
+    pub(crate) fn new(alloc: Global, side: Side) -> Self
         ensures { IsFirst side result }
     {
         let (own, peer) = match side {
@@ -45,6 +55,7 @@ impl Ids {
             blocks_unidirectional: false,
             peer_bidirectional: peer,
             peer_unidirectional: peer + 2,
+            members: BTreeSet::new(alloc),
         }
     }
 
@@ -214,5 +225,77 @@ impl Ids {
         ensures { result ≡ self.now.peer_bidirectional }
     {
         self.peer_bidirectional
+    }
+
+    // Notes a stream as one of a session.
+    pub(crate) fn note(&mut self, session: u64, id: u64) -> Result<(), AllocError>
+        ensures { MatchResult result (λ _. Notes session id self.old self.new) (λ _. self.new ≡ self.old) }
+    {
+        match self.members.insert(Member { session, id }) {
+            Ok(_) => Ok(()),
+            Err(_) => Err(AllocError),
+        }
+    }
+
+    // A stream of a session is forgotten.
+    pub(crate) fn forget(&mut self, session: u64, id: u64)
+        ensures { Drops session id self.old self.new }
+    {
+        self.members.remove(&Member { session, id });
+    }
+
+    // Returns whether a stream is noted as one of this session.
+    pub(crate) fn is_member(&self, session: u64, id: u64) -> bool
+        ensures { result ≡ is_member_is self.now session id }
+    {
+        self.members.contains(&Member { session, id })
+    }
+
+    // Returns how many streams of sessions there are.
+    pub(crate) fn count_members(&self) -> usize {
+        self.members.len()
+    }
+
+    // Returns the first stream of a session.
+    pub(crate) fn first_member(&self, session: u64) -> Option<u64>
+        ensures { IsNextMember self.now session None result }
+    {
+        of_session(session, first_from(&self.members, session))
+    }
+
+    // Returns the first stream of a session whose ID is above this.
+    pub(crate) fn member_after(&self, session: u64, id: u64) -> Option<u64>
+        ensures { IsNextMember self.now session (Some id) result }
+    {
+        of_session(session, first_after(&self.members, session, id))
+    }
+}
+
+// Returns the first stream of this session, or of one after it.
+fn first_from(members: &BTreeSet<Member>, session: u64) -> Option<Member>
+    ensures { IsFirstNoted members.now.keys session None result }
+{
+    let first = Member { session, id: 0 };
+    members.range(first..).next().copied()
+}
+
+// Returns the first stream of this session whose ID is above this, or of a session after it.
+fn first_after(members: &BTreeSet<Member>, session: u64, id: u64) -> Option<Member>
+    ensures { IsFirstNoted members.now.keys session (Some id) result }
+{
+    let last = Member { session, id };
+    members
+        .range((Bound::Excluded(last), Bound::Unbounded))
+        .next()
+        .copied()
+}
+
+// Returns the stream, if it is one of this session.
+fn of_session(session: u64, member: Option<Member>) -> Option<u64>
+    ensures { result ≡ id_of_session session member }
+{
+    match member {
+        Some(member) if member.session == session => Some(member.id),
+        _ => None,
     }
 }

@@ -1,6 +1,7 @@
 //! The end of a connection in steps.
 ghost use Rattle.std.specs.Prelude.{◌≡◌, ◌<◌, ◌≤◌, ℕ, [], Ok, None, IfSome, OnOk, MatchOption, true, false};
-ghost use Rattle.vesgrauf.specs.State.{is_over, open_session, stream_at, EndsUnless, ShutsDown};
+ghost use Rattle.vesgrauf.specs.State.{is_over, open_session, stream_at, EndsUnless};
+ghost use Rattle.vesgrauf.specs.Leaving.{ShutsDown};
 ghost use Rattle.vesgrauf.specs.Theirs.{Left};
 ghost use Rattle.vesgrauf.specs.Order.{IsFirstOpen};
 ghost use Rattle.vesgrauf.specs.declared.output.Shutdown.TheVariants as shutdown;

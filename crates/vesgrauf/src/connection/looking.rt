@@ -1,55 +1,109 @@
 //! What is found next in the bytes of a stream.
-ghost use Rattle.std.specs.Prelude.{◌≡◌, ℕ, false, true, [], Ok, None, IfOk};
+ghost use Rattle.std.specs.Prelude.{◌≡◌, ◌≤◌, ℕ, false, true, [], length, Ok, None, IfOk, IfErr};
 ghost use Rattle.vesgrauf.specs.Bounds.{KeepsFit};
 ghost use Rattle.vesgrauf.specs.Items.{items_found, items_if};
 ghost use Rattle.vesgrauf.specs.Theirs.{IsRead, with_chunk, theirs_of};
+ghost use Rattle.vesgrauf.specs.Instructions.{Table, Acknowledges, HearsAndSays, MayAcknowledge, table_by, is_found_piece};
+ghost use Rattle.vesgrauf.specs.declared.connection.Stop.TheVariants as stop;
 ghost use Rattle.vesgrauf.specs.declared.entry.Peer.TheVariants as peer;
+ghost use Rattle.vesgrauf_stream.specs.Reading.{IsUntouched, kept_of};
 
+use crate::connection::Stop;
 use crate::connection::failing::is_failure;
 use crate::connection::heard::says_items;
 use crate::entry::Entry;
-use std::alloc::{AllocError, Global};
+use std::alloc::Global;
 use vesgrauf_stream::bytes::Chunk;
 use vesgrauf_stream::heard::Heard;
 use vesgrauf_stream::reading::Found;
+use wtp_core::error::Code;
 use wtp_webtransport::connection::Connection as Shared;
 use wtp_webtransport::fields::Fields;
 
 impl Entry {
-    // Returns what is found next in the bytes that are kept and those of the input. Of a stream that is not read nothing
-    // is.
-    #[tactic(auto, using(crate::proofs::ReadsLemmas::looked, crate::proofs::ReadsLemmas::not_looked, crate::proofs::BoundLemmas::shrunk_keeps))]
-    pub(super) fn look<'a>(
+    // Returns what is heard next on the stream with this ID, in the bytes that are kept and those of the input. The section
+    // that was read with the own table is acknowledged: without memory for it, what the section says would be lost. A piece
+    // of content has none.
+    #[tactic(auto, using(crate::proofs::InstructionLemmas::hears_said, crate::proofs::InstructionLemmas::hears_piece))]
+    fn hear<'a>(
         &mut self,
+        id: u64,
         alloc: Global,
         shared: &mut Shared,
         fields: &mut Fields,
+        told: &mut Vec<u8>,
         chunk: &mut Chunk<'a>,
-    ) -> Result<Found<'a>, AllocError>
+    ) -> Result<Found<'a>, Stop>
+        ensures ok { IfOk result (λ found. HearsAndSays id fields.old.limit shared.old self.old.reading chunk.old
+            told.old.items found shared.new self.new.reading chunk.new told.new.items) }
+        ensures memory { IfErr result (λ e. e ≡ stop.Memory → IsUntouched shared.old self.old.reading chunk.old
+            shared.new self.new.reading chunk.new × (told.new.items ≡ told.old.items)) }
+        ensures others { self.new ≡ record self.old { reading = self.new.reading } }
+        ensures shrinks { length (kept_of self.new.reading) ≤ length (kept_of self.old.reading) }
+    {
+        let found = match self.reading.next(alloc, shared, fields, chunk) {
+            Ok(found) => found,
+            Err(_) => return Err(Stop::Memory),
+        };
+        if is_piece(&found) {
+            return Ok(found);
+        }
+        match shared.acknowledge(id, told) {
+            Ok(()) => Ok(found),
+            Err(_) => Err(Stop::Broken(Code::H3_INTERNAL_ERROR.number().into_inner(), None)),
+        }
+    }
+
+    // Returns what is found next in the bytes that are kept and those of the input. Of a stream that is not read nothing
+    // is.
+    #[tactic(auto, using(crate::proofs::InstructionLemmas::looked_and_said, crate::proofs::InstructionLemmas::acknowledges, crate::proofs::InstructionLemmas::may_rest, crate::proofs::LookLemmas::not_looked, crate::proofs::BoundLemmas::shrunk_keeps))]
+    pub(super) fn look<'a>(
+        &mut self,
+        id: u64,
+        alloc: Global,
+        shared: &mut Shared,
+        fields: &mut Fields,
+        told: &mut Vec<u8>,
+        chunk: &mut Chunk<'a>,
+    ) -> Result<Found<'a>, Stop>
         ensures own { self.new.writing ≡ self.old.writing }
+        ensures table { IfOk result (λ found. MayAcknowledge id (table_by shared.old told.old.items)
+            (table_by shared.new told.new.items)) }
+        ensures memory { IfErr result (λ e. e ≡ stop.Memory
+            → table_by shared.new told.new.items ≡ table_by shared.old told.old.items) }
         ensures reads { IfOk result (λ found. IsRead (with_chunk (theirs_of self.old) chunk.old) (items_found found)
             (with_chunk (theirs_of self.new) chunk.new)) }
         ensures told { self.new.told ≡ self.old.told }
+        ensures session { self.new.session ≡ self.old.session }
         ensures read { (self.new.peer ≡ self.old.peer) × (self.new.is_decoder ≡ self.old.is_decoder) }
         ensures fits { KeepsFit (theirs_of self.old) (theirs_of self.new) }
     {
         if !self.is_read() {
             return Ok(Found::Again);
         }
-        let found = self.reading.next(alloc, shared, fields, chunk)?;
-        Ok(said_of(self.is_decoder, found))
+        match self.hear(id, alloc, shared, fields, told, chunk) {
+            Ok(found) => Ok(said_of(self.is_decoder, found)),
+            Err(stop) => Err(stop),
+        }
     }
 
     // Returns what is found in the bytes of the input, if the stream is read, nothing of it is kept, its end did not come,
     // and it waits for nothing.
-    #[tactic(auto, using(crate::proofs::ReadsLemmas::looked_plain, crate::proofs::ReadsLemmas::not_looked, crate::proofs::BoundLemmas::shrunk_keeps))]
+    #[tactic(auto, using(crate::proofs::InstructionLemmas::looked_and_said_plain, crate::proofs::InstructionLemmas::acknowledges, crate::proofs::InstructionLemmas::may_rest, crate::proofs::LookLemmas::not_looked, crate::proofs::BoundLemmas::shrunk_keeps))]
     pub(super) fn look_plain<'a>(
         &mut self,
+        id: u64,
         alloc: Global,
         shared: &mut Shared,
         fields: &mut Fields,
+        told: &mut Vec<u8>,
         chunk: &mut Chunk<'a>,
-    ) -> Result<Option<Found<'a>>, AllocError>
+    ) -> Result<Option<Found<'a>>, Stop>
+        ensures table { IfOk result (λ found. MayAcknowledge id (table_by shared.old told.old.items)
+            (table_by shared.new told.new.items)) }
+        ensures memory { IfErr result (λ e. e ≡ stop.Memory
+            → table_by shared.new told.new.items ≡ table_by shared.old told.old.items) }
+        ensures bytes { result ≡ Ok None → told.new.items ≡ told.old.items }
         ensures own { self.new.writing ≡ self.old.writing }
         ensures reads { IfOk result (λ found. IsRead (with_chunk (theirs_of self.old) chunk.old) (items_if found)
             (with_chunk (theirs_of self.new) chunk.new)) }
@@ -58,6 +112,7 @@ impl Entry {
         ensures fields { result ≡ Ok None → fields.new ≡ fields.old }
         ensures none { result ≡ Ok None → chunk.new ≡ chunk.old }
         ensures told { self.new.told ≡ self.old.told }
+        ensures session { self.new.session ≡ self.old.session }
         ensures read { (self.new.peer ≡ self.old.peer) × (self.new.is_decoder ≡ self.old.is_decoder) }
         ensures fits { KeepsFit (theirs_of self.old) (theirs_of self.new) }
     {
@@ -65,9 +120,13 @@ impl Entry {
             return Ok(None);
         }
         let len = chunk.len();
-        let found = self.reading.next(alloc, shared, fields, chunk)?;
-        self.count_read(&found, len.saturating_sub(chunk.len()));
-        Ok(Some(found))
+        match self.hear(id, alloc, shared, fields, told, chunk) {
+            Ok(found) => {
+                self.count_read(&found, len.saturating_sub(chunk.len()));
+                Ok(Some(found))
+            }
+            Err(stop) => Err(stop),
+        }
     }
 
     // Returns whether it is read, nothing of it is kept, its end did not come, and it waits for nothing.
@@ -95,6 +154,7 @@ impl Entry {
         ensures own { self.new.writing ≡ self.old.writing }
         ensures theirs { theirs_of self.new ≡ theirs_of self.old }
         ensures told { self.new.told ≡ self.old.told }
+        ensures session { self.new.session ≡ self.old.session }
         ensures read { (self.new.peer ≡ self.old.peer) × (self.new.is_decoder ≡ self.old.is_decoder) }
     {
         let left = self.reading.len();
@@ -114,11 +174,23 @@ impl Entry {
         ensures content { self.new.is_decoder ≡ self.old.is_decoder }
         ensures own { self.new.writing ≡ self.old.writing }
         ensures told { self.new.told ≡ self.old.told }
+        ensures session { self.new.session ≡ self.old.session }
         ensures read { (self.new.peer ≡ self.old.peer) × (self.new.is_decoder ≡ self.old.is_decoder) }
     {
         if !is_failure(found) {
             self.offset = self.offset.saturating_add(len as u64);
         }
+    }
+}
+
+// Returns whether a piece of content was found.
+fn is_piece(found: &Found<'_>) -> bool
+    ensures { result ≡ is_found_piece found.now }
+{
+    match found {
+        Found::Heard(Heard::Data(_)) => true,
+        Found::Heard(Heard::StreamData(_)) => true,
+        _ => false,
     }
 }
 

@@ -19,7 +19,7 @@ use wtp_messages::response::Asked;
 #[tactic(auto, using(crate::proofs::KeepsLemmas::keep))]
 impl Connection {
     // A message is malformed: its stream is reset, after an answer or not (RFC 9114, section 4.1.2).
-    #[tactic(auto, using(crate::proofs::KeepsOwnLemmas::hold))]
+    #[tactic(auto, using(crate::proofs::KeepsOwnLemmas::hold, crate::proofs::StepLemmas::left_trans))]
     pub(super) fn malformed_came(&mut self, id: u64, rule: Malformed) -> Result<Step<'static>, Stop>
         ensures keeps { KeepsOwn (said_by result) self.old self.new }
         ensures left { Left self.old.streams.entries self.new.streams.entries }
@@ -33,7 +33,7 @@ impl Connection {
     }
 
     // A field section is larger than the limits (RFC 9114, section 4.2.2).
-    #[tactic(auto, using(crate::proofs::KeepsOwnLemmas::hold))]
+    #[tactic(auto, using(crate::proofs::KeepsOwnLemmas::hold, crate::proofs::StepLemmas::left_trans))]
     pub(super) fn too_large_came(&mut self, id: u64) -> Result<Step<'static>, Stop>
         ensures keeps { KeepsOwn (said_by result) self.old self.new }
         ensures left { Left self.old.streams.entries self.new.streams.entries }
@@ -47,7 +47,7 @@ impl Connection {
     }
 
     // Leaves a stream that is over for the program: its halves end.
-    #[tactic(auto, using(crate::proofs::KeepsOwnLemmas::hold, crate::proofs::KeepsOwnLemmas::hold_but, crate::proofs::KeepsOwnLemmas::hold_unknown))]
+    #[tactic(auto, using(crate::proofs::KeepsOwnLemmas::hold, crate::proofs::KeepsOwnLemmas::hold_but, crate::proofs::KeepsOwnLemmas::hold_unknown, crate::proofs::StepLemmas::left_trans))]
     fn leave_refused(
         &mut self,
         id: u64,
@@ -83,7 +83,7 @@ impl Connection {
 
     // Answers a request with this status, if the configuration says so. Returns whether it did: without memory, and after
     // another final response, it does not.
-    #[tactic(auto, using(crate::proofs::KeepsOwnLemmas::hold, crate::proofs::KeepsOwnLemmas::holds_answered, crate::proofs::KeepsLemmas::kept))]
+    #[tactic(auto, using(crate::proofs::KeepsOwnLemmas::hold, crate::proofs::KeepsOwnLemmas::holds_answered, crate::proofs::KeepsLemmas::kept, crate::proofs::StepLemmas::left_trans))]
     fn answers(&mut self, id: u64, status: StatusCode) -> bool
         ensures keeps { KeepsOwnBut id self.old self.new }
         ensures left { Left self.old.streams.entries self.new.streams.entries }

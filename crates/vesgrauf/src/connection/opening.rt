@@ -1,12 +1,14 @@
 //! Streams that are opened.
-ghost use Rattle.std.specs.Prelude.{◌≡◌, ◌⊎◌, ◌<◌, ◌^◌, ℕ, List, [], true, false, min, nat_lt, None, Some, MatchBool, OnOk, OnErr, IfOk, IfErr, if◌then◌else◌};
+ghost use Rattle.std.specs.Prelude.{◌≡◌, ◌⊎◌, ◌<◌, ◌||◌, ◌^◌, ℕ, List, [], true, false, min, nat_lt, None, Some, MatchBool, OnOk, OnErr, IfOk, IfErr, if◌then◌else◌};
 ghost use Rattle.wtp_frames.specs.declared.endpoint.Side.TheVariants as side;
 ghost use Rattle.vesgrauf.specs.Keeps.{Keeps, KeepsOwn};
 ghost use Rattle.vesgrauf.specs.declared.refused.Refused.TheVariants as refused;
-ghost use Rattle.vesgrauf.specs.State.{open_session, room_for, may_wait, IsStill, IsRefused, is_opened_at, opened_by, stream_at, view_of, Of};
-ghost use Rattle.vesgrauf.specs.Own.{Over, Sends, own_of, entry_at, Untouched, UntouchedBut};
+ghost use Rattle.vesgrauf.specs.State.{open_session, room_for, may_wait, IsStill, IsRefused, is_opened_at, known_in, opened_by, stream_at, view_of, Of};
+ghost use Rattle.vesgrauf.specs.Members.{Notes, is_member, is_same_stream};
+ghost use Rattle.wtp_connection.specs.declared.connection.Known.TheVariants as knowns;
+ghost use Rattle.vesgrauf.specs.Own.{Open as OpenEnd, Over, Sends, own_of, entry_at, Untouched, UntouchedBut};
 ghost use Rattle.vesgrauf.specs.Items.{items_of};
-ghost use Rattle.vesgrauf.specs.Theirs.{Left, Accepts, Unread, theirs_of};
+ghost use Rattle.vesgrauf.specs.Theirs.{Left, Accepts, IsBlank, theirs_of};
 ghost use Rattle.vesgrauf.specs.Told.{GoesOn, AreOthers, knows};
 ghost use Rattle.vesgrauf.specs.Halves.{LastsOn};
 ghost use Rattle.wtp_webtransport.specs.Events.{told_of};
@@ -14,7 +16,7 @@ ghost use Rattle.vesgrauf.specs.Ids.{next_own, opens, kind_of, unopened, opened 
 ghost use Rattle.vesgrauf.specs.Messages.{IsMember, IsStreamHead};
 
 use crate::connection::{Connection, Stop, internal};
-use crate::entry::{Entry, Member, Peer, SHARED, Told};
+use crate::entry::{Entry, Peer, SHARED, Told};
 use crate::event::{Event, EventKind};
 use crate::input::Report;
 use crate::output::{Output, StreamKind};
@@ -114,8 +116,9 @@ impl Connection {
 
     // Returns the entry of a stream of the peer, of which nothing came.
     fn entry_of_peer(&mut self, id: u64) -> Entry
-        ensures blank { (own_of result.writing ≡ Over) ⊎ (own_of result.writing ≡ Sends 0 []) }
-        ensures nothing { theirs_of result ≡ Unread [] false }
+        ensures blank { (own_of result.writing ≡ Over) ⊎ (own_of result.writing ≡ Sends 0 [] (OpenEnd false)) }
+        ensures nothing { IsBlank (theirs_of result) }
+        ensures alone { result.session ≡ None }
         ensures config { self.new.config ≡ self.old.config }
         ensures ids { self.new.ids ≡ self.old.ids }
         ensures streams { self.new.streams ≡ self.old.streams }
@@ -129,26 +132,47 @@ impl Connection {
         entry
     }
 
-    // Joins a stream with its session, by what is known of that.
-    #[tactic(auto, using(crate::proofs::KeepsLemmas::keep, crate::proofs::TellsLemmas::joins_silent))]
+    // Joins a stream with its session, by what is known of that: it is noted as one of the session, if that is open.
     pub(super) fn join(&mut self, id: u64, session: u64) -> Result<Said<'static>, Stop>
         ensures keeps { Keeps [] self.old self.new }
+        ensures noted { known_in self.old session ≡ knowns.Open → OnOk result (is_member self.new.ids session id ≡ true) }
         ensures silent { IfOk result (λ e. items_of (told_of e) ≡ []) }
     {
         let known = self.known_to(id, session);
+        self.note_member(id, session, known)?;
+        Ok(self.join_known(id, known))
+    }
+
+    // Notes a stream as one of its session, if that is open.
+    #[tactic(auto, using(crate::proofs::KeepsLemmas::keep, crate::proofs::MemberLemmas::notes_itself))]
+    fn note_member(&mut self, id: u64, session: u64, known: Known) -> Result<(), AllocError>
+        ensures keeps { Keeps [] self.old self.new }
+        ensures noted { known ≡ knowns.Open → OnOk result (is_member self.new.ids session id ≡ true) }
+    {
         if matches!(known, Known::Open) {
-            self.members.insert(Member { session, id })?;
+            self.ids.note(session, id)?;
         }
+        Ok(())
+    }
+
+    // Joins a stream with its session, of which this is known.
+    #[tactic(auto, using(crate::proofs::KeepsLemmas::keep, crate::proofs::KeepsLemmas::keeps_turned, crate::proofs::TellsLemmas::joins_silent))]
+    fn join_known(&mut self, id: u64, known: Known) -> Said<'static>
+        ensures keeps { Keeps [] self.old self.new }
+        ensures ids { self.new.ids ≡ self.old.ids }
+        ensures silent { items_of (told_of result) ≡ [] }
+    {
         self.forget_named(id);
         let Some(entry) = self.streams.get_mut(&id) else {
-            return Ok(Said::More);
+            return Said::More;
         };
-        Ok(entry.reading.join_session(&mut self.shared, known))
+        entry.reading.join_session(&mut self.shared, known)
     }
 
     // A stream that named its session is not to join it any more.
     fn forget_named(&mut self, id: u64)
         ensures still { IsStill self.old self.new }
+        ensures others { self.new ≡ record self.old { pending = self.new.pending } }
     {
         if let Some(named) = self.pending.named {
             if named.id == id {
@@ -157,10 +181,21 @@ impl Connection {
         }
     }
 
-    // A stream of the peer joined its session.
-    #[tactic(auto, using(crate::proofs::KeepsLemmas::keep, crate::proofs::KeepsLemmas::keeps_known, crate::proofs::OwnLemmas::own_raw))]
-    pub(super) fn joined(&mut self, id: u64, session: u64)
+    // A stream of the peer joined its session, as one of which it was noted before.
+    pub(super) fn joined(&mut self, id: u64, session: u64) -> Result<(), Stop>
         ensures keeps { Keeps [] self.old self.new }
+    {
+        if !self.ids.is_member(session, id) {
+            return Err(internal());
+        }
+        self.note_joined(id, session);
+        Ok(())
+    }
+
+    // A stream is one of a session now, as one of which it was noted.
+    #[tactic(auto, using(crate::proofs::MemberLemmas::keeps_joined, crate::proofs::KeepsLemmas::keeps_refl, crate::proofs::OwnLemmas::own_raw))]
+    fn note_joined(&mut self, id: u64, session: u64)
+        ensures keeps { is_member self.old.ids session id ≡ true → Keeps [] self.old self.new }
     {
         if let Some(entry) = self.streams.get_mut(&id) {
             entry.session = Some(session);
@@ -192,8 +227,10 @@ impl Connection {
             × Of (stream_at self.new id) (IsMember self.old.config session kind head)) }
         ensures others { IfOk result (λ id. view_of self.new ≡ record (view_of self.old) {
           streams = self.new.streams.entries;
-          ids = taken self.old.ids kind;
+          ids = record (taken self.old.ids kind) { members = self.new.ids.members };
         }) }
+        ensures member { IfOk result (λ id. (s k : ℕ)
+            → is_member self.new.ids s k ≡ (is_same_stream session id s k || is_member self.old.ids s k)) }
     {
         self.check_session(session)?;
         self.check_room(kind)?;
@@ -296,15 +333,19 @@ impl Connection {
         ensures here { OnOk result (entry_at self.new.streams.entries id ≡ Some entry) }
         ensures others { OnOk result (AreOthers id self.old.streams.entries self.new.streams.entries) }
         ensures same { OnErr result (self.new.streams.entries ≡ self.old.streams.entries) }
-        ensures view { view_of self.new ≡ record (view_of self.old) { streams = self.new.streams.entries } }
+        ensures view { view_of self.new ≡ record (view_of self.old) {
+          streams = self.new.streams.entries;
+          ids = self.new.ids;
+        } }
         ensures events { self.new.events ≡ self.old.events }
-        ensures ids { self.new.ids ≡ self.old.ids }
+        ensures noted { OnOk result (Notes session id self.old.ids self.new.ids) }
+        ensures kept { OnErr result (Keeps [] self.old self.new) }
     {
-        self.members.insert(Member { session, id })?;
+        self.ids.note(session, id)?;
         match self.streams.insert(id, entry) {
             Ok(_) => Ok(()),
             Err(_) => {
-                self.members.remove(&Member { session, id });
+                self.ids.forget(session, id);
                 Err(AllocError)
             }
         }
@@ -428,7 +469,7 @@ impl Connection {
 
 // Returns the own half of a stream of the peer, on which nothing was said: none of a unidirectional one.
 fn half_beside_peer(alloc: Global, queue: QueueConfig, id: u64) -> Writing
-    ensures { (own_of result ≡ Over) ⊎ (own_of result ≡ Sends 0 []) }
+    ensures { (own_of result ≡ Over) ⊎ (own_of result ≡ Sends 0 [] (OpenEnd false)) }
 {
     if id % 4 < 2 {
         Writing::idle(alloc, queue)

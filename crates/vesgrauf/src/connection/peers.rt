@@ -1,7 +1,8 @@
 //! The peer's halves that end, or are read no further.
-ghost use Rattle.std.specs.Prelude.{◌≡◌, Bool, [], ◌∷◌, true, IfOk, OnOk};
+ghost use Rattle.std.specs.Prelude.{◌≡◌, ℕ, Bool, [], ◌∷◌, true, IfOk, OnOk};
 ghost use Rattle.vesgrauf_stream.specs.declared.reading.Reading.{Reading as ReadingOf};
 ghost use Rattle.vesgrauf.specs.Items.{Ends};
+ghost use Rattle.vesgrauf.specs.Cuts.{Alone, Asks};
 ghost use Rattle.vesgrauf.specs.Keeps.{Keeps, KeepsBut};
 ghost use Rattle.vesgrauf.specs.State.{stream_at, knows_of};
 ghost use Rattle.vesgrauf.specs.Theirs.{Gone, Hands, IsOf, theirs_at, theirs_by, told_in};
@@ -83,9 +84,11 @@ impl Connection {
     }
 
     // Asks the peer to stop its half, which is read no further.
-    #[tactic(auto, using(crate::proofs::KeepsLemmas::but))]
+    #[tactic(auto, using(crate::proofs::KeepsLemmas::but, crate::proofs::CutLemmas::alone, crate::proofs::CutLemmas::asks))]
     pub(super) fn stop_peer(&mut self, id: u64, code: u64) -> Result<(), AllocError>
         ensures keeps { KeepsBut id self.old self.new }
+        ensures alone { Alone id self.old self.new }
+        ensures asks { Asks id code self.old.outputs.items self.new.outputs.items }
         ensures gone { OnOk result (theirs_at self.new.streams.entries id ≡ Gone) }
     {
         if self.is_peer_over(id) {
@@ -96,9 +99,11 @@ impl Connection {
     }
 
     // Gives up what waits on the peer's half, which is read no further.
-    #[tactic(auto, using(crate::proofs::KeepsLemmas::but))]
+    #[tactic(auto, using(crate::proofs::KeepsLemmas::but, crate::proofs::CutLemmas::alone, crate::proofs::CutLemmas::asks))]
     fn give_up_peer(&mut self, id: u64, is_over: bool) -> Result<(), AllocError>
         ensures keeps { KeepsBut id self.old self.new }
+        ensures alone { Alone id self.old self.new }
+        ensures asks { (code : ℕ) → Asks id code self.old.outputs.items self.new.outputs.items }
         ensures gone { OnOk result (theirs_at self.new.streams.entries id ≡ Gone) }
     {
         self.abandon(id);
@@ -107,8 +112,11 @@ impl Connection {
 
     // Asks the peer to stop its half, unless its end came, or QUIC closed the stream. QUIC is asked once it knows of the
     // stream.
+    #[tactic(auto, using(crate::proofs::KeepsLemmas::keep, crate::proofs::CutLemmas::alone, crate::proofs::CutLemmas::asks_refl, crate::proofs::CutLemmas::asks_stop))]
     fn ask_stop(&mut self, id: u64, code: u64) -> Result<(), AllocError>
         ensures keeps { Keeps [] self.old self.new }
+        ensures alone { Alone id self.old self.new }
+        ensures asks { Asks id code self.old.outputs.items self.new.outputs.items }
     {
         let Some(entry) = self.streams.get_mut(&id) else {
             return Ok(());
@@ -125,8 +133,11 @@ impl Connection {
     }
 
     // Gives up what waits on the peer's half.
+    #[tactic(auto, using(crate::proofs::KeepsLemmas::keep, crate::proofs::CutLemmas::alone, crate::proofs::KeepsLemmas::keeps_turned))]
     fn abandon(&mut self, id: u64)
         ensures keeps { Keeps [] self.old self.new }
+        ensures alone { Alone id self.old self.new }
+        ensures outputs { self.new.outputs ≡ self.old.outputs }
     {
         if let Some(entry) = self.streams.get_mut(&id) {
             entry.reading.abandon(&mut self.shared);
@@ -141,9 +152,10 @@ impl Connection {
     }
 
     // Reads the peer's half no further, whose end is still to come.
-    #[tactic(auto, using(crate::proofs::KeepsLemmas::but))]
+    #[tactic(auto, using(crate::proofs::KeepsLemmas::but, crate::proofs::CutLemmas::alone))]
     pub(super) fn drop_peer(&mut self, id: u64) -> Result<(), AllocError>
         ensures keeps { KeepsBut id self.old self.new }
+        ensures alone { Alone id self.old self.new }
         ensures gone { OnOk result (theirs_at self.new.streams.entries id ≡ Gone) }
     {
         if self.is_peer_over(id) {
@@ -195,9 +207,11 @@ impl Connection {
     }
 
     // The peer's half is read no further: it is over, or what comes is dropped until its end. What is kept of it is dropped.
-    #[tactic(auto, using(crate::proofs::KeepsLemmas::but, crate::proofs::KeepsLemmas::keeps_gone))]
+    #[tactic(auto, using(crate::proofs::KeepsLemmas::but, crate::proofs::KeepsLemmas::keeps_gone, crate::proofs::CutLemmas::alone, crate::proofs::CutLemmas::asks))]
     fn leave_peer(&mut self, id: u64, is_over: bool) -> Result<(), AllocError>
         ensures keeps { KeepsBut id self.old self.new }
+        ensures alone { Alone id self.old self.new }
+        ensures asks { (code : ℕ) → Asks id code self.old.outputs.items self.new.outputs.items }
         ensures still { theirs_at self.old.streams.entries id ≡ Gone → Keeps [] self.old self.new }
         ensures gone { theirs_at self.new.streams.entries id ≡ Gone }
     {
@@ -208,9 +222,11 @@ impl Connection {
 
     // Drops what is kept of the peer's half, which is read no further. Returns by how many bytes QUIC's windows are to be
     // extended for it.
-    #[tactic(auto, using(crate::proofs::KeepsLemmas::keep, crate::proofs::KeepsLemmas::keeps_but_set, crate::proofs::KeepsLemmas::keeps_gone_set, crate::proofs::TellsLemmas::gone_set))]
+    #[tactic(auto, using(crate::proofs::KeepsLemmas::keep, crate::proofs::KeepsLemmas::keeps_but_set, crate::proofs::KeepsLemmas::keeps_gone_set, crate::proofs::CutLemmas::alone, crate::proofs::TellsLemmas::gone_set))]
     fn drop_half(&mut self, id: u64, is_over: bool) -> usize
         ensures keeps { KeepsBut id self.old self.new }
+        ensures alone { Alone id self.old self.new }
+        ensures outputs { self.new.outputs ≡ self.old.outputs }
         ensures still { theirs_at self.old.streams.entries id ≡ Gone → Keeps [] self.old self.new }
         ensures gone { theirs_at self.new.streams.entries id ≡ Gone }
     {
@@ -224,6 +240,19 @@ impl Connection {
         entry.withheld = 0;
         self.held = counted(self.held, before, 0);
         owed
+    }
+
+    // Extends QUIC's windows by bytes that had waited.
+    #[tactic(auto, using(crate::proofs::KeepsLemmas::keep, crate::proofs::CutLemmas::alone_refl, crate::proofs::CutLemmas::asks_refl, crate::proofs::CutLemmas::asks_credit))]
+    pub(super) fn credit(&mut self, id: u64, len: usize) -> Result<(), AllocError>
+        ensures keeps { Keeps [] self.old self.new }
+        ensures alone { Alone id self.old self.new }
+        ensures asks { (code : ℕ) → Asks id code self.old.outputs.items self.new.outputs.items }
+    {
+        if len > 0 {
+            self.outputs.push_back(Output::Credit(id, len))?;
+        }
+        Ok(())
     }
 
     // The peer's half is over, which is read no further.

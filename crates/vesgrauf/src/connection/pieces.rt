@@ -1,5 +1,6 @@
 //! What is told at once: a piece of content, by one look-up and without memory.
-ghost use Rattle.std.specs.Prelude.{◌≡◌, ℕ, true, false, [], Ok, ◌∷◌, None, IfOk, IfSome, OnOk, MatchOption};
+ghost use Rattle.std.specs.Prelude.{◌≡◌, ℕ, List, true, false, [], Ok, ◌∷◌, None, IfOk, IfSome, OnOk, MatchOption};
+ghost use Rattle.vesgrauf.specs.Instructions.{MayAcknowledge, table_by, table_of};
 ghost use Rattle.vesgrauf.specs.Keeps.{KeepsOwn};
 ghost use Rattle.vesgrauf.specs.Bounds.{KeepsBound, KeepsFit};
 ghost use Rattle.vesgrauf.specs.Progress.{IsSettled};
@@ -140,11 +141,12 @@ impl Connection {
 
     // Returns the piece of content that is next in bytes of a stream.
     #[inline(always)]
-    #[tactic(auto, using(crate::proofs::ReadsLemmas::reads_set, crate::proofs::PieceLemmas::piece_keeps, std::proofs::lemmas::Map::Steps::set_value_same, crate::proofs::BoundLemmas::bound))]
+    #[tactic(auto, using(crate::proofs::LookLemmas::reads_set, crate::proofs::InstructionLemmas::may_after, crate::proofs::PieceLemmas::piece_keeps, std::proofs::lemmas::Map::Steps::set_value_same, crate::proofs::BoundLemmas::bound))]
     fn piece_in<'a>(&mut self, id: u64, chunk: &mut Chunk<'a>) -> Option<Piece<'a>>
         ensures stream { IfSome result (λ p. p.stream ≡ id) }
         ensures reads { IfSome result (λ p. ReadsOn id (content p.bytes.now) self.old.streams.entries chunk.old
             self.new.streams.entries chunk.new) }
+        ensures table { IfSome result (λ p. MayAcknowledge id (table_of self.old) (table_of self.new)) }
         ensures still { result ≡ None → IsStill self.old self.new }
         ensures none { result ≡ None → chunk.new ≡ chunk.old }
         ensures keeps { IfSome result (λ p. (e : EventOf) → e.stream ≡ p.stream → ends (word_of e.kind) ≡ false
@@ -169,7 +171,7 @@ impl Entry {
     // Returns the piece of content that is next in the input, if pieces of the stream are told as they come, and how many
     // bytes are read.
     #[inline(always)]
-    #[tactic(auto, using(crate::proofs::PieceLemmas::looked_piece, crate::proofs::BoundLemmas::same_keeps))]
+    #[tactic(auto, using(crate::proofs::PieceLemmas::looked_piece, crate::proofs::InstructionLemmas::piece_acknowledges, crate::proofs::BoundLemmas::same_keeps))]
     fn next_piece<'a>(
         &mut self,
         shared: &mut Shared,
@@ -180,8 +182,11 @@ impl Entry {
             ((self.new ≡ self.old) × (shared.new ≡ shared.old) × (chunk.new ≡ chunk.old))
             (λ p. IsRead (with_chunk (theirs_of self.old) chunk.old) (content p.0.now)
             (with_chunk (theirs_of self.new) chunk.new)) }
+        ensures table { IfSome result (λ p. (id : ℕ) (bytes : List ℕ)
+            → MayAcknowledge id (table_by shared.old bytes) (table_by shared.new bytes)) }
         ensures known { IfSome result (λ p. is_known self.old.told ≡ true) }
         ensures told { self.new.told ≡ self.old.told }
+        ensures session { self.new.session ≡ self.old.session }
         ensures read { (self.new.peer ≡ self.old.peer) × (self.new.is_decoder ≡ self.old.is_decoder) }
         ensures fits { KeepsFit (theirs_of self.old) (theirs_of self.new) }
     {

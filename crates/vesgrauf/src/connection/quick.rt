@@ -1,6 +1,7 @@
 //! What is read at once, where nothing else is due.
 ghost use Rattle.std.specs.Prelude.{◌≡◌, true, false, [], Ok, None, IfOk, OnOk};
 ghost use Rattle.vesgrauf.specs.Bounds.{KeepsBound};
+ghost use Rattle.vesgrauf.specs.Instructions.{MayAcknowledge, table_of};
 ghost use Rattle.vesgrauf.specs.Keeps.{KeepsOwn};
 ghost use Rattle.vesgrauf.specs.Progress.{IsSettled, IsQuiet, IsStill};
 ghost use Rattle.vesgrauf.specs.State.{is_over};
@@ -10,7 +11,7 @@ ghost use Rattle.vesgrauf.specs.Told.{said_by, said_if_ok, told_by_call};
 ghost use Rattle.vesgrauf.specs.declared.input.Report.TheVariants as report;
 ghost use Rattle.vesgrauf_stream.specs.Reading.{bytes_of};
 
-use crate::connection::{Connection, Step, Stop, internal};
+use crate::connection::{Connection, Step, Stop};
 use crate::event::{Event, EventKind};
 use crate::input::{Input, Report};
 use std::alloc::AllocError;
@@ -125,11 +126,12 @@ impl Connection {
     }
 
     // Returns what is found in bytes of a stream that is read, of which nothing is kept and that waits for nothing.
-    #[tactic(auto, using(crate::proofs::KeepsOwnLemmas::hold, crate::proofs::KeepsOwnLemmas::holds_looked, crate::proofs::ReadsLemmas::reads_set, crate::proofs::TellsLemmas::left_reads, crate::proofs::StepLemmas::left_itself, crate::proofs::BoundLemmas::bound, crate::proofs::BoundLemmas::bound_left))]
+    #[tactic(auto, using(crate::proofs::KeepsOwnLemmas::hold, crate::proofs::KeepsOwnLemmas::holds_looked, crate::proofs::InstructionLemmas::may_after, crate::proofs::InstructionLemmas::may_rest, crate::proofs::LookLemmas::reads_set, crate::proofs::TellsLemmas::left_reads, crate::proofs::StepLemmas::left_itself, crate::proofs::BoundLemmas::bound, crate::proofs::BoundLemmas::bound_left))]
     fn read_plain<'a>(&mut self, id: u64, chunk: &mut Chunk<'a>) -> Result<Option<Found<'a>>, Stop>
         ensures keeps { KeepsOwn [] self.old self.new }
         ensures reads { IfOk result (λ found. ReadsOn id (items_if found) self.old.streams.entries chunk.old
             self.new.streams.entries chunk.new) }
+        ensures table { IfOk result (λ found. MayAcknowledge id (table_of self.old) (table_of self.new)) }
         ensures none { result ≡ Ok None → chunk.new ≡ chunk.old }
         ensures ids { self.new.ids ≡ self.old.ids }
         ensures bounded { OnOk result (KeepsBound self.old self.new) }
@@ -137,7 +139,14 @@ impl Connection {
         let Some(entry) = self.streams.get_mut(&id) else {
             return Ok(None);
         };
-        Ok(entry.look_plain(self.alloc, &mut self.shared, &mut self.fields, chunk)?)
+        Ok(entry.look_plain(
+            id,
+            self.alloc,
+            &mut self.shared,
+            &mut self.fields,
+            &mut self.told,
+            chunk,
+        )?)
     }
 
     // Handles what was found in bytes of a stream.
@@ -177,7 +186,7 @@ impl Connection {
         match heard {
             Heard::Data(bytes) => self.piece_came(id, bytes, input),
             Heard::StreamData(bytes) => self.piece_came(id, bytes, input),
-            heard => self.heard_else(id, heard, input),
+            heard => self.heard_in_input(id, heard, input),
         }
     }
 
@@ -196,26 +205,5 @@ impl Connection {
     {
         input.end_if_read(self.held <= self.config.receive_buffer_all);
         self.tell_read(id, EventKind::Data(bytes))
-    }
-
-    // Handles what was heard in bytes of a stream: anything but a piece of content.
-    #[tactic(auto, using(crate::proofs::KeepsOwnLemmas::hold, crate::proofs::BoundLemmas::bound, crate::proofs::BoundLemmas::bound_left))]
-    fn heard_else<'a>(
-        &mut self,
-        id: u64,
-        heard: Heard<'a>,
-        input: &mut Input<'a>,
-    ) -> Result<Step<'a>, Stop>
-        ensures keeps { KeepsOwn (said_by result) self.old self.new }
-        ensures passes { input.old.report ≡ report.Stream id
-            → IfOk result (λ s. Passes id (items_in heard.entry) (told_in s)
-            self.old.streams.entries input.old self.new.streams.entries input.new) }
-        ensures bounded { OnOk result (KeepsBound self.old self.new) }
-    {
-        // (without memory for it, what the section says would be lost)
-        if self.shared.acknowledge(id, &mut self.told).is_err() {
-            return Err(internal());
-        }
-        self.heard_in_input(id, heard, input)
     }
 }

@@ -1,6 +1,7 @@
 //! Bytes of streams that came, and those that wait.
 ghost use Rattle.std.specs.Prelude.{◌≡◌, ◌≤◌, false, true, [], length, IfOk, OnOk};
 ghost use Rattle.vesgrauf.specs.Bounds.{Fits, KeepsBound, most_kept};
+ghost use Rattle.vesgrauf.specs.Instructions.{MayAcknowledge, table_of};
 ghost use Rattle.vesgrauf.specs.Keeps.{Keeps, KeepsOwn};
 ghost use Rattle.vesgrauf.specs.State.{IsStill};
 ghost use Rattle.vesgrauf.specs.Items.{items_in, items_by, items_found};
@@ -15,7 +16,6 @@ use crate::connection::{Connection, Step, Stop, internal};
 use crate::entry::Peer;
 use crate::event::Why;
 use crate::input::{Input, Report};
-use crate::output::Output;
 use std::alloc::AllocError;
 use vesgrauf_stream::bytes::Chunk;
 use vesgrauf_stream::heard::Heard;
@@ -233,10 +233,6 @@ impl Connection {
         }
         let (found, owed) = self.look(id, chunk)?;
         self.credit(id, owed)?;
-        // (without memory for it, what the section says would be lost)
-        if self.shared.acknowledge(id, &mut self.told).is_err() {
-            return Err(internal());
-        }
         match found {
             Found::Heard(heard) => Ok(Some(heard)),
             Found::Again => Ok(None),
@@ -244,11 +240,12 @@ impl Connection {
     }
 
     // Returns what is found next on a stream, and by how many bytes QUIC's windows are then to be extended.
-    #[tactic(auto, using(crate::proofs::KeepsOwnLemmas::hold, crate::proofs::KeepsOwnLemmas::holds_looked, crate::proofs::ReadsLemmas::reads_set, crate::proofs::TellsLemmas::left_reads, crate::proofs::StepLemmas::left_itself, crate::proofs::BoundLemmas::bound))]
+    #[tactic(auto, using(crate::proofs::KeepsOwnLemmas::hold, crate::proofs::KeepsOwnLemmas::holds_looked, crate::proofs::InstructionLemmas::may_after, crate::proofs::InstructionLemmas::may_rest, crate::proofs::LookLemmas::reads_set, crate::proofs::TellsLemmas::left_reads, crate::proofs::StepLemmas::left_itself, crate::proofs::BoundLemmas::bound))]
     fn look<'a>(&mut self, id: u64, chunk: &mut Chunk<'a>) -> Result<(Found<'a>, usize), Stop>
         ensures keeps { KeepsOwn [] self.old self.new }
         ensures reads { IfOk result (λ r. ReadsOn id (items_found r.0) self.old.streams.entries chunk.old
             self.new.streams.entries chunk.new) }
+        ensures table { IfOk result (λ r. MayAcknowledge id (table_of self.old) (table_of self.new)) }
         ensures bounded { OnOk result (KeepsBound self.old self.new) }
     {
         let Some(entry) = self.streams.get_mut(&id) else {
@@ -257,21 +254,18 @@ impl Connection {
         let before = entry.credited();
         let kept = entry.reading.len();
         let len = chunk.len();
-        let found = entry.look(self.alloc, &mut self.shared, &mut self.fields, chunk)?;
+        let found = entry.look(
+            id,
+            self.alloc,
+            &mut self.shared,
+            &mut self.fields,
+            &mut self.told,
+            chunk,
+        )?;
         let owed = entry.count_looked(&found, kept, len, chunk.len());
         let after = entry.credited();
         self.held = counted(self.held, before, after);
         Ok((found, owed))
-    }
-
-    // Extends QUIC's windows by bytes that had waited.
-    pub(super) fn credit(&mut self, id: u64, len: usize) -> Result<(), AllocError>
-        ensures keeps { Keeps [] self.old self.new }
-    {
-        if len > 0 {
-            self.outputs.push_back(Output::Credit(id, len))?;
-        }
-        Ok(())
     }
 
     // Returns how many more bytes of a stream that waits QUIC's windows are extended by. Half of `receive_buffer_all` is
@@ -302,7 +296,7 @@ impl Connection {
     }
 
     // Keeps the bytes of the input, however many are kept already.
-    #[tactic(auto, using(crate::proofs::KeepsOwnLemmas::holds_refl, crate::proofs::KeepsOwnLemmas::holds_looked, crate::proofs::ReadsLemmas::keep_set, crate::proofs::TellsLemmas::only_set, crate::proofs::TellsLemmas::only_none))]
+    #[tactic(auto, using(crate::proofs::KeepsOwnLemmas::holds_refl, crate::proofs::KeepsOwnLemmas::holds_looked, crate::proofs::LookLemmas::keep_set, crate::proofs::TellsLemmas::only_set, crate::proofs::TellsLemmas::only_none))]
     fn keep_input<'a>(&mut self, id: u64, input: &mut Input<'a>, most: usize) -> Result<(), Stop>
         ensures keeps { KeepsOwn [] self.old self.new }
         ensures same { input.old.report ≡ report.Stream id
@@ -326,7 +320,7 @@ impl Connection {
     }
 
     // Extends QUIC's windows by all that is kept of a stream: it is a frame that is cut, and the rest is to come.
-    #[tactic(auto, using(crate::proofs::KeepsOwnLemmas::hold))]
+    #[tactic(auto, using(crate::proofs::KeepsOwnLemmas::hold, crate::proofs::StepLemmas::left_trans))]
     fn credit_kept(&mut self, id: u64) -> Result<(), Stop>
         ensures keeps { KeepsOwn [] self.old self.new }
         ensures left { Left self.old.streams.entries self.new.streams.entries }
@@ -360,7 +354,7 @@ impl Connection {
     }
 
     // Checks the bounds of what is kept of a stream, and of all.
-    #[tactic(auto, using(crate::proofs::KeepsOwnLemmas::hold, crate::proofs::BoundLemmas::gone_fits))]
+    #[tactic(auto, using(crate::proofs::KeepsOwnLemmas::hold, crate::proofs::BoundLemmas::gone_fits, crate::proofs::StepLemmas::left_trans))]
     fn check_kept(&mut self, id: u64) -> Result<(), Stop>
         ensures keeps { KeepsOwn [] self.old self.new }
         ensures left { Left self.old.streams.entries self.new.streams.entries }
@@ -389,6 +383,7 @@ impl Connection {
     }
 
     // More of a stream is kept than may be. Returns the fault.
+    #[tactic(auto, using(crate::proofs::KeepsLemmas::keep, crate::proofs::KeepsLemmas::keeps_turned))]
     fn overflow(&mut self, id: u64) -> Joining
         ensures keeps { Keeps [] self.old self.new }
     {

@@ -7,6 +7,7 @@ ghost use Rattle.vesgrauf.specs.Messages.{allowed, Encodes, IsRequest};
 ghost use Rattle.vesgrauf.specs.Ids.{taken};
 ghost use Rattle.vesgrauf.specs.Streams.{new_entry};
 ghost use Rattle.vesgrauf.specs.declared.entry.Peer.TheVariants as peers;
+ghost use Rattle.vesgrauf.specs.Members.{session_in};
 ghost use Rattle.vesgrauf.specs.Own.{entry_at, UntouchedBut};
 ghost use Rattle.vesgrauf.specs.Told.{GoesOn, AreOthers, IsUndone, knows};
 ghost use Rattle.vesgrauf.specs.State.{stream_at, knows_of, may_wait, view_of, with_own, Of};
@@ -127,6 +128,7 @@ impl Connection {
         ensures view { view_of self.new ≡ record (view_of self.old) { streams = self.new.streams.entries } }
         ensures own { OnOk result (UntouchedBut id self.old.streams.entries self.new.streams.entries) }
         ensures known { OnOk result (knows_of (entry_at self.new.streams.entries id) ≡ true) }
+        ensures alone { OnOk result (session_in (entry_at self.new.streams.entries id) ≡ None) }
         ensures others { OnOk result (AreOthers id self.old.streams.entries self.new.streams.entries) }
         ensures refused { OnErr result (IsUndone id self.old.streams.entries self.new.streams.entries) }
         ensures events { self.new.events ≡ self.old.events }

@@ -20,6 +20,18 @@ use crate::event::EventKind;
 use crate::output::{Next, Output, Scope, StreamKind};
 use crate::refused::Refused;
 use std::alloc::AllocError;
+use vesgrauf_ready::rank::Kind;
+
+/// What QUIC left of a stream of which it took bytes.
+#[derive(Clone, Copy)]
+struct Taken {
+    /// Its place in the order of sending.
+    kind: Kind,
+    /// Whether QUIC is to take more, or its end.
+    has_more: bool,
+    /// Whether nothing is to be done for its own half any more.
+    is_done: bool,
+}
 
 #[tactic(auto, using(crate::proofs::KeepsLemmas::keep))]
 impl Connection {
@@ -191,7 +203,7 @@ impl Connection {
     }
 
     // QUIC took bytes of a stream that is not critical.
-    #[tactic(auto, using(crate::proofs::KeepsLemmas::kept, crate::proofs::OwnLemmas::took_alone, crate::proofs::StepLemmas::left_trans))]
+    #[tactic(auto, using(crate::proofs::KeepsLemmas::kept, crate::proofs::OwnLemmas::took_alone, crate::proofs::StepLemmas::left_trans, crate::proofs::OwnLemmas::but_then))]
     fn sent_on(&mut self, id: u64, len: usize) -> Result<(), Refused>
         ensures refused { IfErr result (λ e. IsRefused e self.old self.new) }
         ensures own { UntouchedBut id self.old.streams.entries self.new.streams.entries }
@@ -218,8 +230,27 @@ impl Connection {
     }
 
     // QUIC took bytes of a stream that is not critical. Returns whether nothing is to be done for its own half any more.
-    #[tactic(auto, using(crate::proofs::KeepsLemmas::kept, crate::proofs::OwnLemmas::took_set, crate::proofs::TheirsLemmas::left_set, crate::proofs::GoesLemmas::goes_set, std::proofs::lemmas::Map::Steps::set_value_same))]
     fn message_sent(&mut self, id: u64, len: usize) -> Result<bool, Refused>
+        ensures refused { OnErr result (IsStill self.old self.new) }
+        ensures own { UntouchedBut id self.old.streams.entries self.new.streams.entries }
+        ensures took { OnOk result (Took len (own_at self.old.streams.entries id)
+            (own_at self.new.streams.entries id)) }
+        ensures left { Left self.old.streams.entries self.new.streams.entries }
+        ensures config { self.new.config ≡ self.old.config }
+        ensures goes { GoesOn [] self.old self.new }
+    {
+        let taken = self.take_message(id, len)?;
+        self.ready.turn_taken(id, taken.kind);
+        if !taken.has_more {
+            self.ready.remove(id, taken.kind);
+        }
+        Ok(taken.is_done)
+    }
+
+    // QUIC took bytes of a stream that is not critical, whose turn it was.
+    #[inline(always)]
+    #[tactic(auto, using(crate::proofs::KeepsLemmas::kept, crate::proofs::OwnLemmas::took_set, crate::proofs::TheirsLemmas::left_set, crate::proofs::GoesLemmas::goes_set, std::proofs::lemmas::Map::Steps::set_value_same))]
+    fn take_message(&mut self, id: u64, len: usize) -> Result<Taken, Refused>
         ensures refused { OnErr result (IsStill self.old self.new) }
         ensures own { UntouchedBut id self.old.streams.entries self.new.streams.entries }
         ensures took { OnOk result (Took len (own_at self.old.streams.entries id)
@@ -232,13 +263,11 @@ impl Connection {
             return Err(Refused::NoStream);
         };
         entry.sent(&mut self.tools.spares, len)?;
-        let kind = entry.kind();
-        let is_done = entry.writing.is_done();
-        self.ready.turn_taken(id, kind);
-        if !entry.has_more() {
-            self.ready.remove(id, kind);
-        }
-        Ok(is_done)
+        Ok(Taken {
+            kind: entry.kind(),
+            has_more: entry.has_more(),
+            is_done: entry.writing.is_done(),
+        })
     }
 
     // Notes that there may be room on a stream.
@@ -453,7 +482,7 @@ impl Connection {
         ensures still { IsStill self.old self.new }
         ensures tools { self.new.tools ≡ self.old.tools }
     {
-        let streams = self.members.len().saturating_add(4);
+        let streams = self.ids.count_members().saturating_add(4);
         self.events.reserve(streams)?;
         self.outputs.reserve(streams.saturating_mul(3))?;
         self.datagrams.opened.reserve(2)?;

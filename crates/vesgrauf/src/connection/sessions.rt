@@ -4,12 +4,14 @@ ghost use Rattle.vesgrauf.specs.Order.{LooksAtAll};
 ghost use Rattle.vesgrauf.specs.Messages.{ClosesSession, ChangesThen};
 ghost use Rattle.vesgrauf_stream.specs.Writing.{Drains};
 ghost use Rattle.vesgrauf.specs.Keeps.{Keeps, KeepsBut};
-ghost use Rattle.vesgrauf.specs.State.{IsStill, IsRefused, Changes, IsWhy, RefusesDrain, is_over, open_session};
+ghost use Rattle.vesgrauf.specs.State.{IsStill, IsRefused, Changes, IsWhy, RefusesDrain, is_over, known_in, open_session};
 ghost use Rattle.vesgrauf.specs.Own.{UntouchedBut};
 ghost use Rattle.vesgrauf.specs.Items.{Item, Section, Asks};
 ghost use Rattle.wtp_webtransport.specs.declared.event.HeadersKind.TheVariants as headers;
 ghost use Rattle.vesgrauf.specs.Theirs.{Left, Gone, Hands, IsSilent, theirs_at, told_in};
-ghost use Rattle.vesgrauf.specs.Told.{GoesOn, said_by, said_in};
+ghost use Rattle.vesgrauf.specs.Told.{GoesOn, Sound, said_by, said_in};
+ghost use Rattle.vesgrauf.specs.Cuts.{AreCut};
+ghost use Rattle.wtp_connection.specs.declared.connection.Known.TheVariants as known;
 
 use crate::connection::{Connection, Step, Stop};
 use crate::entry::SHARED;
@@ -176,7 +178,9 @@ impl Connection {
     }
 
     // Returns what is known of the session that a stream names: it is refused if the stream has waited for too long.
-    pub(super) fn known_to(&self, id: u64, session: u64) -> Known {
+    pub(super) fn known_to(&self, id: u64, session: u64) -> Known
+        ensures { known_in self.now session ≡ known.Open → result ≡ known.Open }
+    {
         match self.known(session) {
             Known::Coming if self.is_late(id, session) => Known::Refused,
             known => known,
@@ -301,7 +305,7 @@ impl Connection {
     /// # Errors
     ///
     /// Nothing changes. `Closed`; `SessionGone`; `NotOpen`; `Send` if the reason has more than 1,024 bytes; and `Memory`.
-    #[tactic(auto, using(crate::proofs::KeepsLemmas::kept))]
+    #[tactic(auto, using(crate::proofs::KeepsLemmas::kept, crate::proofs::OwnLemmas::but_then, crate::proofs::StepLemmas::left_trans))]
     pub fn close_session(&mut self, session: u64, code: u32, reason: &str) -> Result<(), Refused>
         ensures open { OnOk result (open_session self.old session ≡ Ok tt) }
         ensures refused { IfErr result (λ e. IsRefused e self.old self.new) }
@@ -310,6 +314,8 @@ impl Connection {
         ensures config { self.new.config ≡ self.old.config }
         ensures goes { GoesOn [] self.old self.new }
         ensures closes { OnOk result (ChangesThen session (ClosesSession code reason.now) self.old self.new) }
+        ensures cut { Sound self.old.streams.entries self.old.ids
+            → OnOk result (AreCut session self.old.streams.entries self.new.streams.entries) }
     {
         self.check_session(session)?;
         self.put_close(session, code, reason)?;
@@ -359,6 +365,8 @@ impl Connection {
     #[tactic(auto, using(crate::proofs::KeepsLemmas::but))]
     fn session_ended(&mut self, session: u64) -> Result<(), AllocError>
         ensures keeps { KeepsBut session self.old self.new }
+        ensures cut { Sound self.old.streams.entries self.old.ids
+            → OnOk result (AreCut session self.old.streams.entries self.new.streams.entries) }
     {
         self.end_session(session)?;
         self.drop_peer(session)?;

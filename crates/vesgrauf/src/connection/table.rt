@@ -1,10 +1,12 @@
 //! The own streams of QPACK (RFC 9204, sections 4.2 to 4.4).
-ghost use Rattle.std.specs.Prelude.{◌≡◌, OnOk, IfErr, []};
+ghost use Rattle.std.specs.Prelude.{◌≡◌, OnOk, OnErr, IfErr, []};
+ghost use Rattle.vesgrauf.specs.Cuts.{Alone};
 ghost use Rattle.vesgrauf.specs.Keeps.{Keeps};
 ghost use Rattle.vesgrauf.specs.Own.{is_sent};
 ghost use Rattle.vesgrauf.specs.State.{stream_at, IsStill, Instructs, SaysAll, SaysOrWaits, view_of, with_begun};
 ghost use Rattle.vesgrauf.specs.declared.connection.Stop.TheVariants as stop;
 ghost use Rattle.vesgrauf.specs.Bounds.{InstructionsFit};
+ghost use Rattle.vesgrauf.specs.Instructions.{TellsInserts, Cancels, table_of};
 ghost use Rattle.vesgrauf.specs.Told.{GoesOn};
 
 use crate::connection::failing::EXCESSIVE_LOAD;
@@ -88,10 +90,11 @@ impl Connection {
     }
 
     // Queues the instructions that are due on the own streams of QPACK.
-    #[tactic(auto, using(crate::proofs::KeepsLemmas::kept))]
+    #[tactic(auto, using(crate::proofs::KeepsLemmas::kept, crate::proofs::InstructionLemmas::table_queued))]
     pub(super) fn queue_instructions(&mut self) -> Result<(), Stop>
         ensures ok { OnOk result (Instructs SaysAll self.old self.new) }
         ensures any { Instructs SaysOrWaits self.old self.new }
+        ensures table { table_of self.new ≡ table_of self.old }
         ensures err { IfErr result (λ e. e ≡ stop.Memory) }
         ensures goes { GoesOn [] self.old self.new }
     {
@@ -129,9 +132,10 @@ impl Connection {
     }
 
     // Queues the instructions that a section has made due. Without memory they are queued later.
-    #[tactic(auto, using(crate::proofs::KeepsLemmas::kept))]
+    #[tactic(auto, using(crate::proofs::KeepsLemmas::kept, crate::proofs::InstructionLemmas::table_queued))]
     pub(super) fn queue_due(&mut self)
         ensures due { Instructs SaysOrWaits self.old self.new }
+        ensures table { table_of self.new ≡ table_of self.old }
         ensures goes { GoesOn [] self.old self.new }
     {
         let _later = self.queue_instructions();
@@ -153,10 +157,22 @@ impl Connection {
         self.tools.encoder.set_policy(policy);
     }
 
-    // Tells the peer's encoder that a stream is left, once (RFC 9204, section 2.2.2.2).
-    #[tactic(auto, using(crate::proofs::KeepsLemmas::keep, crate::proofs::ReadsLemmas::set_here))]
-    pub(super) fn cancel(&mut self, id: u64) -> Result<(), AllocError>
+    // Tells the peer's encoder of the insertions that it does not know of (RFC 9204, section 4.4.3).
+    pub(super) fn count_inserts(&mut self) -> Result<(), AllocError>
+        ensures ok { OnOk result (TellsInserts self.old self.new) }
+        ensures err { OnErr result (IsStill self.old self.new) }
         ensures keeps { Keeps [] self.old self.new }
+    {
+        self.shared.increment(&mut self.told)
+    }
+
+    // Tells the peer's encoder that a stream is left, once (RFC 9204, section 2.2.2.2).
+    #[tactic(auto, using(crate::proofs::KeepsLemmas::keep, crate::proofs::CutLemmas::alone, crate::proofs::ReadsLemmas::set_here, std::proofs::lemmas::Map::Steps::set_value_same))]
+    pub(super) fn cancel(&mut self, id: u64) -> Result<(), AllocError>
+        ensures ok { OnOk result (Cancels id self.old self.new) }
+        ensures err { OnErr result (IsStill self.old self.new) }
+        ensures keeps { Keeps [] self.old self.new }
+        ensures alone { Alone id self.old self.new }
         ensures sent { is_sent (stream_at self.new id) ≡ is_sent (stream_at self.old id) }
     {
         let Some(entry) = self.streams.get_mut(&id) else {
@@ -172,8 +188,10 @@ impl Connection {
 
     // Tells the peer's encoder so of a stream that is left already. Without memory for it the connection ends: nothing would
     // tell it later.
+    #[tactic(auto, using(crate::proofs::KeepsLemmas::keep, crate::proofs::CutLemmas::alone))]
     pub(super) fn cancel_left(&mut self, id: u64)
         ensures keeps { Keeps [] self.old self.new }
+        ensures alone { Alone id self.old self.new }
     {
         if self.cancel(id).is_err() {
             self.fail(None, Code::H3_INTERNAL_ERROR.number().into_inner(), None);

@@ -1,11 +1,11 @@
-use Rattle.std.proofs.Common.{◌≡◌, ◌<◌, ◌^◌, [], None, refl, ap, sym, ◌∙◌, arith}
-use Rattle.std.specs.Prelude.{is_some}
+use Rattle.std.proofs.Common.{◌<◌, ◌^◌, None, refl, ap, sym, ◌∙◌, arith}
+use Rattle.std.specs.Prelude.{nat_lt}
 use Rattle.vesgrauf.specs.Ids.{next_peer}
 use Rattle.vesgrauf.specs.Keeps.{KeptOwn}
-use Rattle.vesgrauf.specs.Told.{Goes}
 use Rattle.vesgrauf.proofs.LastsLemmas.{lasts_insert}
 use Rattle.vesgrauf.proofs.IdLemmas.{goes_accepts}
 use Rattle.vesgrauf.proofs.OwnLemmas.{new_insert}
+use Rattle.vesgrauf.proofs.TellsLemmas.{accepts_insert}
 use Rattle.vesgrauf.proofs.connection.Connection.accept_next.Goals as goal
 
 pub returns-clause-keeps : goal.returns-clause-keeps
@@ -26,9 +26,18 @@ returns-clause-keeps c =
     (c.next_of_peer-next.ensures ∙ ap (λ k. next_peer c.args.self.now.ids k) (sym c.of.ensures)) below
     (rw c.entry_of_peer-entry.ensures.ids at c.see_next.ensures)
     c.in_ok-insert.ensures.updates.1
-    (rw (ap (λ m. m.entries) c.entry_of_peer-entry.ensures.streams) at c.in_ok-insert.ensures.updates.2))
+    (rw (ap (λ m. m.entries) c.entry_of_peer-entry.ensures.streams) at c.in_ok-insert.ensures.updates.2)
+    c.entry_of_peer-entry.ensures.alone)
     refl (λ h. h)
     (λ m n s. lasts_insert None c.args.self.now.ids c.args.self.now.streams.entries c.insert.new.self.entries
     c.args.self.now.events.items c.next_of_peer-next.result c.entry_of_peer-entry.result
     (sym c.was.ensures ∙ c.if-was.false) c.in_ok-insert.ensures.updates.1
     (rw (ap (λ m. m.entries) c.entry_of_peer-entry.ensures.streams) at c.in_ok-insert.ensures.updates.2) s))
+
+pub returns-clause-accepts : goal.returns-clause-accepts
+returns-clause-accepts c = accepts_insert c.args.self.now.ids c.see_next.new.self
+    (nat_lt (next_peer c.args.self.now.ids c.of.result) (2 ^ 62)) c.of.result c.args.self.now.streams.entries
+    c.insert.new.self.entries c.next_of_peer-next.result c.entry_of_peer-entry.result
+    (sym c.was.ensures ∙ c.if-was.false) c.entry_of_peer-entry.ensures.nothing
+    (rw c.entry_of_peer-entry.ensures.ids at c.see_next.ensures) c.in_ok-insert.ensures.updates.1
+    (rw (ap (λ m. m.entries) c.entry_of_peer-entry.ensures.streams) at c.in_ok-insert.ensures.updates.2)

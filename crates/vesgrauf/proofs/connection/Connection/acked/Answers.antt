@@ -1,4 +1,4 @@
-use Rattle.std.specs.Prelude.{OnOk, is_some, Result, Ok, Err}
+use Rattle.std.specs.Prelude.{is_some}
 use Rattle.std.proofs.Common.{◌≡◌, true, subst, sym}
 use Rattle.vesgrauf_queue.specs.Steps.{Does, Acknowledges}
 use Rattle.vesgrauf.specs.Messages.{ChangesThen}

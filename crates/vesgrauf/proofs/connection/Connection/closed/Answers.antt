@@ -2,6 +2,7 @@ use Rattle.std.proofs.Common.{◌≡◌, ◌∙◌, false, Some, sym}
 use Rattle.vesgrauf.specs.Own.{entry_at}
 use Rattle.vesgrauf.specs.State.{knows_of}
 use Rattle.vesgrauf.proofs.KeepsLemmas.{keeps_over}
+use Rattle.vesgrauf.proofs.CutLemmas.{alone_ended}
 use Rattle.vesgrauf.proofs.connection.Connection.closed.Goals as goal
 
 pub returns-then-not-is_known-clause-keeps : goal.returns-then-not-is_known-clause-keeps
@@ -12,3 +13,13 @@ returns-then-not-is_known-clause-keeps c =
     = rw (sym there) (sym c.is_known.ensures ∙ c.if-not-is_known.true) in
     rw c.end_told.ensures.others (keeps_over c.args.self.now.streams.entries c.end_told.new.self.streams.entries
     c.args.self.now.ids c.args.self.now.events.items c.args.self.now.config c.args.self.now.ended c.args.id unknown c.end_told.ensures.ends)
+
+pub returns-then-not-is_known-clause-alone : goal.returns-then-not-is_known-clause-alone
+returns-then-not-is_known-clause-alone c = rw c.end_told.ensures.others
+    (alone_ended c.args.id c.args.self.now.streams.entries c.end_told.new.self.streams.entries c.args.self.now.ids
+    c.end_told.ensures.ends)
+
+pub returns-clause-alone : goal.returns-clause-alone
+returns-clause-alone c = rw c.end_told-2.ensures.others
+    (alone_ended c.args.id c.args.self.now.streams.entries c.end_told-2.new.self.streams.entries c.args.self.now.ids
+    c.end_told-2.ensures.ends)

@@ -1,10 +1,13 @@
-use Rattle.std.proofs.Common.{◌≡◌, true, [], ap, sym, ◌∙◌}
-use Rattle.vesgrauf.specs.Ids.{next_own}
+use Rattle.std.proofs.Common.{◌≡◌, None, true, [], ap, arith, sym, ◌∙◌}
+use Rattle.vesgrauf.specs.declared.connection.ids.Ids.{Ids}
+use Rattle.vesgrauf.specs.Ids.{next_own, taken}
 use Rattle.vesgrauf.specs.Own.{entry_at}
-use Rattle.vesgrauf.specs.State.{IsStill, view_of, knows_of}
-use Rattle.vesgrauf.proofs.GoesLemmas.{goes_still}
+use Rattle.vesgrauf.specs.State.{IsStill, View, view_of, knows_of}
+use Rattle.vesgrauf.proofs.GoesLemmas.{goes_still, goes_then}
 use Rattle.vesgrauf.proofs.GoesSteps.{goes_on}
 use Rattle.vesgrauf.proofs.IdLemmas.{goes_opens, knows_here}
+use Rattle.vesgrauf.proofs.KeepsLemmas.{keeps_goes}
+use Rattle.vesgrauf.proofs.MemberLemmas.{keeps_noted, member_noted, member_taken, next_as, taken_as}
 use Rattle.vesgrauf.proofs.MessageLemmas.{member_begins}
 use Rattle.vesgrauf.proofs.connection.Connection.open_stream.Goals as goal
 
@@ -18,11 +21,21 @@ returns-clause-goes c =
       goes_on [] c.args.self.now c.new_member.new.self (record c.add_member.new.self { ids = c.take.new.self })
           (goes_still c.args.self.now c.new_member.new.self still)
           (rw (ap (λ d. d.items) c.in_ok-add_member.ensures.events)
+          (goes_then [] [] c.new_member.new.self.streams.entries c.new_member.new.self.streams.entries
+          c.add_member.new.self.streams.entries c.new_member.new.self.ids c.add_member.new.self.ids c.take.new.self
+          c.new_member.new.self.events.items c.new_member.new.self.events.items c.new_member.new.self.events.items
+          (keeps_goes (keeps_noted None c.new_member.new.self.streams.entries c.new_member.new.self.ids
+          c.add_member.new.self.ids c.new_member.new.self.events.items c.new_member.new.self.config
+          c.new_member.new.self.ended c.args.session c.in-Some.id c.in_ok-add_member.ensures.noted))
           (goes_opens c.new_member.new.self.streams.entries c.add_member.new.self.streams.entries
-          c.new_member.new.self.ids c.take.new.self c.new_member.new.self.events.items c.args.kind c.in-Some.id
-          (c.in-Some.ensures.0 ∙ ap (λ x. next_own x.ids c.args.kind) (sym c.new_member.ensures.others))
-          c.in-Some.ensures.1 (rw c.in_ok-add_member.ensures.ids at c.take.ensures) known
-          c.in_ok-add_member.ensures.others)),
+          c.add_member.new.self.ids c.take.new.self c.new_member.new.self.events.items c.args.kind c.in-Some.id
+          ((c.in-Some.ensures.0 ∙ ap (λ x. next_own x.ids c.args.kind) (sym c.new_member.ensures.others))
+          ∙ sym (next_as c.new_member.new.self.ids c.add_member.new.self.ids c.in_ok-add_member.ensures.noted.others
+          c.args.kind))
+          c.in-Some.ensures.1 c.take.ensures known c.in_ok-add_member.ensures.others
+          (member_noted c.args.session c.in-Some.id c.new_member.new.self.ids c.add_member.new.self.ids
+          (entry_at c.add_member.new.self.streams.entries c.in-Some.id) _ c.in_ok-add_member.ensures.noted
+          c.in_ok-add_member.ensures.here (ap (λ e. e.session) c.in_ok-entry.ensures.entry.is))))),
       known,
     )
 
@@ -30,3 +43,28 @@ pub returns-clause-begins : goal.returns-clause-begins
 returns-clause-begins c = member_begins c.args.self.now c.check_room.new.self c.add_member.new.self c.in-Some.id
     c.args.session c.args.kind c.in_ok-head.head.items _ _ c.check_room.ensures.still c.in_ok-head.ensures
     c.as_slice.ensures.value c.in_ok-entry.ensures.entry c.in_ok-add_member.ensures.here
+
+pub returns-clause-others : goal.returns-clause-others
+returns-clause-others c =
+    let still : IsStill c.args.self.now c.new_member.new.self
+    = ap (λ x. view_of x) c.new_member.ensures.others ∙ c.check_room.ensures.still in
+    let at : c.in-Some.id ≡ next_own c.add_member.new.self.ids c.args.kind
+    = (c.in-Some.ensures.0 ∙ ap (λ x. next_own x.ids c.args.kind) (sym c.new_member.ensures.others))
+    ∙ sym (next_as c.new_member.new.self.ids c.add_member.new.self.ids c.in_ok-add_member.ensures.noted.others
+    c.args.kind) in
+    ap (λ (v : View). record v { ids = c.take.new.self })
+    (c.add_member.ensures.view ∙ ap (λ (v : View). record v {
+      streams = c.add_member.new.self.streams.entries;
+      ids = c.add_member.new.self.ids;
+    }) still)
+    ∙ ap (λ (i : Ids). record (view_of c.args.self.now) { streams = c.add_member.new.self.streams.entries; ids = i })
+    (taken_as c.args.kind c.new_member.new.self.ids c.add_member.new.self.ids c.take.new.self
+    c.in_ok-add_member.ensures.noted.others c.take.ensures (omega (arith, at, c.in-Some.ensures.1))
+    ∙ ap (λ (v : View). record (taken v.ids c.args.kind) { members = c.take.new.self.members }) still)
+
+pub returns-clause-member : goal.returns-clause-member
+returns-clause-member c = λ s k.
+    let still : IsStill c.args.self.now c.new_member.new.self
+    = ap (λ x. view_of x) c.new_member.ensures.others ∙ c.check_room.ensures.still in
+    rw (ap (λ v. v.ids) (sym still)) (member_taken c.args.kind c.add_member.new.self.ids c.take.new.self s k
+    c.take.ensures ∙ c.in_ok-add_member.ensures.noted.members s k)

@@ -8,7 +8,7 @@ use Rattle.vesgrauf.specs.declared.connection.Connection.{Connection}
 use Rattle.vesgrauf.specs.declared.output.StreamKind.TheVariants as kind
 use Rattle.vesgrauf.proofs.GoesLemmas.{goes_still, goes_same}
 use Rattle.vesgrauf.proofs.GoesSteps.{goes_on}
-use Rattle.vesgrauf.proofs.IdLemmas.{goes_opens, keeps_undone, keeps_still}
+use Rattle.vesgrauf.proofs.IdLemmas.{goes_opens, keeps_undone, keeps_still, noted_alone}
 use Rattle.vesgrauf.proofs.KeepsLemmas.{keeps_then}
 use Rattle.vesgrauf.proofs.MessageLemmas.{same_but, requests}
 use Rattle.vesgrauf.proofs.connection.Connection.request.Goals as goal
@@ -28,7 +28,9 @@ returns-clause-goes c =
           (goes_opens c.choose_policy.new.self.streams.entries c.open_request.new.self.streams.entries
           c.choose_policy.new.self.ids c.take.new.self c.choose_policy.new.self.events.items kind.Bidirectional c.in-Some.id
           (c.in-Some.ensures.0 ∙ ap (λ v. next_own v.ids kind.Bidirectional) (sym later)) c.in-Some.ensures.1
-          (rw c.in_ok-open_request.ensures.ids at c.take.ensures) known c.in_ok-open_request.ensures.others))
+          (rw c.in_ok-open_request.ensures.ids at c.take.ensures) known c.in_ok-open_request.ensures.others
+          (noted_alone c.choose_policy.new.self.ids c.in-Some.id
+          (entry_at c.open_request.new.self.streams.entries c.in-Some.id) c.in_ok-open_request.ensures.alone)))
           (goes_on [] opened c.queue_due.new.self c.count_session.new.self c.queue_due.ensures.goes
           (goes_same c.queue_due.new.self.streams.entries c.count_session.new.self.streams.entries
           c.queue_due.new.self.ids c.count_session.new.self.ids c.queue_due.new.self.events.items

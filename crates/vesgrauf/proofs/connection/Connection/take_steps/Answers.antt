@@ -5,7 +5,7 @@ use Rattle.vesgrauf.specs.State.{is_over}
 use Rattle.vesgrauf.specs.Theirs.{told_by}
 use Rattle.vesgrauf.proofs.BoundLemmas.{bound_popped}
 use Rattle.vesgrauf.proofs.KeepsOwnLemmas.{holds_popped, holds_then, keeps_holds}
-use Rattle.vesgrauf.proofs.StepLemmas.{steps_on, not_before, popped_after}
+use Rattle.vesgrauf.proofs.StepLemmas.{steps_on, not_before, popped_after, queued_tells}
 use Rattle.vesgrauf.proofs.connection.Connection.take_steps.Goals as goal
 
 pub returns-in-Told-clause-told : goal.returns-in-Told-clause-told
@@ -72,3 +72,10 @@ loop-step-preserved c = record {
   keeps = holds_popped c.args.self.now c.loop-step.self c.first_queued.new.self c.try_step.new.self
       c.loop-step.invariant.keeps (rw c.in_default.is at c.first_queued.ensures.keeps) (rw c.in-More.is at c.in_ok-event.ensures.keeps);
 }
+
+pub returns-in-Some-clause-told : goal.returns-in-Some-clause-told
+returns-in-Some-clause-told c = λ h. steps_on (told_by (Some c.in-Some.event)) (is_over c.loop-step.self)
+    (is_over c.first_queued.new.self) (is_over c.first_queued.new.self) c.loop-step.invariant.told
+    (ap is_some c.first_queued.ensures.ended) (λ g. g) h (ap (λ m. m.entries) c.first_queued.ensures.streams)
+    (queued_tells c.in-Some.event c.first_queued.new.self.streams.entries c.loop-step.input
+    (rw c.in-Some.is at c.first_queued.ensures.silent))

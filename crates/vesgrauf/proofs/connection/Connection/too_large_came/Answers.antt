@@ -14,3 +14,9 @@ returns-in_err-leave_refused-clause-keeps c =
 pub returns-clause-keeps : goal.returns-clause-keeps
 returns-clause-keeps c = holds_then (keeps_holds (keeps_then c.end_session.ensures.keeps c.tell_closed.ensures.keeps))
     (c.leave_refused.ensures.keeps c.in_ok-tell_closed.ensures.done)
+
+pub returns-in_err-tell_closed-clause-keeps : goal.returns-in_err-tell_closed-clause-keeps
+returns-in_err-tell_closed-clause-keeps c =
+    let h : KeepsOwn [] c.args.self.now c.tell_closed.new.self
+    = keeps_holds (keeps_then c.end_session.ensures.keeps c.tell_closed.ensures.keeps) in
+    grind (arith, h)

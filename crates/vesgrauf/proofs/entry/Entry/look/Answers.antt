@@ -1,9 +1,12 @@
-use Rattle.std.proofs.Common.{refl}
-use Rattle.vesgrauf.proofs.ReadsLemmas.{looked}
+use Rattle.std.proofs.Common.{◌≡◌, ◌∙◌, ap}
+use Rattle.vesgrauf.specs.declared.entry.Entry.{Entry}
+use Rattle.vesgrauf.proofs.InstructionLemmas.{looked_and_said}
 use Rattle.vesgrauf.proofs.entry.Entry.look.Goals as goal
 
-pub returns-clause-reads : goal.returns-clause-reads
-returns-clause-reads c = looked c.args.self.now (record c.args.self.now { reading = c.next.new.self })
-    c.args.fields.now.limit c.args.shared.now c.next.new.shared c.args.chunk.now c.next.new.input
-    c.in_ok-found.found c.said_of.result (c.is_read.ensures.reads c.if-not-is_read.false)
-    c.said_of.ensures.same c.said_of.ensures.none refl refl c.in_ok-found.ensures.ok
+pub returns-in-Ok-clause-reads : goal.returns-in-Ok-clause-reads
+returns-in-Ok-clause-reads c =
+    let same : c.hear.new.self.is_decoder ≡ c.args.self.now.is_decoder
+    = ap (λ (e : Entry). e.is_decoder) c.hear.ensures.others in
+    looked_and_said c.args.self.now c.hear.new.self c.said_of.result
+    (c.is_read.ensures.reads c.if-not-is_read.false) (λ h. c.said_of.ensures.same (same ∙ h))
+    (λ h. c.said_of.ensures.none (same ∙ h)) (ap (λ (e : Entry). e.peer) c.hear.ensures.others) same c.in-Ok.ensures.ok
