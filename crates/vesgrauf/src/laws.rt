@@ -30,11 +30,11 @@ ghost use Rattle.vesgrauf.specs.Theirs.{theirs_in};
 ghost use Rattle.vesgrauf.specs.declared.entry.Entry.{Entry as EntryOf};
 
 /// What events told of a stream - its field sections, each with its kind and fields, its content, and its end -, joined in
-/// their order, is what calls of the layer below say of the bytes that came on it, read from the first on: no byte is skipped,
-/// and none is read twice, however the bytes were cut, kept, paused and resumed. Each call goes on in the state in which the
-/// one before left the stream, but for an answer to its request, a session that it joins, and the like (`Moves`); with what
-/// its streams have in common a call may be made in any state. What it says of the bytes that are left is still to be told,
-/// unless the stream is read no further.
+/// their order, is what calls of the layer below say of the bytes that came on it, each of those that the one before left:
+/// none is read twice, however the bytes were cut, kept, paused and resumed. Each call goes on in the state in which the one
+/// before left the stream, but for an answer to its request, a session that it joins, and the like (`Moves`); with what its
+/// streams have in common a call may be made in any state, also in one in which it says nothing. What the layer says of the
+/// bytes that are left is still to be told, unless the stream is read no further.
 pub fn told_is_what_came()
     ensures { (steps : List Step) (s : Stream) (y : Theirs) → Leads steps (Unread [] false s) y
         → IsToldOf (came steps) (ends steps) s (told steps) y }
@@ -103,7 +103,7 @@ pub fn wrong_endings_are_refused()
 {}
 
 /// In each run from the beginning what `close_session` takes for granted is so: each stream of a session is noted as one of
-/// it, and so is cut when the session ends (draft-ietf-webtrans-http3-02, section 5).
+/// it, and so is cut where `close_session` ends the session (draft-ietf-webtrans-http3-02, section 5).
 pub fn streams_of_sessions_are_noted()
     ensures sound { (calls : List Call) (d : Connection) → Run calls d → Sound d.streams.entries d.ids }
     ensures noted { (calls : List Call) (d : Connection) → Run calls d → Linked d.streams.entries d.ids }
@@ -168,8 +168,8 @@ pub fn instructions_are_sent_in_order()
         × (all_taken turns ++ u.bytes ≡ t.bytes ++ bytes_of_all said) }
 {}
 
-/// A section that was read with the own table is acknowledged once, on its stream, if its Required Insert Count is not 0;
-/// where none was read, nothing is said (RFC 9204, section 4.4.1).
+/// The step that reads a section with the own table acknowledges it once, on its stream, if its Required Insert Count is not
+/// 0; where it reads none, nothing is said (RFC 9204, section 4.4.1).
 #[tactic(auto, using(crate::proofs::InstructionLemmas::acknowledged_once, crate::proofs::InstructionLemmas::unread_is_silent))]
 pub fn sections_are_acknowledged_once()
     ensures read { (id : ℕ) (t u : Table) (a : Acknowledges id t u) (k : Decoder) (required : ℕ)
