@@ -36,9 +36,9 @@ left_fits n x y (inl e) p = subst (λ t. Fits n t) (sym e) p
 left_fits n x y (inr (inl e)) p = subst (λ t. Fits n t) (sym e) tt
 left_fits n x y (inr (inr e)) p = turned_fits n x y e p
 
-start_fits : (n : ℕ) (seen : Bool) (x y : Theirs) → IsStart seen x y → Fits n x → Fits n y
-start_fits n seen x y (inl e) p = subst (λ t. Fits n t) (sym e) p
-start_fits n seen x y (inr e) p = subst (λ t. Fits n t) (sym e.1.nothing) (omega arith)
+start_fits : (n id : ℕ) (seen : Bool) (x y : Theirs) → IsStart id seen x y → Fits n x → Fits n y
+start_fits n id seen x y (inl e) p = subst (λ t. Fits n t) (sym e) p
+start_fits n id seen x y (inr e) p = subst (λ t. Fits n t) (sym e.1.nothing) (omega arith)
 
 -- what is left of bytes that are read
 calls_shrink : (pieces : List Piece) (bytes rest : List ℕ) (ended : Bool) (s t : Stream)
@@ -112,7 +112,7 @@ kept_all n said c d t p =
     record { each = λ k. is_read_fits n (theirs_at c k) (theirs_at d k) (said k) (t.each k).0 (p.each k) }
 
 pub start_all : (n : ℕ) (a b : Ids) (c d : List (ℕ × Entry)) → Accepts a c b d → AllFit n c → AllFit n d
-start_all n a b c d t p = record { each = λ k. start_fits n _ (theirs_at c k) (theirs_at d k) (t.each k) (p.each k) }
+start_all n a b c d t p = record { each = λ k. start_fits n k _ (theirs_at c k) (theirs_at d k) (t.each k) (p.each k) }
 
 set_by : (n : ℕ) (a b : Bool) (e f : Entry) (x y : Option Entry) → Fits n (theirs_in (Some f))
     → Fits n (theirs_in (cond b (Some e) x)) → (Fits n (theirs_in x) → Fits n (theirs_in y))

@@ -354,12 +354,14 @@ pub asks_credit : (id code len : ℕ) (os rs : List Output) → rs ≡ os ++ (ou
 asks_credit id code len os rs h = rw h (AsksMore (output.Credit id len) AsksNothing (same id))
 
 -- one that was queued is taken back
+pub popped_same : (x : Output) (os rs ts : List Output) → rs ≡ os ++ (x ∷ []) → ts ≡ take (length rs - 1) rs → ts ≡ os
+popped_same x os rs ts h g =
+    let len : length rs - 1 ≡ length os = rw (h, length-append os (x ∷ [])) (omega arith) in
+    g ∙ (ap (λ n. take n rs) len ∙ (ap (λ l. take (length os) l) h ∙ take-append_seam os (x ∷ [])))
+
 pub asks_popped : (id code : ℕ) (x : Output) (os rs ts : List Output) → rs ≡ os ++ (x ∷ []) → ts ≡ take (length rs - 1) rs
     → Asks id code os ts
-asks_popped id code x os rs ts h g =
-    let len : length rs - 1 ≡ length os = rw (h, length-append os (x ∷ [])) (omega arith) in
-    let same : ts ≡ os = g ∙ (ap (λ n. take n rs) len ∙ (ap (λ l. take (length os) l) h ∙ take-append_seam os (x ∷ []))) in
-    rw same AsksNothing
+asks_popped id code x os rs ts h g = rw (popped_same x os rs ts h g) AsksNothing
 
 -- ---- sets for tactics
 

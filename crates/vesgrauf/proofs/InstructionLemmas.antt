@@ -1,6 +1,6 @@
 -- What the peer's encoder is told on the own decoder stream.
 use Rattle.std.proofs.Common.{◌≡◌, ◌++◌, ◌⊎◌, ◌==◌, ◌<◌, ◌-◌, ℕ, List, [], ◌∷◌, Option, None, Some, Bool, true, false, cond, refl, sym, ap, subst, ◌∙◌, inl, inr, arith, append_assoc, append-nil}
-use Rattle.std.specs.Prelude.{min}
+use Rattle.std.specs.Prelude.{is_some, min}
 use Rattle.wtp_dynamic.specs.declared.acknowledgment.Acknowledgment.{Acknowledgment}
 use Rattle.wtp_dynamic.specs.declared.acknowledgment.Acknowledgment.TheVariants as instruction
 use Rattle.wtp_dynamic.specs.DecoderStream.{acknowledgment_bytes}
@@ -29,11 +29,21 @@ use Rattle.vesgrauf.specs.declared.critical.Critical.{Critical}
 use Rattle.vesgrauf.specs.declared.entry.Entry.{Entry}
 use Rattle.vesgrauf.specs.declared.entry.Peer.TheVariants as peer
 use Rattle.vesgrauf.specs.Items.{items_found}
+use Rattle.vesgrauf.specs.State.{SaysAll, SaysBy}
 use Rattle.vesgrauf.specs.Streams.{Says}
 use Rattle.vesgrauf.specs.Theirs.{IsRead, theirs_of, with_chunk}
 use Rattle.vesgrauf.specs.Instructions.{Table, table_by, Deed, Reads, Leaves, Counts, Acknowledges, MayAcknowledge, Looked, Rested, left, counted, Does, Deeds, IsSaidBy, AreSaid, bytes_of_all, Turn, Works, Takes, Turns, all_deeds, all_taken, is_piece, is_found_piece, HearsAndSays}
 use Rattle.vesgrauf.proofs.LookLemmas.{looked, looked_plain}
 use Rattle.vesgrauf.proofs.UnreadLemmas.{pieces_unread}
+
+says_none_by : (o : Option ℕ) (bytes rest : List ℕ) (c : Critical) → false ≡ is_some o → rest ≡ bytes
+    → SaysBy o bytes rest c c
+says_none_by None bytes rest c h r = (r, refl)
+says_none_by (Some id) bytes rest c h r = absurd (let bad : false ≡ true = h in cc)
+
+-- a stream that has no ID says nothing: the bytes wait on
+pub says_none : (bytes rest : List ℕ) (c : Critical) → false ≡ is_some c.id → rest ≡ bytes → SaysAll bytes rest c c
+says_none bytes rest c h r = says_none_by c.id bytes rest c h r
 
 abbrev table_at : Option Decoder → Option Unacknowledged → List ℕ → Table
 table_at d r bytes = record { decoder = d; read = r; bytes = bytes }

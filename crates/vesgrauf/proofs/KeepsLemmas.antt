@@ -1,6 +1,6 @@
 -- What steps and calls of a connection keep.
 use Rattle.std.proofs.Common.{◌≡◌, ◌==◌, ◌++◌, Equal, ℕ, List, [], ◌∷◌, Option, Some, None, Bool, true, false, cond, refl, inl, inr, sym, ap, subst, ◌∙◌}
-use Rattle.std.specs.Prelude.{is_some}
+use Rattle.std.specs.Prelude.{is_some, Result, Ok, Err, MatchResult}
 use Rattle.std.specs.Cmp.{nat_cmp_is}
 use Rattle.std.specs.Ordering.{nat_cmp, is_eq}
 use Rattle.std.specs.Map.{set_value}
@@ -328,6 +328,20 @@ keeps_finished es fs ids q a x id e f there set connect ends t l r =
     (λ n s. lasts_sets None es (set_value (is_at (nat_cmp id)) es f) q id (Some f) (set_sets es id e f there)
     (rw there (holds_ended_own (is_known e.told) (is_known f.told) (own_in (Some e)) (own_in (Some f))
     (reads_in (Some e)) (reads_in (Some f)) (ap (λ p. is_known p.told) t) closed r))))
+
+-- that, where the call that ends it may be refused
+pub keeps_tried : {A E : Type 0} (answer : Result A E) (P : E → Type 0) (es : List (ℕ × Entry)) (ids : Ids) (q : List Event)
+    (a : Config) (x : Option Ended) (id : ℕ) (e f : Entry) → entry_at es id ≡ Some e
+    → is_connect e.writing.half ≡ true
+    → MatchResult answer (λ u. Ends e.writing f.writing) (λ n. (f.writing ≡ e.writing) × P n)
+    → standing_of f ≡ standing_of e → theirs_in (Some f) ≡ theirs_in (Some e) → reads_in (Some f) ≡ reads_in (Some e)
+    → KeepsAll None [] es ids q a x (set_value (is_at (nat_cmp id)) es f) ids q a x
+keeps_tried (Ok u) P es ids q a x id e f there connect ends t l r =
+    keeps_finished es (set_value (is_at (nat_cmp id)) es f) ids q a x id e f there refl connect ends t l r
+keeps_tried (Err n) P es ids q a x id e f there connect same t l r =
+    let own : own_in (Some f) ≡ own_in (Some e) = ap own_of same.0 in
+    keeps_set None es ids q a x id f (inl (own ∙ sym (ap own_in there))) (inl (l ∙ sym (ap theirs_in there)))
+    (ap standing_in there ∙ ap Some (sym t)) (inr (own ∙ sym (ap own_in there), r ∙ sym (ap reads_in there)))
 
 -- a call that reads nothing changes the state of the peer's half
 pub keeps_turned : (es : List (ℕ × Entry)) (ids : Ids) (q : List Event) (a : Config) (x : Option Ended) (id : ℕ) (e f : Entry)

@@ -16,6 +16,7 @@ pub mod NotedLemmas
 pub mod OrderLemmas
 pub mod OwnLemmas
 pub mod PieceLemmas
+pub mod PlaceLemmas
 pub mod ProgressLemmas
 pub mod ReadsLemmas
 pub mod RunLemmas

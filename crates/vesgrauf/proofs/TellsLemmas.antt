@@ -200,16 +200,17 @@ pub accepts_all : (a b : Ids) (said : ℕ → List Item) (c d e : List (ℕ × E
     → Accepts a c b d → Tells said d i e j → TellsAll a said c i e j
 accepts_all a b said c d e i j p q = record { each = λ k. (theirs_at d k, p.each k, q.each k) }
 
-start_by : (s t : Bool) (x y z : Theirs) → (s ≡ true → t ≡ true) → IsStart s x y → IsStart t y z → IsStart s x z
-start_by s t x y z h (inl p) (inl q) = inl (q ∙ p)
-start_by s t x y z h (inr p) (inl q) =
+start_by : (id : ℕ) (s t : Bool) (x y z : Theirs) → (s ≡ true → t ≡ true) → IsStart id s x y → IsStart id t y z
+    → IsStart id s x z
+start_by id s t x y z h (inl p) (inl q) = inl (q ∙ p)
+start_by id s t x y z h (inr p) (inl q) =
     inr (p.0, record { at = p.1.at; new = p.1.new; nothing = q ∙ p.1.nothing })
-start_by true t x y z h p (inr q) = absurd (cc (h refl, q.0))
-start_by false t x y z h p (inr q) = inr (refl, q.1)
+start_by id true t x y z h p (inr q) = absurd (cc (h refl, q.0))
+start_by id false t x y z h p (inr q) = inr (refl, q.1)
 
 pub accepts_steps : (a b f : Ids) (c d e : List (ℕ × Entry)) → Accepts a c b d → Accepts b d f e → Accepts a c f e
 accepts_steps a b f c d e p q = record {
-  each = λ k. start_by (was a k) (was b k) (theirs_at c k) (theirs_at d k) (theirs_at e k) (p.seen k) (p.each k) (q.each k);
+  each = λ k. start_by k (was a k) (was b k) (theirs_at c k) (theirs_at d k) (theirs_at e k) (p.seen k) (p.each k) (q.each k);
   seen = λ k h. q.seen k (p.seen k h);
 }
 
@@ -218,20 +219,20 @@ accepts_none a c = record { each = λ k. inl refl; seen = λ k h. h }
 
 -- a stream of the peer of which nothing came
 pub blank_of : (r : Reading) (c : Shared) (id : ℕ) → r.stream ≡ (accepted c id).1 → kept_of r ≡ [] → r.ended ≡ false
-    → IsBlank (Unread (kept_of r) r.ended r.stream)
+    → IsBlank id (Unread (kept_of r) r.ended r.stream)
 blank_of r c id at kept ended = record {
   at = r.stream;
-  new = record { c = c; id = id; is = at };
+  new = record { c = c; is = at };
   nothing = ap (λ l. Unread l r.ended r.stream) kept ∙ ap (λ e. Unread [] e r.stream) ended;
 }
 
 accept_by : (b : Bool) (a : Ids) (es fs : List (ℕ × Entry)) (id k : ℕ) (e : Entry) → is_at (nat_cmp id) k ≡ b
-    → was a id ≡ false → IsBlank (theirs_of e)
+    → was a id ≡ false → IsBlank id (theirs_of e)
     → lookup (is_at (nat_cmp id)) fs ≡ Some e
     → ((k : ℕ) → is_at (nat_cmp id) k ≡ false → lookup (is_at (nat_cmp k)) fs ≡ lookup (is_at (nat_cmp k)) es)
-    → IsStart (was a k) (theirs_at es k) (theirs_at fs k)
+    → IsStart k (was a k) (theirs_at es k) (theirs_at fs k)
 accept_by true a es fs id k e t w n here there =
-    subst (λ m. IsStart (was a m) (theirs_at es m) (theirs_at fs m)) (same_key id k t)
+    subst (λ m. IsStart m (was a m) (theirs_at es m) (theirs_at fs m)) (same_key id k t)
     (inr (w, record { at = n.at; new = n.new; nothing = ap theirs_in here ∙ n.nothing }))
 accept_by false a es fs id k e t w n here there = inl (ap theirs_in (there k t))
 
@@ -259,7 +260,7 @@ seen_next true kd a k h = was_seen kd a k h
 seen_next false kd a k h = h
 
 pub accepts_insert : (a b : Ids) (t : Bool) (kd : StreamKind) (es fs : List (ℕ × Entry)) (id : ℕ) (e : Entry)
-    → was a id ≡ false → IsBlank (theirs_of e) → b ≡ cond t (seen a kd) a
+    → was a id ≡ false → IsBlank id (theirs_of e) → b ≡ cond t (seen a kd) a
     → lookup (is_at (nat_cmp id)) fs ≡ Some e
     → ((k : ℕ) → is_at (nat_cmp id) k ≡ false → lookup (is_at (nat_cmp k)) fs ≡ lookup (is_at (nat_cmp k)) es)
     → Accepts a es b fs
@@ -370,15 +371,15 @@ told_or_gone id items step.More c d p q g = gone_hands id items c d q g
 told_or_gone id items step.Nothing c d p q g = record { each = (gone_hands id items c d q g).each }
 
 -- nothing was read and told, and then this
-start_none : (s : Bool) (u v x y : Theirs) (f : Theirs → Theirs) (items : List Item) → IsRead (f u) [] (f v)
-    → IsStart s v x → IsTold (f x) items y → (t : Theirs) × IsStart s u t × IsTold (f t) items y
-start_none s u v x y f items p (inl h) r =
+start_none : (id : ℕ) (s : Bool) (u v x y : Theirs) (f : Theirs → Theirs) (items : List Item) → IsRead (f u) [] (f v)
+    → IsStart id s v x → IsTold (f x) items y → (t : Theirs) × IsStart id s u t × IsTold (f t) items y
+start_none id s u v x y f items p (inl h) r =
     (u, inl refl, (read_steps (f u) (f v) y [] items p (subst (λ t. IsRead (f t) items y) h r.0), r.1))
-start_none s u v x y f items p (inr h) r = (x, inr h, r)
+start_none id s u v x y f items p (inr h) r = (x, inr h, r)
 
 pub none_all : (a : Ids) (quiet said : ℕ → List Item) (c d e : List (ℕ × Entry)) (i l : Input)
     → ((k : ℕ) → quiet k ≡ []) → Tells quiet c i d i → TellsAll a said d i e l → TellsAll a said c i e l
 none_all a quiet said c d e i l h p q = record {
-  each = λ k. start_none (was a k) (theirs_at c k) (theirs_at d k) (q.each k).0 (unread_at e l k) (with_input i k)
+  each = λ k. start_none k (was a k) (theirs_at c k) (theirs_at d k) (q.each k).0 (unread_at e l k) (with_input i k)
       (said k) (subst (λ b. IsRead (unread_at c i k) b (unread_at d i k)) (h k) (p.each k).0) (q.each k).1 (q.each k).2;
 }

@@ -1,5 +1,5 @@
 -- GOAWAY of a connection (RFC 9114, section 5.2).
-use Rattle.std.specs.Prelude.{◌^◌, ◌≤◌, ◌≡◌, ◌⊎◌, ◌||◌, ℕ, Bool, true, false, Ok, Err}
+use Rattle.std.specs.Prelude.{◌^◌, ◌≤◌, ◌≡◌, ◌⊎◌, ◌||◌, ℕ, Bool, true, false, min, Option, None, Some, Ok, Err}
 use Rattle.vesgrauf.specs.declared.connection.Connection.{Connection}
 use Rattle.vesgrauf.specs.declared.connection.ids.Ids.{Ids}
 use Rattle.vesgrauf.specs.declared.refused.Refused.{Refused}
@@ -19,15 +19,20 @@ abbrev pub is_final : Shutdown → Bool
 is_final shutdown.Notice = false
 is_final shutdown.Final = true
 
+-- an ID, unless it is above that of the last GOAWAY, which none may be (RFC 9114, section 5.2): then that one
+abbrev pub not_above : Option ℕ → ℕ → ℕ
+not_above None id = id
+not_above (Some last) id = min id last
+
 -- The ID of a GOAWAY (RFC 9114, section 5.2): a push's at a client, which allows none; a request's at a server, of which
 -- the greatest rejects none.
-abbrev pub goaway_id : Side → Shutdown → Ids → ℕ
-goaway_id Client phase ids = 0
-goaway_id Server shutdown.Notice ids = 4611686018427387900
-goaway_id Server shutdown.Final ids = ids.peer_bidirectional
+abbrev pub goaway_id : Side → Shutdown → Ids → (last : Option ℕ) → ℕ
+goaway_id Client phase ids last = 0
+goaway_id Server shutdown.Notice ids last = 4611686018427387900
+goaway_id Server shutdown.Final ids last = not_above last ids.peer_bidirectional
 
 abbrev pub goaway_for : Shutdown → Connection → ℕ
-goaway_for phase c = goaway_id c.config.side phase c.ids
+goaway_for phase c = goaway_id c.config.side phase c.ids c.goaways.goaway
 
 -- GOAWAY is queued on the control stream, and nothing else changes; the last one is followed by the end.
 pub record ShutsDown (phase : Shutdown) (c d : Connection) : Type 0 where

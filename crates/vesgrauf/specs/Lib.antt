@@ -17,6 +17,7 @@ pub mod Members
 pub mod Messages
 pub mod Order
 pub mod Own
+pub mod Places
 pub mod Progress
 pub mod Runs
 pub mod State

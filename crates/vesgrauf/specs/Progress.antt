@@ -1,15 +1,16 @@
 -- Progress: what is so where nothing is left to be told, and where nothing is left to be sent.
-use Rattle.std.specs.Prelude.{◌≡◌, ◌⊎◌, ◌≤◌, ℕ, true, false, List, [], length, Option, None, Some}
+use Rattle.std.specs.Prelude.{◌≡◌, ◌⊎◌, ◌≤◌, ℕ, Bool, true, false, List, [], length, Option, None, Some}
 use Rattle.vesgrauf_queue.specs.State.{IsIdle}
 use Rattle.vesgrauf_ready.specs.declared.rank.Rank.{Rank}
-use Rattle.vesgrauf_ready.specs.Turns.{IsNext, IsIdle as HasNone}
+use Rattle.vesgrauf_ready.specs.Turns.{IsNext}
 use Rattle.vesgrauf.specs.declared.connection.Connection.{Connection}
 use Rattle.vesgrauf.specs.declared.connection.Ended.{Ended}
 use Rattle.vesgrauf.specs.declared.critical.Critical.{Critical}
 use Rattle.vesgrauf.specs.declared.entry.Entry.{Entry}
 use Rattle.vesgrauf.specs.declared.input.Input.{Input}
 use Rattle.vesgrauf.specs.declared.input.Report.TheVariants as report
-use Rattle.vesgrauf.specs.Streams.{IsNotDue}
+use Rattle.vesgrauf.specs.Places.{is_later, is_sending}
+use Rattle.vesgrauf.specs.Streams.{IsNotDue, ShowsOwn}
 use Rattle.vesgrauf.specs.State.{stream_at}
 
 -- ---- what is told
@@ -23,8 +24,8 @@ abbrev pub IsInstructed : Connection → Type 0
 IsInstructed c = AreQueued c.told.items c.decoder × AreQueued c.tools.instructions.items c.encoder
 
 -- Nothing is due before an input: the connection is not over; no event is queued; no stream is being read again; the own
--- table was begun, if it is to be; what came before a session was told or dropped, if that is open or refused; and
--- instructions are queued.
+-- table was begun, if it is to be; what came before a session was told or dropped, if that is open or refused;
+-- instructions are queued; and each stream that may be sent from has its place in the order of sending.
 pub record IsQuiet (c : Connection) : Type 0 where
   pub lasts : c.ended ≡ None
   pub events : c.events.items ≡ []
@@ -32,6 +33,7 @@ pub record IsQuiet (c : Connection) : Type 0 where
   pub table : c.pending.begins_table ≡ false
   pub sessions : c.datagrams.opened.items ≡ []
   pub instructed : IsInstructed c
+  pub placed : c.unplaced ≡ None
 
 -- Nothing is left of the connection: no stream but those that the peer keeps for it, and nothing that waits for QUIC.
 abbrev pub IsSpent : Connection → Type 0
@@ -61,22 +63,25 @@ pub record IsSettled (c : Connection) (i : Input) : Type 0 where
 
 -- ---- what is sent
 
--- nothing waits on this stream, if it is there
-abbrev pub HasNothing : Option Entry → Type 0
-HasNothing None = Unit {0}
-HasNothing (Some e) = IsIdle e.writing.queue
-
 -- it is the turn of the stream with this ID
-abbrev pub IsTurnOf : Connection → ℕ → Type 0
-IsTurnOf c id = (x : Rank) × (x.id ≡ id) × IsNext c.ready x
+pub data IsTurnOf (c : Connection) (id : ℕ) : Type 0 where
+  Turns : (x : Rank) → x.id ≡ id → IsNext c.ready x → IsTurnOf c id
 
--- no stream is ready to send; or nothing waits on that whose turn it is
-abbrev pub NoneIsReady : Connection → Type 0
-NoneIsReady c = HasNone c.ready.ranks ⊎ ((id : ℕ) × IsTurnOf c id × HasNothing (stream_at c id))
+-- the next bytes are those of an own critical stream that is due, or it is the turn of this stream
+abbrev pub IsTurn : Connection → (id : ℕ) → (bytes more : List ℕ) → (fin : Bool) → Type 0
+IsTurn c id bytes more fin =
+    ShowsOwn c.control id bytes more fin
+    ⊎ (ShowsOwn c.decoder id bytes more fin ⊎ (ShowsOwn c.encoder id bytes more fin ⊎ IsTurnOf c id))
 
--- nothing is to be sent: no own critical stream is due, and of the others none is ready
+-- Of no stream is QUIC to take bytes, or the end, of which it may; but for one that is given its place in the order of
+-- sending in the next step.
+pub data NoneIsSending (c : Connection) : Type 0 where
+  AllAreSent : ((id : ℕ) (e : Entry) → stream_at c id ≡ Some e → is_sending e ≡ true → is_later id c.unplaced ≡ true)
+      → NoneIsSending c
+
+-- nothing is to be sent: no own critical stream is due, and of the others none may be sent from
 pub record IsSent (c : Connection) : Type 0 where
   pub control : IsNotDue c.control
   pub decoder : IsNotDue c.decoder
   pub encoder : IsNotDue c.encoder
-  pub others : NoneIsReady c
+  pub others : NoneIsSending c

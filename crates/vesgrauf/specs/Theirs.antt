@@ -223,25 +223,24 @@ pub record Tells (said : ℕ → List Item) (c : List (ℕ × Entry)) (i : Input
 
 -- ---- streams that come to be
 
--- the state of a stream that the peer opened, of which nothing was read
-pub record IsNew (s : Stream) : Type 0 where
+-- the state of the stream with this ID, which the peer opened, and of which nothing was read
+pub record IsNew (id : ℕ) (s : Stream) : Type 0 where
   pub c : Shared
-  pub id : ℕ
   pub is : s ≡ (accepted c id).1
 
 -- nothing of such a stream is kept
-pub record IsBlank (y : Theirs) : Type 0 where
+pub record IsBlank (id : ℕ) (y : Theirs) : Type 0 where
   pub at : Stream
-  pub new : IsNew at
+  pub new : IsNew id at
   pub nothing : y ≡ Unread [] false at
 
 -- they are as they were; or the ID was not seen before, and nothing is kept
-abbrev pub IsStart : Bool → Theirs → Theirs → Type 0
-IsStart seen x y = (y ≡ x) ⊎ ((seen ≡ false) × IsBlank y)
+abbrev pub IsStart : (id : ℕ) → (seen : Bool) → Theirs → Theirs → Type 0
+IsStart id seen x y = (y ≡ x) ⊎ ((seen ≡ false) × IsBlank id y)
 
 -- that of all streams; and what was seen stays so
 pub record Accepts (a : Ids) (c : List (ℕ × Entry)) (b : Ids) (d : List (ℕ × Entry)) : Type 0 where
-  pub each : (id : ℕ) → IsStart (was a id) (theirs_at c id) (theirs_at d id)
+  pub each : (id : ℕ) → IsStart id (was a id) (theirs_at c id) (theirs_at d id)
   pub seen : (id : ℕ) → was a id ≡ true → was b id ≡ true
 
 -- What is told of each stream are the items that the bytes say that are read of it: of those that were kept and those
@@ -249,5 +248,5 @@ pub record Accepts (a : Ids) (c : List (ℕ × Entry)) (b : Ids) (d : List (ℕ 
 -- skipped, and none is read again.
 pub record TellsAll (a : Ids) (said : ℕ → List Item) (c : List (ℕ × Entry)) (i : Input) (d : List (ℕ × Entry)) (j : Input)
     : Type 0 where
-  pub each : (id : ℕ) → (x : Theirs) × IsStart (was a id) (theirs_at c id) x
+  pub each : (id : ℕ) → (x : Theirs) × IsStart id (was a id) (theirs_at c id) x
       × IsTold (with_input i id x) (said id) (unread_at d j id)

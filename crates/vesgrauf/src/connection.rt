@@ -1,4 +1,6 @@
 //! A whole connection.
+ghost use Rattle.vesgrauf.specs.Places.{Ordered, Ordered-prop};
+
 mod beginning;
 mod calls;
 mod closing;
@@ -16,6 +18,7 @@ mod messages;
 mod opening;
 mod peers;
 mod pieces;
+mod placing;
 mod quick;
 mod reading;
 mod requests;
@@ -67,6 +70,8 @@ pub struct Connection {
     full: BTreeSet<u64>,
     /// The streams that may be sent from.
     ready: Ready,
+    /// A stream that is to have its place among them, for which memory was refused.
+    unplaced: Option<u64>,
     /// The own control stream, and the own streams of QPACK.
     control: Critical,
     decoder: Critical,
@@ -101,6 +106,7 @@ pub struct Connection {
     failure: Option<Failure>,
     /// The code with which QUIC is to close the connection.
     closes: Option<u64>,
+    ghost ordered: { Ordered streams.entries ready.ranks unplaced } by { Ordered-prop streams.entries ready.ranks unplaced },
 }
 
 /// What is to be looked at in the next steps.
@@ -121,8 +127,6 @@ struct Pending {
     begins_table: bool,
     /// A stream that named its session, and is to join it: it did not yet if memory was refused.
     named: Option<Member>,
-    /// A stream that is to have its place in the order of sending, for which memory was refused.
-    unplaced: Option<u64>,
     /// The first request that a server does not process, if streams are to be told so.
     unprocessed: Option<u64>,
 }
@@ -139,7 +143,6 @@ impl Pending {
             owes_unidirectional: false,
             begins_table: false,
             named: None,
-            unplaced: None,
             unprocessed: None,
         }
     }
@@ -268,7 +271,7 @@ impl Connection {
     }
 
     // Returns a connection without streams, of which nothing is queued.
-    #[tactic(auto, using(crate::proofs::GoesSteps::sound_none))]
+    #[tactic(auto, using(crate::proofs::GoesSteps::sound_none, crate::proofs::PlaceLemmas::ordered_none))]
     fn idle(alloc: Global, config: Config) -> Self
         ensures of_config { result.config ≡ config }
         ensures streams { result.streams.entries ≡ [] }
@@ -289,6 +292,7 @@ impl Connection {
             waiting: BTreeSet::new(alloc),
             full: BTreeSet::new(alloc),
             ready: Ready::new(alloc, config.fair.max(1)),
+            unplaced: None,
             control: Critical::new(alloc, queue),
             decoder: Critical::new(alloc, queue),
             encoder: Critical::new(alloc, queue),
@@ -320,7 +324,7 @@ impl Connection {
     ///
     /// # Errors
     ///
-    /// If memory is refused: nothing is lost, the input stays as it is, and the call is to be made again.
+    /// If memory is refused: nothing is lost, the input has what was not taken in, and the call is to be made again.
     #[tactic(auto, using(crate::proofs::KeepsOwnLemmas::held, crate::proofs::ProgressLemmas::quiet_settled, crate::proofs::BoundLemmas::bounded))]
     #[inline(always)]
     pub fn next_event<'a>(&mut self, input: &mut Input<'a>) -> Result<Option<Event<'a>>, AllocError>

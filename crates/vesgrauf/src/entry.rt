@@ -98,6 +98,7 @@ impl Entry {
     ghost use Rattle.vesgrauf_stream.specs.Reading.{kept_of};
     ghost use Rattle.vesgrauf_stream.specs.Writing.{Sends};
     ghost use Rattle.vesgrauf.specs.Own.{own_of, Took};
+    ghost use Rattle.vesgrauf.specs.Places.{has_more};
     ghost use Rattle.vesgrauf.specs.State.{OwnHalf, RefusesBytes, StaysOf};
     ghost use Rattle.vesgrauf_queue.specs.State.{IsIdle};
     ghost use Rattle.vesgrauf.specs.declared.refused.Refused.TheVariants as refused;
@@ -175,7 +176,16 @@ impl Entry {
     }
 
     // Returns whether QUIC is to take bytes of it, or its end.
+    #[tactic(auto, using(crate::proofs::PlaceLemmas::more_is))]
     pub(crate) fn has_more(&self) -> bool
+        ensures idle { IsTrue result ↔ ¬ (IsIdle self.now.writing.queue) }
+        ensures more { result ≡ has_more self.now.writing.queue }
+    {
+        self.has_next()
+    }
+
+    // Returns whether bytes wait, or its end.
+    fn has_next(&self) -> bool
         ensures { IsTrue result ↔ ¬ (IsIdle self.now.writing.queue) }
     {
         if self.writing.has_waiting() {
@@ -215,6 +225,8 @@ impl Entry {
         ensures why { IfErr result (λ e. RefusesBytes (length bytes.now) fin self.old.writing e) }
         ensures told { IfErr result (λ e. e ≡ refused.Full → was_full ≡ true) }
         ensures kept { IfErr result (λ e. StaysOf e self.old self.new) }
+        ensures place { (self.new.is_opened ≡ self.old.is_opened) × (self.new.is_blocked ≡ self.old.is_blocked)
+            × (self.new.priority ≡ self.old.priority) }
     {
         if was_full && !self.writing.admits() {
             return Err(Refused::Full);
@@ -235,6 +247,8 @@ impl Entry {
         ensures told { IfErr result (λ e. e.why ≡ refused.Full → was_full ≡ true) }
         ensures kept { IfErr result (λ e. StaysOf e.why self.old self.new) }
         ensures bytes { IfErr result (λ e. e.bytes ≡ bytes) }
+        ensures place { (self.new.is_opened ≡ self.old.is_opened) × (self.new.is_blocked ≡ self.old.is_blocked)
+            × (self.new.priority ≡ self.old.priority) }
     {
         if was_full && !self.writing.admits() {
             return Err(NotSent {
@@ -252,9 +266,11 @@ impl Entry {
     }
 
     // QUIC took the first `len` bytes that wait.
+    #[tactic(auto, using(crate::proofs::PlaceLemmas::more_put))]
     pub(crate) fn sent(&mut self, spares: &mut Spares, len: usize) -> Result<(), NotShown>
         ensures took { OnOk result (Took len (own_of self.old.writing) (own_of self.new.writing)) }
         ensures kept { OnErr result (self.new ≡ self.old) }
+        ensures more { has_more self.new.writing.queue ≡ true → has_more self.old.writing.queue ≡ true }
         ensures others { self.new ≡ record self.old { writing = self.new.writing } }
     {
         self.writing.sent(spares, len)

@@ -103,7 +103,7 @@ pub struct Failure {
 #[derive(Clone, Copy, Debug, PartialEq, Eq)]
 pub enum Rule {
     /// A rule of streams, of frames, of QPACK, of sessions or of datagrams.
-    /// [`Rejected`](Fault::Rejected) is none that the peer violated.
+    /// [`Rejected`](Fault::Rejected) is none that the peer violated: its session was refused here, or did not come.
     Fault(Fault),
     /// A rule of messages (RFC 9114, section 4.1.2).
     Malformed(Malformed),

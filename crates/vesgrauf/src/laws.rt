@@ -1,4 +1,5 @@
-//! Laws of all runs of a connection. Each function does nothing: its contract is the law.
+//! Laws of a connection, of its runs or of the steps that its calls take. Each function does nothing: its contract is the
+//! law.
 ghost use Rattle.std.specs.Prelude.{◌≡◌, ◌++◌, ◌<◌, min, ℕ, Bool, List, [], ◌∷◌, Some, None, true, false};
 ghost use Rattle.wtp_qpack.specs.Field.{Field};
 ghost use Rattle.wtp_webtransport.specs.Events as say;
@@ -47,7 +48,7 @@ pub fn the_end_is_last()
 {}
 
 /// The definitions of what is told refuse an interim response as the final one, trailers as a head, a request for a session
-/// as another one or as one for another tunnel, an end or content for what says nothing, and content that is left out.
+/// as another one or as one for another tunnel, an end or content for what says nothing, and a piece of content that is said and left out.
 /// Content in pieces is what they are together.
 pub fn wrong_tellings_are_refused()
     ensures interim_as_final { (status : ℕ) (fields : List Field)

@@ -11,10 +11,11 @@ ghost use Rattle.vesgrauf.specs.Told.{GoesOn};
 
 use crate::code::StreamCode;
 use crate::connection::Connection;
+use crate::connection::placing::move_place;
 use crate::output::Output;
 use crate::refused::Refused;
 use std::alloc::AllocError;
-use vesgrauf_ready::rank::{Kind, Priority};
+use vesgrauf_ready::rank::Priority;
 
 #[tactic(auto, using(crate::proofs::KeepsLemmas::keep))]
 impl Connection {
@@ -209,7 +210,7 @@ impl Connection {
     /// # Errors
     ///
     /// Nothing changes. `Closed`; `NoStream`; and `Memory`.
-    #[tactic(auto, using(crate::proofs::KeepsLemmas::kept, std::proofs::lemmas::Map::Steps::set_value_same, crate::proofs::GoesLemmas::goes_set))]
+    #[tactic(auto, using(crate::proofs::KeepsLemmas::kept, std::proofs::lemmas::Map::Steps::set_value_same, crate::proofs::GoesLemmas::goes_set, crate::proofs::PlaceLemmas::ordered))]
     pub fn pause(&mut self, id: u64, paused: bool) -> Result<(), Refused>
         ensures ok { OnOk result (Pauses id paused self.old self.new) }
         ensures looks { OnOk result (paused ≡ false → LooksAt id self.new) }
@@ -251,7 +252,7 @@ impl Connection {
     /// # Errors
     ///
     /// Nothing changes. `Closed`; `NoStream`; and `Memory`.
-    #[tactic(auto, using(crate::proofs::KeepsLemmas::kept, std::proofs::lemmas::Map::Steps::set_value_same, crate::proofs::GoesLemmas::goes_set))]
+    #[tactic(auto, using(crate::proofs::KeepsLemmas::kept, std::proofs::lemmas::Map::Steps::set_value_same, crate::proofs::GoesLemmas::goes_set, crate::proofs::PlaceLemmas::ordered_moved))]
     pub fn prioritize(&mut self, id: u64, priority: Priority) -> Result<(), Refused>
         ensures ok { OnOk result (Prioritizes id priority self.old self.new) }
         ensures why { IfErr result (λ e. IsWhyNamed self.old id e) }
@@ -264,20 +265,17 @@ impl Connection {
         if !self.is_named(id) {
             return Err(Refused::NoStream);
         }
-        self.reserve()?;
+        self.outputs.reserve(1)?;
         let Some(entry) = self.streams.get_mut(&id) else {
             return Err(Refused::NoStream);
         };
-        let from = entry.kind();
-        let to = Kind::Message(priority);
-        self.ready.change(id, from, to)?;
-        if entry.is_opened {
-            let output = Output::Prioritize(id, priority);
-            if self.outputs.push_back(output).is_err() {
-                return Err(Refused::Memory);
-            }
-        }
+        move_place(&mut self.ready, id, entry, priority)?;
         entry.priority = priority;
+        if !entry.is_opened {
+            return Ok(());
+        }
+        self.outputs
+            .push_back_reserved(Output::Prioritize(id, priority));
         Ok(())
     }
 
@@ -286,7 +284,7 @@ impl Connection {
     /// # Errors
     ///
     /// `NoStream`.
-    #[tactic(auto, using(crate::proofs::KeepsLemmas::kept, std::proofs::lemmas::Map::Steps::set_value_same, crate::proofs::GoesLemmas::goes_set))]
+    #[tactic(auto, using(crate::proofs::KeepsLemmas::kept, std::proofs::lemmas::Map::Steps::set_value_same, crate::proofs::GoesLemmas::goes_set, crate::proofs::PlaceLemmas::ordered))]
     pub fn set_user(&mut self, id: u64, user: u64) -> Result<(), Refused>
         ensures ok { OnOk result (Becomes id (λ e. record e { user = Some user }) self.old self.new) }
         ensures err { IfErr result (λ e. (e ≡ refused.NoStream) × (named_at self.old id ≡ None)) }

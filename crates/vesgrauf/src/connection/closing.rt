@@ -10,6 +10,7 @@ ghost use Rattle.vesgrauf.specs.Theirs.{Gone, theirs_at};
 
 use crate::code::StreamCode;
 use crate::connection::Connection;
+use crate::connection::placing::{give_place, keep_place, take_place};
 use crate::entry::{Entry, Peer, Told};
 use crate::event::{Event, EventKind, Why};
 use crate::output::Output;
@@ -142,7 +143,7 @@ impl Connection {
     }
 
     // Resets the own half, if it may be.
-    #[tactic(auto, using(crate::proofs::KeepsLemmas::keep, crate::proofs::KeepsLemmas::keeps_but_set, crate::proofs::CutLemmas::alone, crate::proofs::CutLemmas::alone_over, crate::proofs::CutLemmas::asks, crate::proofs::CutLemmas::asks_reset, crate::proofs::OwnLemmas::own_set, std::proofs::lemmas::Map::Steps::set_value_same))]
+    #[tactic(auto, using(crate::proofs::KeepsLemmas::keep, crate::proofs::KeepsLemmas::keeps_but_set, crate::proofs::CutLemmas::alone, crate::proofs::CutLemmas::alone_over, crate::proofs::CutLemmas::asks, crate::proofs::CutLemmas::asks_reset, crate::proofs::OwnLemmas::own_set, std::proofs::lemmas::Map::Steps::set_value_same, crate::proofs::PlaceLemmas::ordered, crate::proofs::PlaceLemmas::ordered_over, crate::proofs::PlaceLemmas::reset_quiet))]
     fn reset_writing(&mut self, id: u64, code: u64) -> Result<(), AllocError>
         ensures keeps { KeepsBut id self.old self.new }
         ensures alone { Alone id self.old self.new }
@@ -155,6 +156,7 @@ impl Connection {
         if !entry.writing.reset(&mut self.tools.spares, code, 0) {
             return Ok(());
         }
+        self.ready.remove(id, entry.kind());
         entry.is_reset = true;
         if entry.is_opened {
             self.outputs.push_back(Output::Reset(id, code))?;
@@ -163,7 +165,7 @@ impl Connection {
     }
 
     // Nothing more is sent on the own half of a stream. A request on it is refused.
-    #[tactic(auto, using(crate::proofs::KeepsLemmas::keep, crate::proofs::CutLemmas::alone, crate::proofs::CutLemmas::read_set, crate::proofs::KeepsLemmas::keeps_turned))]
+    #[tactic(auto, using(crate::proofs::KeepsLemmas::keep, crate::proofs::CutLemmas::alone, crate::proofs::CutLemmas::read_set, crate::proofs::KeepsLemmas::keeps_turned, crate::proofs::PlaceLemmas::ordered))]
     pub(super) fn leave_order(&mut self, id: u64)
         ensures keeps { Keeps [] self.old self.new }
         ensures alone { Alone id self.old self.new }
@@ -173,7 +175,6 @@ impl Connection {
         let Some(entry) = self.streams.get_mut(&id) else {
             return;
         };
-        self.ready.remove(id, entry.kind());
         self.full.remove(&id);
         entry.reading.answer(REFUSED);
     }
@@ -224,7 +225,7 @@ impl Connection {
     }
 
     // Resets the own half, and tells the program so, if it knows of the stream.
-    #[tactic(auto, using(crate::proofs::KeepsLemmas::keep, crate::proofs::KeepsLemmas::keeps_stopped, crate::proofs::CutLemmas::alone, crate::proofs::CutLemmas::alone_over, crate::proofs::CutLemmas::asks, crate::proofs::CutLemmas::asks_reset, crate::proofs::CutLemmas::asks_popped, crate::proofs::CutLemmas::read_set, crate::proofs::OwnLemmas::own_set))]
+    #[tactic(auto, using(crate::proofs::KeepsLemmas::keep, crate::proofs::KeepsLemmas::keeps_stopped, crate::proofs::CutLemmas::alone, crate::proofs::CutLemmas::alone_over, crate::proofs::CutLemmas::asks, crate::proofs::CutLemmas::asks_reset, crate::proofs::CutLemmas::asks_popped, crate::proofs::CutLemmas::read_set, crate::proofs::OwnLemmas::own_set, crate::proofs::PlaceLemmas::ordered, crate::proofs::PlaceLemmas::ordered_over, crate::proofs::PlaceLemmas::reset_quiet))]
     pub(super) fn tell_stopped(
         &mut self,
         id: u64,
@@ -259,14 +260,17 @@ impl Connection {
                 return Err(AllocError);
             }
         }
-        let _reset = entry.writing.reset(&mut self.tools.spares, code, 0);
         entry.is_reset = true;
+        if !entry.writing.reset(&mut self.tools.spares, code, 0) {
+            return Ok(());
+        }
+        self.ready.remove(id, entry.kind());
         Ok(())
     }
 
     // QUIC has closed a stream: what is kept of the own half is freed. If its end was not taken, nor its reset, what waits is
     // lost: the program is told so, if it knows of the stream. Returns whether it was lost.
-    #[tactic(auto, using(crate::proofs::KeepsLemmas::keep, crate::proofs::KeepsLemmas::keeps_stopped))]
+    #[tactic(auto, using(crate::proofs::KeepsLemmas::keep, crate::proofs::KeepsLemmas::keeps_stopped, crate::proofs::PlaceLemmas::ordered, crate::proofs::PlaceLemmas::ordered_step, crate::proofs::PlaceLemmas::ordered_over, crate::proofs::PlaceLemmas::more_new, crate::proofs::PlaceLemmas::more_acked))]
     pub(super) fn lose_half(&mut self, id: u64) -> Result<bool, AllocError>
         ensures keeps { Keeps [] self.old self.new }
     {
@@ -289,7 +293,7 @@ impl Connection {
             })?;
         }
         entry.is_closed = true;
-        entry.is_reset = entry.is_reset || is_lost;
+        entry.is_reset = entry.is_reset | is_lost;
         entry.writing = Writing::none(self.alloc, self.config.queue());
         self.ready.remove(id, entry.kind());
         self.full.remove(&id);
@@ -298,39 +302,60 @@ impl Connection {
 
     // Ends the own half of a CONNECT after what is queued, if the message may end there. Without memory it has its place in the
     // order of sending from the next step on.
-    #[tactic(auto, using(crate::proofs::KeepsLemmas::keep, crate::proofs::KeepsLemmas::keeps_finished))]
+    #[tactic(auto, using(crate::proofs::KeepsLemmas::keep, crate::proofs::KeepsLemmas::keeps_tried, crate::proofs::PlaceLemmas::ordered, crate::proofs::PlaceLemmas::ordered_kept))]
     pub(super) fn end_own(&mut self, id: u64)
         ensures keeps { Keeps [] self.old self.new }
     {
         let Some(entry) = self.streams.get_mut(&id) else {
             return;
         };
-        if !entry.writing.is_connect() {
+        if !entry.writing.is_connect() || entry.writing.is_ended() {
             return;
         }
-        if entry.may_send() && !entry.writing.is_ended() {
-            if self.ready.insert(id, entry.kind()).is_err() {
-                self.pending.unplaced = Some(id);
-            }
+        if entry.has_more() {
+            let _finished = entry.writing.finish();
+            keep_place(&mut self.ready, id, entry);
+            return;
         }
-        if entry.writing.finish().is_err() && !entry.has_more() {
-            self.ready.remove(id, entry.kind());
+        match take_place(&mut self.ready, self.unplaced, id, entry) {
+            Ok(later) => self.unplaced = later,
+            Err(_) => return self.end_later(id),
         }
+        let _finished = entry.writing.finish();
+        keep_place(&mut self.ready, id, entry);
+    }
+
+    // Ends the own half of a CONNECT on which nothing waits, and which has its place in the order of sending later. (A step
+    // first gives its place to the one before it.)
+    #[tactic(auto, using(crate::proofs::KeepsLemmas::keep, crate::proofs::KeepsLemmas::keeps_tried, crate::proofs::PlaceLemmas::ordered, crate::proofs::PlaceLemmas::ordered_later))]
+    fn end_later(&mut self, id: u64)
+        ensures keeps { Keeps [] self.old self.new }
+    {
+        let Some(entry) = self.streams.get_mut(&id) else {
+            return;
+        };
+        if !entry.writing.is_connect() || entry.has_more() || self.unplaced.is_some() {
+            return;
+        }
+        let _finished = entry.writing.finish();
+        keep_place(&mut self.ready, id, entry);
+        self.unplaced = Some(id);
     }
 
     // Gives a stream its place in the order of sending for which memory was refused.
+    #[tactic(auto, using(crate::proofs::KeepsLemmas::keep, crate::proofs::PlaceLemmas::ordered, crate::proofs::PlaceLemmas::ordered_now, crate::proofs::PlaceLemmas::ordered_gone_now, crate::proofs::PlaceLemmas::ordered_off_now))]
     pub(super) fn place_due(&mut self) -> Result<(), AllocError>
         ensures keeps { Keeps [] self.old self.new }
     {
-        let Some(id) = self.pending.unplaced else {
+        let Some(id) = self.unplaced else {
             return Ok(());
         };
         if let Some(entry) = self.streams.get(&id) {
             if entry.may_send() && entry.has_more() {
-                self.ready.insert(id, entry.kind())?;
+                self.unplaced = give_place(&mut self.ready, self.unplaced, id, entry)?;
             }
         }
-        self.pending.unplaced = None;
+        self.unplaced = None;
         Ok(())
     }
 
@@ -362,9 +387,15 @@ impl Connection {
     }
 
     // The last event of a stream is told, or queued.
+    #[tactic(auto, using(crate::proofs::KeepsLemmas::keep, crate::proofs::PlaceLemmas::ordered))]
     pub(super) fn end_told(&mut self, id: u64)
         ensures ends { self.new.streams.entries ≡ ended_at self.old.streams.entries id }
-        ensures others { self.new ≡ record self.old { streams = self.new.streams } }
+        ensures ids { self.new.ids ≡ self.old.ids }
+        ensures events { self.new.events ≡ self.old.events }
+        ensures config { self.new.config ≡ self.old.config }
+        ensures ended { self.new.ended ≡ self.old.ended }
+        ensures outputs { self.new.outputs ≡ self.old.outputs }
+        ensures closes { self.new.closes ≡ self.old.closes }
     {
         if let Some(entry) = self.streams.get_mut(&id) {
             entry.told = Told::Over;
@@ -421,7 +452,7 @@ impl Connection {
     }
 
     // Forgets a stream.
-    #[tactic(auto, using(crate::proofs::KeepsLemmas::keep, crate::proofs::CutLemmas::alone, crate::proofs::CutLemmas::alone_removed))]
+    #[tactic(auto, using(crate::proofs::KeepsLemmas::keep, crate::proofs::CutLemmas::alone, crate::proofs::CutLemmas::alone_removed, crate::proofs::PlaceLemmas::ordered_removed))]
     pub(super) fn remove(&mut self, id: u64)
         ensures keeps { knows_of (stream_at self.old id) ≡ false → Keeps [] self.old self.new }
         ensures alone { Alone id self.old self.new }
@@ -431,6 +462,7 @@ impl Connection {
         let Some(entry) = self.streams.remove(&id) else {
             return;
         };
+        self.ready.remove(id, entry.kind());
         self.forget(id, &entry);
     }
 
@@ -454,7 +486,6 @@ impl Connection {
         if let Some(session) = entry.session {
             self.ids.forget(session, id);
         }
-        self.ready.remove(id, entry.kind());
         self.waiting.remove(&id);
         self.full.remove(&id);
     }

@@ -2,7 +2,7 @@
 ghost use Rattle.std.specs.Prelude.{◌≡◌, ◌++◌, false, Some, length, option_map, IfOk, OnOk, OnErr, IfErr, []};
 ghost use Rattle.vesgrauf.specs.Keeps.{Keeps};
 ghost use Rattle.vesgrauf.specs.State.{is_over, next_output, stream_at, view_of, with_begun, EndsUnless, IsAfterEnd, IsStill};
-ghost use Rattle.vesgrauf.specs.Leaving.{ShutsDown, RefusesGoaway, goaway_for as goaway_is};
+ghost use Rattle.vesgrauf.specs.Leaving.{ShutsDown, RefusesGoaway, not_above, goaway_for as goaway_is};
 ghost use Rattle.vesgrauf.specs.declared.output.Output.TheVariants as output;
 ghost use Rattle.vesgrauf_queue.specs.State.{counted, waiting};
 ghost use Rattle.vesgrauf.specs.Config.{announced};
@@ -143,7 +143,18 @@ impl Connection {
         }
         match phase {
             Shutdown::Notice => NO_REQUEST,
-            Shutdown::Final => self.ids.first_unseen(),
+            Shutdown::Final => self.first_unprocessed(),
+        }
+    }
+
+    // Returns the first request that did not come; or that of the last GOAWAY, if it is below: those from it on are rejected.
+    fn first_unprocessed(&self) -> u64
+        ensures { result ≡ not_above self.now.goaways.goaway self.now.ids.peer_bidirectional }
+    {
+        let first = self.ids.first_unseen();
+        match self.goaways.last_goaway() {
+            Some(last) => first.min(last.into_inner()),
+            None => first,
         }
     }
 

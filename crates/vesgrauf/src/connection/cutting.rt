@@ -46,7 +46,7 @@ impl Connection {
     }
 
     // This stream has no session any more.
-    #[tactic(auto, using(crate::proofs::KeepsLemmas::keep, crate::proofs::CutLemmas::alone))]
+    #[tactic(auto, using(crate::proofs::KeepsLemmas::keep, crate::proofs::CutLemmas::alone, crate::proofs::PlaceLemmas::ordered))]
     fn note_over(&mut self, session: u64)
         ensures keeps { Keeps [] self.old self.new }
         ensures alone { Alone session self.old self.new }

@@ -174,7 +174,8 @@ impl Connection {
         Ok(head)
     }
 
-    /// Returns the datagram that QUIC is to send next, or `None`. It is the same until it is sent.
+    /// Returns the datagram that QUIC is to send next, or `None`. It is the same until it is sent, or its session or the
+    /// connection ends.
     pub fn next_datagram(&self) -> Option<&[u8]>
         ensures { MatchOption result (self.now.datagrams.queue.items ≡ [])
             (λ bytes. option_map (λ v. v.items) (head self.now.datagrams.queue.items) ≡ Some bytes.now) }

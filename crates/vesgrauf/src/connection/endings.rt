@@ -46,7 +46,7 @@ impl Connection {
     }
 
     // The peer's half is reset. Returns what the stream says, or `None` if there is none.
-    #[tactic(auto, using(crate::proofs::KeepsLemmas::keep, crate::proofs::KeepsLemmas::keeps_turned))]
+    #[tactic(auto, using(crate::proofs::KeepsLemmas::keep, crate::proofs::KeepsLemmas::keeps_turned, crate::proofs::PlaceLemmas::ordered))]
     fn note_reset(&mut self, id: u64, is_rejected: bool) -> Option<Said<'static>>
         ensures keeps { Keeps [] self.old self.new }
     {
@@ -68,7 +68,7 @@ impl Connection {
 
     // The peer's half of a stream is read no further, since the peer reset it. The program is told so, if it knows of the
     // stream.
-    #[tactic(auto, using(crate::proofs::KeepsLemmas::keep, crate::proofs::KeepsLemmas::keeps_reset, crate::proofs::TellsLemmas::gone_set))]
+    #[tactic(auto, using(crate::proofs::KeepsLemmas::keep, crate::proofs::KeepsLemmas::keeps_reset, crate::proofs::TellsLemmas::gone_set, crate::proofs::PlaceLemmas::ordered))]
     fn tell_reset(&mut self, id: u64, shown: StreamCode) -> Result<(), AllocError>
         ensures keeps { Keeps [] self.old self.new }
         ensures gone { OnOk result (theirs_at self.new.streams.entries id ≡ Gone) }
@@ -111,14 +111,22 @@ impl Connection {
     pub(super) fn lose_session(&mut self, id: u64) -> Result<(), AllocError>
         ensures keeps { Keeps [] self.old self.new }
     {
-        let has_session = match self.streams.get(&id) {
-            Some(entry) => entry.has_session,
-            None => false,
+        let Some(entry) = self.streams.get(&id) else {
+            return Ok(());
         };
-        if has_session {
-            self.shut(id, Code::H3_REQUEST_CANCELLED, Why::SessionGone)?;
+        if !entry.has_session {
+            return Ok(());
         }
-        Ok(())
+        let why = why_lost(entry.is_rejected);
+        self.shut(id, Code::H3_REQUEST_CANCELLED, why)
+    }
+
+    // Returns whether the server rejected the request on a stream.
+    fn is_rejected(&self, id: u64) -> bool {
+        match self.streams.get(&id) {
+            Some(entry) => entry.is_rejected,
+            None => false,
+        }
     }
 
     // Resets the own half of a stream that the peer reset before the program was told of it: nothing will be sent on it.
@@ -170,7 +178,7 @@ impl Connection {
     }
 
     // The own half of a stream is stopped. Returns what the stream says, or `None` if there is none.
-    #[tactic(auto, using(crate::proofs::KeepsLemmas::keep, crate::proofs::KeepsLemmas::keeps_turned))]
+    #[tactic(auto, using(crate::proofs::KeepsLemmas::keep, crate::proofs::KeepsLemmas::keeps_turned, crate::proofs::PlaceLemmas::ordered))]
     fn note_stop(&mut self, id: u64, code: u64) -> Option<Said<'static>>
         ensures keeps { Keeps [] self.old self.new }
     {
@@ -212,10 +220,12 @@ impl Connection {
         };
         let shown = self.shown_code(id, code)?;
         self.queue_event(id, EventKind::Stopped(shown))?;
+        self.read_unanswered(id);
         Ok(self.lose_session(id)?)
     }
 
     // Takes the code of a stop that is still to be told.
+    #[tactic(auto, using(crate::proofs::KeepsLemmas::keep, crate::proofs::PlaceLemmas::ordered))]
     fn take_stop(&mut self, id: u64) -> Option<u64>
         ensures keeps { Keeps [] self.old self.new }
     {
@@ -232,7 +242,8 @@ impl Connection {
                 Ok(self.shut(id, fault.code(), Why::Fault(fault))?)
             }
             Said::SessionLost => {
-                Ok(self.shut(id, Code::H3_REQUEST_CANCELLED, Why::SessionGone)?)
+                let why = why_lost(self.is_rejected(id));
+                Ok(self.shut(id, Code::H3_REQUEST_CANCELLED, why)?)
             }
             Said::ConnectionError(fault) => Err(Stop::from(fault)),
             _ => Ok(()),
@@ -240,6 +251,7 @@ impl Connection {
     }
 
     // Counts a request that its client gives up before its answer (RFC 9114, section 10.5).
+    #[tactic(auto, using(crate::proofs::KeepsLemmas::keep, crate::proofs::PlaceLemmas::ordered))]
     fn give_up(&mut self, id: u64) -> Result<(), Stop>
         ensures keeps { Keeps [] self.old self.new }
         ensures budget { code_after self.old.budget ≡ None → OnOk result (code_after self.new.budget ≡ None) }
@@ -249,7 +261,9 @@ impl Connection {
         };
         let is_head = entry.peer == Peer::Reads && entry.reading.is_request_head();
         let waits = is_head && self.waiting.contains(&id);
-        if !entry.is_awaited && !waits {
+        // (of a request whose own half ended here there is no answer to wait for)
+        let is_given_up = (entry.is_awaited || waits) && !entry.writing.is_ended();
+        if !is_given_up {
             return Ok(());
         }
         entry.is_awaited = false;
@@ -308,9 +322,18 @@ impl Connection {
         ensures keeps { Keeps [] self.old self.new }
     {
         if self.lose_half(id)? {
+            self.read_unanswered(id);
             return self.half_stopped(id, Code::H3_REQUEST_CANCELLED.number().into_inner());
         }
         Ok(self.remove_if_done(id)?)
+    }
+
+    // No answer can be sent on a stream: what follows its request is read on.
+    fn read_unanswered(&mut self, id: u64)
+        ensures keeps { Keeps [] self.old self.new }
+    {
+        self.leave_order(id);
+        self.wake();
     }
 
     // Leaves a request that the server does not process.
@@ -466,6 +489,15 @@ impl Connection {
         ensures { result ≡ head self.now.outputs.items }
     {
         self.outputs.front().copied()
+    }
+}
+
+// Returns why a session is over whose own stream was lost: its request may have been rejected (RFC 9114, section 4.1.1).
+fn why_lost(is_rejected: bool) -> Why {
+    if is_rejected {
+        Why::Unprocessed
+    } else {
+        Why::SessionGone
     }
 }
 

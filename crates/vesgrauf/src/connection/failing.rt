@@ -113,6 +113,7 @@ impl Connection {
     }
 
     // Counts bytes of a stream that were read.
+    #[tactic(auto, using(crate::proofs::KeepsLemmas::keep, crate::proofs::PlaceLemmas::ordered))]
     pub(super) fn count_read(&mut self, id: u64, len: usize)
         ensures keeps { Keeps [] self.old self.new }
     {

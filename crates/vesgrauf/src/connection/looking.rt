@@ -75,6 +75,8 @@ impl Entry {
             (with_chunk (theirs_of self.new) chunk.new)) }
         ensures told { self.new.told ≡ self.old.told }
         ensures session { self.new.session ≡ self.old.session }
+        ensures place { (self.new.is_opened ≡ self.old.is_opened) × (self.new.is_blocked ≡ self.old.is_blocked)
+            × (self.new.priority ≡ self.old.priority) }
         ensures read { (self.new.peer ≡ self.old.peer) × (self.new.is_decoder ≡ self.old.is_decoder) }
         ensures fits { KeepsFit (theirs_of self.old) (theirs_of self.new) }
     {
@@ -113,6 +115,8 @@ impl Entry {
         ensures none { result ≡ Ok None → chunk.new ≡ chunk.old }
         ensures told { self.new.told ≡ self.old.told }
         ensures session { self.new.session ≡ self.old.session }
+        ensures place { (self.new.is_opened ≡ self.old.is_opened) × (self.new.is_blocked ≡ self.old.is_blocked)
+            × (self.new.priority ≡ self.old.priority) }
         ensures read { (self.new.peer ≡ self.old.peer) × (self.new.is_decoder ≡ self.old.is_decoder) }
         ensures fits { KeepsFit (theirs_of self.old) (theirs_of self.new) }
     {
@@ -155,6 +159,8 @@ impl Entry {
         ensures theirs { theirs_of self.new ≡ theirs_of self.old }
         ensures told { self.new.told ≡ self.old.told }
         ensures session { self.new.session ≡ self.old.session }
+        ensures place { (self.new.is_opened ≡ self.old.is_opened) × (self.new.is_blocked ≡ self.old.is_blocked)
+            × (self.new.priority ≡ self.old.priority) }
         ensures read { (self.new.peer ≡ self.old.peer) × (self.new.is_decoder ≡ self.old.is_decoder) }
     {
         let left = self.reading.len();
@@ -175,6 +181,8 @@ impl Entry {
         ensures own { self.new.writing ≡ self.old.writing }
         ensures told { self.new.told ≡ self.old.told }
         ensures session { self.new.session ≡ self.old.session }
+        ensures place { (self.new.is_opened ≡ self.old.is_opened) × (self.new.is_blocked ≡ self.old.is_blocked)
+            × (self.new.priority ≡ self.old.priority) }
         ensures read { (self.new.peer ≡ self.old.peer) × (self.new.is_decoder ≡ self.old.is_decoder) }
     {
         if !is_failure(found) {

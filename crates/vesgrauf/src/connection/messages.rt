@@ -11,6 +11,7 @@ ghost use Rattle.vesgrauf.specs.Told.{GoesOn};
 ghost use Rattle.vesgrauf.specs.State.{stream_at, Changes, IsFor, IsStill, IsStillBut, IsRefused, SaysOrWaits, StaysFor, IsWhy, IsWhyOf, RefusesBytes, RefusesEnd, FinishesUnless, was_finished, was_told_full, is_over, open_session};
 ghost use Rattle.vesgrauf.specs.declared.refused.Refused.TheVariants as refused;
 
+use crate::connection::placing::{keep_place, take_place};
 use crate::connection::{Connection, Stop};
 use crate::entry::Peer;
 use crate::refused::{NotSent, Refused};
@@ -42,8 +43,8 @@ impl Connection {
     ///
     /// # Errors
     ///
-    /// Nothing changes. `Closed`; `NoStream` if no request came on the stream; `Over`; `Send` if it would be malformed;
-    /// and `Memory`.
+    /// Nothing changes, but QPACK's table and what is queued for it. `Closed`; `NoStream` if no request came on the stream;
+    /// `Over`; `Send` if it would be malformed; and `Memory`.
     #[tactic(auto, using(crate::proofs::KeepsLemmas::kept, crate::proofs::OwnLemmas::but_then, crate::proofs::StepLemmas::left_trans))]
     pub fn respond(&mut self, id: u64, list: &FieldList, fin: bool) -> Result<(), Refused>
         ensures refused { IfErr result (λ e. (e ≡ refused.Memory) ⊎ IsStillBut self.old self.new) }
@@ -74,16 +75,14 @@ impl Connection {
         ensures config { self.new.config ≡ self.old.config }
         ensures goes { GoesOn [] self.old self.new }
     {
-        let result = match session_id(id) {
+        match session_id(id) {
             Ok(session) => self.respond_half(id, session, list, fin),
             Err(_) => Err(Refused::NoStream),
-        };
-        self.end_send(id);
-        result
+        }
     }
 
     // Queues the HEADERS of a response, and maybe the end, on the own half of a stream.
-    #[tactic(auto, using(crate::proofs::KeepsLemmas::kept, crate::proofs::TheirsLemmas::left_set, std::proofs::lemmas::Map::Steps::set_value_same, crate::proofs::GoesLemmas::goes_set))]
+    #[tactic(auto, using(crate::proofs::KeepsLemmas::kept, crate::proofs::TheirsLemmas::left_set, std::proofs::lemmas::Map::Steps::set_value_same, crate::proofs::GoesLemmas::goes_set, crate::proofs::PlaceLemmas::ordered, crate::proofs::PlaceLemmas::ordered_sent))]
     fn respond_half(
         &mut self,
         id: u64,
@@ -103,9 +102,11 @@ impl Connection {
         let Some(entry) = self.streams.get_mut(&id) else {
             return Err(Refused::NoStream);
         };
+        self.unplaced = take_place(&mut self.ready, self.unplaced, id, entry)?;
         let sent = entry
             .writing
             .respond(&mut self.tools, session, allows, list, fin);
+        keep_place(&mut self.ready, id, entry);
         Ok(sent?)
     }
 
@@ -120,6 +121,7 @@ impl Connection {
         if fin && matches!(self.known(id), Known::Open) {
             self.end_session(id)?;
             self.drop_peer(id)?;
+            self.cancel_left(id);
         } else if accepts(list) && self.peer_of(id) == Peer::Over {
             // (a session whose own stream was stopped here before its answer does not come to be)
             self.lose_session(id)?;
@@ -149,7 +151,7 @@ impl Connection {
     }
 
     // A response with this status was sent.
-    #[tactic(auto, using(crate::proofs::KeepsLemmas::keep, crate::proofs::KeepsLemmas::keeps_turned))]
+    #[tactic(auto, using(crate::proofs::KeepsLemmas::keep, crate::proofs::KeepsLemmas::keeps_turned, crate::proofs::PlaceLemmas::ordered))]
     fn answered(&mut self, id: u64, status: u32)
         ensures keeps { Keeps [] self.old self.new }
     {
@@ -194,15 +196,36 @@ impl Connection {
         let was_full = self.full.contains(&id);
         self.begin_send(id)?;
         if self.full.insert(id).is_err() {
-            self.end_send(id);
             return Err(Refused::Memory);
         }
+        let result = self.send_half(id, bytes, fin, was_full);
+        self.note_full(id, was_full || matches!(result, Ok(false)));
+        result
+    }
+
+    // Queues content on the own half of a stream.
+    #[inline(always)]
+    #[tactic(auto, using(crate::proofs::KeepsLemmas::kept, std::proofs::lemmas::Map::Steps::set_value_same, crate::proofs::GoesLemmas::goes_set, crate::proofs::PlaceLemmas::ordered, crate::proofs::PlaceLemmas::ordered_sent))]
+    fn send_half(
+        &mut self,
+        id: u64,
+        bytes: &[u8],
+        fin: bool,
+        was_full: bool,
+    ) -> Result<bool, Refused>
+        ensures ok { IfOk result (λ room. Changes id (Sends bytes.now fin room) self.old self.new) }
+        ensures why { IfErr result (λ e. (e ≡ refused.Memory)
+            ⊎ IsWhyOf (stream_at self.old id) (RefusesBytes (length bytes.now) fin) e) }
+        ensures told { IfErr result (λ e. e ≡ refused.Full → was_full ≡ true) }
+        ensures kept { IfErr result (λ e. StaysFor e id self.old self.new) }
+        ensures goes { GoesOn [] self.old self.new }
+    {
         let Some(entry) = self.streams.get_mut(&id) else {
             return Err(Refused::NoStream);
         };
+        self.unplaced = take_place(&mut self.ready, self.unplaced, id, entry)?;
         let result = entry.send(&mut self.tools.spares, bytes, fin, was_full);
-        self.end_send(id);
-        self.note_full(id, was_full || matches!(result, Ok(false)));
+        keep_place(&mut self.ready, id, entry);
         result
     }
 
@@ -225,21 +248,50 @@ impl Connection {
             return Err(NotSent { why, bytes });
         }
         if self.full.insert(id).is_err() {
-            self.end_send(id);
             return Err(NotSent {
                 why: Refused::Memory,
                 bytes,
             });
         }
+        let result = self.send_half_owned(id, bytes, fin, was_full);
+        self.note_full(id, was_full || matches!(result, Ok(false)));
+        result
+    }
+
+    // Queues content on the own half of a stream, or gives the bytes back.
+    #[tactic(auto, using(crate::proofs::KeepsLemmas::kept, std::proofs::lemmas::Map::Steps::set_value_same, crate::proofs::GoesLemmas::goes_set, crate::proofs::PlaceLemmas::ordered, crate::proofs::PlaceLemmas::ordered_sent))]
+    fn send_half_owned(
+        &mut self,
+        id: u64,
+        bytes: Vec<u8>,
+        fin: bool,
+        was_full: bool,
+    ) -> Result<bool, NotSent>
+        ensures ok { IfOk result (λ room. Changes id (Sends bytes.items fin room) self.old self.new) }
+        ensures why { IfErr result (λ e. (e.why ≡ refused.Memory)
+            ⊎ IsWhyOf (stream_at self.old id) (RefusesBytes (length bytes.items) fin) e.why) }
+        ensures told { IfErr result (λ e. e.why ≡ refused.Full → was_full ≡ true) }
+        ensures kept { IfErr result (λ e. StaysFor e.why id self.old self.new) }
+        ensures bytes { IfErr result (λ e. e.bytes ≡ bytes) }
+        ensures goes { GoesOn [] self.old self.new }
+    {
         let Some(entry) = self.streams.get_mut(&id) else {
             return Err(NotSent {
                 why: Refused::NoStream,
                 bytes,
             });
         };
+        match take_place(&mut self.ready, self.unplaced, id, entry) {
+            Ok(later) => self.unplaced = later,
+            Err(_) => {
+                return Err(NotSent {
+                    why: Refused::Memory,
+                    bytes,
+                });
+            }
+        }
         let result = entry.send_owned(&mut self.tools.spares, bytes, fin, was_full);
-        self.end_send(id);
-        self.note_full(id, was_full || matches!(result, Ok(false)));
+        keep_place(&mut self.ready, id, entry);
         result
     }
 
@@ -261,7 +313,8 @@ impl Connection {
     ///
     /// # Errors
     ///
-    /// Nothing changes. `Closed`; `NoStream`; `Over`; `Send` if they would be malformed; and `Memory`.
+    /// Nothing changes, but QPACK's table and what is queued for it. `Closed`; `NoStream`; `Over`; `Send` if they would be
+    /// malformed; and `Memory`.
     #[tactic(auto, using(crate::proofs::KeepsLemmas::kept))]
     pub fn send_trailers(&mut self, id: u64, list: &FieldList) -> Result<(), Refused>
         ensures kept { OnErr result (IsStillBut self.old self.new) }
@@ -277,20 +330,21 @@ impl Connection {
     }
 
     // Queues trailers and the end on a stream.
-    #[tactic(auto, using(crate::proofs::KeepsLemmas::kept, std::proofs::lemmas::Map::Steps::set_value_same, crate::proofs::GoesLemmas::goes_set))]
+    #[tactic(auto, using(crate::proofs::KeepsLemmas::kept, std::proofs::lemmas::Map::Steps::set_value_same, crate::proofs::GoesLemmas::goes_set, crate::proofs::PlaceLemmas::ordered, crate::proofs::PlaceLemmas::ordered_sent))]
     fn put_trailers(&mut self, id: u64, list: &FieldList) -> Result<(), Refused>
         ensures ok { OnOk result (Changes id (SendsTrailers list.now self.old.tools self.new.tools)
             self.old self.new) }
         ensures kept { OnErr result (IsStill self.old self.new) }
-        ensures why { IfErr result (λ e. IsWhyOf (stream_at self.old id)
+        ensures why { IfErr result (λ e. (e ≡ refused.Memory) ⊎ IsWhyOf (stream_at self.old id)
             (IsFor (RefusesTrailers list.now self.old.tools self.new.tools)) e) }
         ensures goes { GoesOn [] self.old self.new }
     {
         let Some(entry) = self.streams.get_mut(&id) else {
             return Err(Refused::NoStream);
         };
+        self.unplaced = take_place(&mut self.ready, self.unplaced, id, entry)?;
         let result = entry.writing.trailers(&mut self.tools, list);
-        self.end_send(id);
+        keep_place(&mut self.ready, id, entry);
         Ok(result?)
     }
 
@@ -321,7 +375,7 @@ impl Connection {
     }
 
     // Ends the own half of a stream that is not that of a session.
-    #[tactic(auto, using(crate::proofs::KeepsLemmas::kept, crate::proofs::TheirsLemmas::left_set, std::proofs::lemmas::Map::Steps::set_value_same, crate::proofs::GoesLemmas::goes_set))]
+    #[tactic(auto, using(crate::proofs::KeepsLemmas::kept, crate::proofs::TheirsLemmas::left_set, std::proofs::lemmas::Map::Steps::set_value_same, crate::proofs::GoesLemmas::goes_set, crate::proofs::PlaceLemmas::ordered, crate::proofs::PlaceLemmas::ordered_sent))]
     fn finish_half(&mut self, id: u64) -> Result<(), Refused>
         ensures ok { OnOk result (FinishesUnless (was_finished self.old id) id self.old self.new) }
         ensures why { IfErr result (λ e. IsWhy RefusesEnd self.old id e) }
@@ -341,8 +395,9 @@ impl Connection {
         let Some(entry) = self.streams.get_mut(&id) else {
             return Err(Refused::NoStream);
         };
+        self.unplaced = take_place(&mut self.ready, self.unplaced, id, entry)?;
         let result = entry.writing.finish();
-        self.end_send(id);
+        keep_place(&mut self.ready, id, entry);
         Ok(result?)
     }
 
@@ -356,7 +411,7 @@ impl Connection {
         }
     }
 
-    // Begins a call that sends on a stream: reserves memory, and gives the stream its place in the order of sending.
+    // Begins a call that sends on a stream: reserves memory.
     pub(super) fn begin_send(&mut self, id: u64) -> Result<(), Refused>
         ensures still { IsStill self.old self.new }
         ensures tools { self.new.tools ≡ self.old.tools }
@@ -369,24 +424,9 @@ impl Connection {
             return Err(Refused::Closed);
         }
         self.reserve()?;
-        let Some(entry) = self.streams.get(&id) else {
-            return Err(Refused::NoStream);
-        };
-        if entry.may_send() {
-            self.ready.insert(id, entry.kind())?;
-        }
-        Ok(())
-    }
-
-    // Ends such a call: the stream keeps its place only if something waits.
-    pub(super) fn end_send(&mut self, id: u64)
-        ensures still { IsStill self.old self.new }
-        ensures tools { self.new.tools ≡ self.old.tools }
-    {
-        if let Some(entry) = self.streams.get(&id) {
-            if !entry.has_more() {
-                self.ready.remove(id, entry.kind());
-            }
+        match self.streams.get(&id) {
+            Some(_) => Ok(()),
+            None => Err(Refused::NoStream),
         }
     }
 }

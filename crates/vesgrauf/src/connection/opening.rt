@@ -7,6 +7,7 @@ ghost use Rattle.vesgrauf.specs.State.{open_session, room_for, may_wait, IsStill
 ghost use Rattle.vesgrauf.specs.Members.{Notes, is_member, is_same_stream};
 ghost use Rattle.wtp_connection.specs.declared.connection.Known.TheVariants as knowns;
 ghost use Rattle.vesgrauf.specs.Own.{Open as OpenEnd, Over, Sends, own_of, entry_at, Untouched, UntouchedBut};
+ghost use Rattle.vesgrauf.specs.Places.{has_more};
 ghost use Rattle.vesgrauf.specs.Items.{items_of};
 ghost use Rattle.vesgrauf.specs.Theirs.{Left, Accepts, IsBlank, theirs_of};
 ghost use Rattle.vesgrauf.specs.Told.{GoesOn, AreOthers, knows};
@@ -15,6 +16,7 @@ ghost use Rattle.wtp_webtransport.specs.Events.{told_of};
 ghost use Rattle.vesgrauf.specs.Ids.{next_own, opens, kind_of, unopened, opened as opened_ids, taken};
 ghost use Rattle.vesgrauf.specs.Messages.{IsMember, IsStreamHead};
 
+use crate::connection::placing::give_place;
 use crate::connection::{Connection, Stop, internal};
 use crate::entry::{Entry, Peer, SHARED, Told};
 use crate::event::{Event, EventKind};
@@ -96,7 +98,7 @@ impl Connection {
     }
 
     // Registers the next stream of the peer, of the kind of this one.
-    #[tactic(auto, using(crate::proofs::TellsLemmas::accepts_insert, crate::proofs::KeepsOwnLemmas::holds_refl))]
+    #[tactic(auto, using(crate::proofs::TellsLemmas::accepts_insert, crate::proofs::KeepsOwnLemmas::holds_refl, crate::proofs::PlaceLemmas::ordered_new_quiet))]
     fn accept_next(&mut self, id: u64) -> Result<(), Stop>
         ensures keeps { KeepsOwn [] self.old self.new }
         ensures accepts { Accepts self.old.ids self.old.streams.entries self.new.ids self.new.streams.entries }
@@ -108,6 +110,9 @@ impl Connection {
         if self.ids.was(next) {
             return Err(internal());
         }
+        if self.streams.get(&next).is_some() {
+            return Err(internal());
+        }
         let entry = self.entry_of_peer(next);
         self.streams.insert(next, entry)?;
         self.ids.see_next(StreamKind::of(id));
@@ -117,8 +122,9 @@ impl Connection {
     // Returns the entry of a stream of the peer, of which nothing came.
     fn entry_of_peer(&mut self, id: u64) -> Entry
         ensures blank { (own_of result.writing ≡ Over) ⊎ (own_of result.writing ≡ Sends 0 [] (OpenEnd false)) }
-        ensures nothing { IsBlank (theirs_of result) }
+        ensures nothing { IsBlank id (theirs_of result) }
         ensures alone { result.session ≡ None }
+        ensures idle { has_more result.writing.queue ≡ false }
         ensures config { self.new.config ≡ self.old.config }
         ensures ids { self.new.ids ≡ self.old.ids }
         ensures streams { self.new.streams ≡ self.old.streams }
@@ -156,7 +162,7 @@ impl Connection {
     }
 
     // Joins a stream with its session, of which this is known.
-    #[tactic(auto, using(crate::proofs::KeepsLemmas::keep, crate::proofs::KeepsLemmas::keeps_turned, crate::proofs::TellsLemmas::joins_silent))]
+    #[tactic(auto, using(crate::proofs::KeepsLemmas::keep, crate::proofs::KeepsLemmas::keeps_turned, crate::proofs::TellsLemmas::joins_silent, crate::proofs::PlaceLemmas::ordered))]
     fn join_known(&mut self, id: u64, known: Known) -> Said<'static>
         ensures keeps { Keeps [] self.old self.new }
         ensures ids { self.new.ids ≡ self.old.ids }
@@ -193,14 +199,17 @@ impl Connection {
     }
 
     // A stream is one of a session now, as one of which it was noted.
-    #[tactic(auto, using(crate::proofs::MemberLemmas::keeps_joined, crate::proofs::KeepsLemmas::keeps_refl, crate::proofs::OwnLemmas::own_raw))]
+    #[tactic(auto, using(crate::proofs::MemberLemmas::keeps_joined, crate::proofs::KeepsLemmas::keeps_refl, crate::proofs::OwnLemmas::own_raw, crate::proofs::PlaceLemmas::ordered, crate::proofs::PlaceLemmas::ordered_quiet))]
     fn note_joined(&mut self, id: u64, session: u64)
         ensures keeps { is_member self.old.ids session id ≡ true → Keeps [] self.old self.new }
     {
         if let Some(entry) = self.streams.get_mut(&id) {
             entry.session = Some(session);
-            entry.priority = SHARED;
             entry.may_cancel = false;
+            // (nothing was said on it, so it has no place in the order of sending yet)
+            if !entry.has_more() {
+                entry.priority = SHARED;
+            }
             entry.know();
             entry.writing.belong();
         }
@@ -327,8 +336,9 @@ impl Connection {
     }
 
     // Adds an own stream of a session.
-    #[tactic(auto, using(crate::proofs::KeepsLemmas::kept))]
+    #[tactic(auto, using(crate::proofs::KeepsLemmas::kept, crate::proofs::PlaceLemmas::ordered_new_closed, crate::proofs::PlaceLemmas::ordered_replaced))]
     fn add_member(&mut self, session: u64, id: u64, entry: Entry) -> Result<(), AllocError>
+        requires { entry.is_opened ≡ false }
         ensures own { OnOk result (UntouchedBut id self.old.streams.entries self.new.streams.entries) }
         ensures here { OnOk result (entry_at self.new.streams.entries id ≡ Some entry) }
         ensures others { OnOk result (AreOthers id self.old.streams.entries self.new.streams.entries) }
@@ -342,13 +352,17 @@ impl Connection {
         ensures kept { OnErr result (Keeps [] self.old self.new) }
     {
         self.ids.note(session, id)?;
-        match self.streams.insert(id, entry) {
-            Ok(_) => Ok(()),
+        let old = match self.streams.insert(id, entry) {
+            Ok(old) => old,
             Err(_) => {
                 self.ids.forget(session, id);
-                Err(AllocError)
+                return Err(AllocError);
             }
+        };
+        if let Some(old) = old {
+            self.ready.remove(id, old.kind());
         }
+        Ok(())
     }
 
     // Checks that a session is open.
@@ -443,13 +457,45 @@ impl Connection {
         ensures decoder { self.new.decoder ≡ self.old.decoder }
         ensures encoder { self.new.encoder ≡ self.old.encoder }
     {
+        self.place_opened(id)?;
+        self.show_opened(id)
+    }
+
+    // QUIC has opened an own stream, which has its place in the order of sending if something waits on it.
+    #[tactic(auto, using(crate::proofs::KeepsLemmas::keep, crate::proofs::PlaceLemmas::ordered, crate::proofs::PlaceLemmas::ordered_quiet, crate::proofs::PlaceLemmas::ordered_blocked_on))]
+    fn place_opened(&mut self, id: u64) -> Result<(), AllocError>
+        ensures keeps { Keeps [] self.old self.new }
+        ensures ids { self.new.ids ≡ self.old.ids }
+        ensures here { OnOk result (opened_by (stream_at self.new id) ≡ true) }
+        ensures control { self.new.control ≡ self.old.control }
+        ensures decoder { self.new.decoder ≡ self.old.decoder }
+        ensures encoder { self.new.encoder ≡ self.old.encoder }
+    {
         let Some(entry) = self.streams.get_mut(&id) else {
             return Ok(());
         };
-        if entry.has_more() && !entry.is_blocked {
-            self.ready.insert(id, entry.kind())?;
+        if entry.is_blocked || !entry.has_more() {
+            entry.is_opened = true;
+            return Ok(());
         }
+        self.unplaced = give_place(&mut self.ready, self.unplaced, id, entry)?;
         entry.is_opened = true;
+        Ok(())
+    }
+
+    // QUIC has opened an own stream: it is asked what was to be asked of it.
+    #[tactic(auto, using(crate::proofs::KeepsLemmas::keep, crate::proofs::PlaceLemmas::ordered))]
+    fn show_opened(&mut self, id: u64) -> Result<(), AllocError>
+        ensures keeps { Keeps [] self.old self.new }
+        ensures ids { self.new.ids ≡ self.old.ids }
+        ensures here { opened_by (stream_at self.new id) ≡ opened_by (stream_at self.old id) }
+        ensures control { self.new.control ≡ self.old.control }
+        ensures decoder { self.new.decoder ≡ self.old.decoder }
+        ensures encoder { self.new.encoder ≡ self.old.encoder }
+    {
+        let Some(entry) = self.streams.get_mut(&id) else {
+            return Ok(());
+        };
         if entry.is_paused {
             self.outputs.push_back(Output::Read(id, false))?;
         }
@@ -468,8 +514,10 @@ impl Connection {
 }
 
 // Returns the own half of a stream of the peer, on which nothing was said: none of a unidirectional one.
+#[tactic(auto, using(crate::proofs::PlaceLemmas::more_new))]
 fn half_beside_peer(alloc: Global, queue: QueueConfig, id: u64) -> Writing
-    ensures { (own_of result ≡ Over) ⊎ (own_of result ≡ Sends 0 [] (OpenEnd false)) }
+    ensures blank { (own_of result ≡ Over) ⊎ (own_of result ≡ Sends 0 [] (OpenEnd false)) }
+    ensures idle { has_more result.queue ≡ false }
 {
     if id % 4 < 2 {
         Writing::idle(alloc, queue)

@@ -44,7 +44,7 @@ impl Connection {
     }
 
     // Tells that the peer's half ended, which is read no further.
-    #[tactic(auto, using(crate::proofs::KeepsLemmas::keep, crate::proofs::KeepsLemmas::keeps_end, crate::proofs::TellsLemmas::gone_set))]
+    #[tactic(auto, using(crate::proofs::KeepsLemmas::keep, crate::proofs::KeepsLemmas::keeps_end, crate::proofs::TellsLemmas::gone_set, crate::proofs::PlaceLemmas::ordered))]
     fn tell_end(&mut self, id: u64) -> Step<'static>
         ensures keeps { Keeps (said_in result) self.old self.new }
         ensures is { IsOf id (Ends ∷ []) result }
@@ -75,6 +75,7 @@ impl Connection {
     }
 
     // All sections of a stream were read.
+    #[tactic(auto, using(crate::proofs::KeepsLemmas::keep, crate::proofs::PlaceLemmas::ordered))]
     fn forget_cancel(&mut self, id: u64)
         ensures keeps { Keeps [] self.old self.new }
     {
@@ -112,7 +113,7 @@ impl Connection {
 
     // Asks the peer to stop its half, unless its end came, or QUIC closed the stream. QUIC is asked once it knows of the
     // stream.
-    #[tactic(auto, using(crate::proofs::KeepsLemmas::keep, crate::proofs::CutLemmas::alone, crate::proofs::CutLemmas::asks_refl, crate::proofs::CutLemmas::asks_stop))]
+    #[tactic(auto, using(crate::proofs::KeepsLemmas::keep, crate::proofs::CutLemmas::alone, crate::proofs::CutLemmas::asks_refl, crate::proofs::CutLemmas::asks_stop, crate::proofs::PlaceLemmas::ordered))]
     fn ask_stop(&mut self, id: u64, code: u64) -> Result<(), AllocError>
         ensures keeps { Keeps [] self.old self.new }
         ensures alone { Alone id self.old self.new }
@@ -133,7 +134,7 @@ impl Connection {
     }
 
     // Gives up what waits on the peer's half.
-    #[tactic(auto, using(crate::proofs::KeepsLemmas::keep, crate::proofs::CutLemmas::alone, crate::proofs::KeepsLemmas::keeps_turned))]
+    #[tactic(auto, using(crate::proofs::KeepsLemmas::keep, crate::proofs::CutLemmas::alone, crate::proofs::KeepsLemmas::keeps_turned, crate::proofs::PlaceLemmas::ordered))]
     fn abandon(&mut self, id: u64)
         ensures keeps { Keeps [] self.old self.new }
         ensures alone { Alone id self.old self.new }
@@ -222,7 +223,7 @@ impl Connection {
 
     // Drops what is kept of the peer's half, which is read no further. Returns by how many bytes QUIC's windows are to be
     // extended for it.
-    #[tactic(auto, using(crate::proofs::KeepsLemmas::keep, crate::proofs::KeepsLemmas::keeps_but_set, crate::proofs::KeepsLemmas::keeps_gone_set, crate::proofs::CutLemmas::alone, crate::proofs::TellsLemmas::gone_set))]
+    #[tactic(auto, using(crate::proofs::KeepsLemmas::keep, crate::proofs::KeepsLemmas::keeps_but_set, crate::proofs::KeepsLemmas::keeps_gone_set, crate::proofs::CutLemmas::alone, crate::proofs::TellsLemmas::gone_set, crate::proofs::PlaceLemmas::ordered))]
     fn drop_half(&mut self, id: u64, is_over: bool) -> usize
         ensures keeps { KeepsBut id self.old self.new }
         ensures alone { Alone id self.old self.new }

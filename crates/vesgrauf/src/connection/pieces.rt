@@ -141,7 +141,7 @@ impl Connection {
 
     // Returns the piece of content that is next in bytes of a stream.
     #[inline(always)]
-    #[tactic(auto, using(crate::proofs::LookLemmas::reads_set, crate::proofs::InstructionLemmas::may_after, crate::proofs::PieceLemmas::piece_keeps, std::proofs::lemmas::Map::Steps::set_value_same, crate::proofs::BoundLemmas::bound))]
+    #[tactic(auto, using(crate::proofs::LookLemmas::reads_set, crate::proofs::InstructionLemmas::may_after, crate::proofs::PieceLemmas::piece_keeps, std::proofs::lemmas::Map::Steps::set_value_same, crate::proofs::BoundLemmas::bound, crate::proofs::PlaceLemmas::ordered))]
     fn piece_in<'a>(&mut self, id: u64, chunk: &mut Chunk<'a>) -> Option<Piece<'a>>
         ensures stream { IfSome result (λ p. p.stream ≡ id) }
         ensures reads { IfSome result (λ p. ReadsOn id (content p.bytes.now) self.old.streams.entries chunk.old
@@ -187,6 +187,8 @@ impl Entry {
         ensures known { IfSome result (λ p. is_known self.old.told ≡ true) }
         ensures told { self.new.told ≡ self.old.told }
         ensures session { self.new.session ≡ self.old.session }
+        ensures place { (self.new.is_opened ≡ self.old.is_opened) × (self.new.is_blocked ≡ self.old.is_blocked)
+            × (self.new.priority ≡ self.old.priority) }
         ensures read { (self.new.peer ≡ self.old.peer) × (self.new.is_decoder ≡ self.old.is_decoder) }
         ensures fits { KeepsFit (theirs_of self.old) (theirs_of self.new) }
     {

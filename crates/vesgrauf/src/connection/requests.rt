@@ -32,7 +32,7 @@ impl Connection {
     ///
     /// # Errors
     ///
-    /// Nothing changes. `Closed`; `WrongSide` at a server; `GoAway`; for an extended CONNECT, such as a request for a
+    /// Nothing changes, but QPACK's table and what is queued for it. `Closed`; `WrongSide` at a server; `GoAway`; for an extended CONNECT, such as a request for a
     /// session, `NotReady` until SETTINGS of the peer came; `TooManySessions` if as many sessions are open as the peer
     /// allows; `Full` if as many requests wait for QUIC as [`max_unopened`](crate::config::Config) says: an event
     /// [`Openable`](crate::event::EventKind) follows; `NoMoreIds`; `Send` if it would be malformed or the peer does not
@@ -115,7 +115,7 @@ impl Connection {
     }
 
     // Opens the stream of a request.
-    #[tactic(auto, using(crate::proofs::IdLemmas::others_untouched))]
+    #[tactic(auto, using(crate::proofs::IdLemmas::others_untouched, crate::proofs::PlaceLemmas::ordered_removed))]
     fn open_request(
         &mut self,
         id: u64,
@@ -137,11 +137,14 @@ impl Connection {
         let session = session_id(id)?;
         let allows = self.allows();
         // (what a stream takes of memory is taken before the section is encoded)
-        let blank = self.blank_entry(asked);
+        let mut blank = self.blank_entry(asked);
+        blank.is_opened = false;
         self.put_entry(id, blank)?;
         let mut writing = Writing::idle(self.alloc, self.config.queue());
         if let Err(error) = writing.request(&mut self.tools, session, allows, list, fin) {
-            self.streams.remove(&id);
+            if let Some(blank) = self.streams.remove(&id) {
+                self.ready.remove(id, blank.kind());
+            }
             return Err(Refused::from(error));
         }
         let mut entry = self.blank_entry(asked);
@@ -172,17 +175,25 @@ impl Connection {
     }
 
     // Puts the entry of a stream in its place.
+    #[tactic(auto, using(crate::proofs::KeepsLemmas::keep, crate::proofs::PlaceLemmas::ordered_new_closed, crate::proofs::PlaceLemmas::ordered_replaced))]
     fn put_entry(&mut self, id: u64, entry: Entry) -> Result<(), Refused>
+        requires { entry.is_opened ≡ false }
         ensures here { OnOk result (stream_at self.new id ≡ Some entry) }
         ensures alone { OnOk result (AreOthers id self.old.streams.entries self.new.streams.entries) }
-        ensures others { self.new ≡ record self.old { streams = self.new.streams } }
+        ensures view { view_of self.new ≡ record (view_of self.old) { streams = self.new.streams.entries } }
+        ensures tools { self.new.tools ≡ self.old.tools }
+        ensures events { self.new.events ≡ self.old.events }
         ensures refused { IfErr result (λ e. e ≡ refused.Memory) }
         ensures same { OnErr result (self.new.streams.entries ≡ self.old.streams.entries) }
         ensures absent { OnErr result (stream_at self.old id ≡ None) }
     {
-        match self.streams.insert(id, entry) {
-            Ok(_) => Ok(()),
-            Err(_) => Err(Refused::Memory),
+        let old = match self.streams.insert(id, entry) {
+            Ok(old) => old,
+            Err(_) => return Err(Refused::Memory),
+        };
+        if let Some(old) = old {
+            self.ready.remove(id, old.kind());
         }
+        Ok(())
     }
 }

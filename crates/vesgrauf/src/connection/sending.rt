@@ -5,7 +5,7 @@ ghost use Rattle.vesgrauf.specs.Halves.{LastsBut, LastsOn};
 ghost use Rattle.vesgrauf.specs.Keeps.{Keeps, KeepsBut};
 ghost use Rattle.vesgrauf.specs.Messages.{ChangesThen};
 ghost use Rattle.vesgrauf.specs.State.{next_output, Changes, IsStill, IsRefused, ShowsNext, view_of, blocked_at, blocked_in, is_over, is_own, Of, stream_at};
-ghost use Rattle.vesgrauf.specs.Progress.{IsSent, NoneIsReady};
+ghost use Rattle.vesgrauf.specs.Progress.{IsSent, IsTurn, IsTurnOf, NoneIsSending};
 ghost use Rattle.vesgrauf.specs.Ids.{to_open};
 ghost use Rattle.vesgrauf.specs.Streams.{IsNotDue, ShowsOwn, TookOwn, is_it};
 ghost use Rattle.vesgrauf_queue.specs.State.{Shows};
@@ -15,27 +15,17 @@ ghost use Rattle.vesgrauf.specs.Own.{own_at, Took, TookAlone, Untouched, Untouch
 ghost use Rattle.vesgrauf.specs.Theirs.{Left, IsSilent};
 ghost use Rattle.vesgrauf.specs.Told.{GoesOn, said_in};
 
+use crate::connection::placing::{give_place, keep_place};
 use crate::connection::{Connection, Step};
 use crate::event::EventKind;
 use crate::output::{Next, Output, Scope, StreamKind};
 use crate::refused::Refused;
 use std::alloc::AllocError;
-use vesgrauf_ready::rank::Kind;
-
-/// What QUIC left of a stream of which it took bytes.
-#[derive(Clone, Copy)]
-struct Taken {
-    /// Its place in the order of sending.
-    kind: Kind,
-    /// Whether QUIC is to take more, or its end.
-    has_more: bool,
-    /// Whether nothing is to be done for its own half any more.
-    is_done: bool,
-}
 
 #[tactic(auto, using(crate::proofs::KeepsLemmas::keep))]
 impl Connection {
-    /// Returns what QUIC is to do next, or `None`. It is the same until it is taken.
+    /// Returns what QUIC is to do next, or `None`. It is the same until it is taken, or a call or an input puts another
+    /// first or ends the connection.
     pub fn output(&self) -> Option<Output>
         ensures { result ≡ next_output self.now }
     {
@@ -100,6 +90,7 @@ impl Connection {
     #[tactic(auto, using(crate::proofs::ProgressLemmas::all_sent))]
     pub fn next_send(&self) -> Option<Next<'_>>
         ensures next { IfSome result (λ n. ShowsNext self.now n.id n.bytes.now n.more.now n.fin) }
+        ensures turn { IfSome result (λ n. IsTurn self.now n.id n.bytes.now n.more.now n.fin) }
         ensures over { is_over self.now ≡ true → result ≡ None }
         ensures blocked { self.now.is_blocked ≡ true → result ≡ None }
         ensures none { result ≡ None → is_over self.now ≡ false → self.now.is_blocked ≡ false → IsSent self.now }
@@ -118,9 +109,11 @@ impl Connection {
         ensures next { IfSome result (λ n. ShowsOwn self.now.decoder n.id n.bytes.now n.more.now n.fin
             ⊎ (ShowsOwn self.now.encoder n.id n.bytes.now n.more.now n.fin
             ⊎ Of (stream_at self.now n.id) (λ e. Shows e.writing.queue n.bytes.now n.more.now n.fin))) }
+        ensures turn { IfSome result (λ n. ShowsOwn self.now.decoder n.id n.bytes.now n.more.now n.fin
+            ⊎ (ShowsOwn self.now.encoder n.id n.bytes.now n.more.now n.fin ⊎ IsTurnOf self.now n.id)) }
         ensures decoder { result ≡ None → IsNotDue self.now.decoder }
         ensures encoder { result ≡ None → IsNotDue self.now.encoder }
-        ensures none { result ≡ None → NoneIsReady self.now }
+        ensures none { result ≡ None → NoneIsSending self.now }
     {
         match self.decoder.next_due() {
             Some(next) => Some(next),
@@ -132,8 +125,10 @@ impl Connection {
     fn next_of_encoder(&self) -> Option<Next<'_>>
         ensures next { IfSome result (λ n. ShowsOwn self.now.encoder n.id n.bytes.now n.more.now n.fin
             ⊎ Of (stream_at self.now n.id) (λ e. Shows e.writing.queue n.bytes.now n.more.now n.fin)) }
+        ensures turn { IfSome result (λ n. ShowsOwn self.now.encoder n.id n.bytes.now n.more.now n.fin
+            ⊎ IsTurnOf self.now n.id) }
         ensures encoder { result ≡ None → IsNotDue self.now.encoder }
-        ensures none { result ≡ None → NoneIsReady self.now }
+        ensures none { result ≡ None → NoneIsSending self.now }
     {
         match self.encoder.next_due() {
             Some(next) => Some(next),
@@ -142,27 +137,22 @@ impl Connection {
     }
 
     // Returns the bytes that QUIC is to send next of a stream that is not critical.
-    #[tactic(auto, using(crate::proofs::ProgressLemmas::turn_gone, crate::proofs::ProgressLemmas::turn_idle))]
+    #[tactic(auto, using(crate::proofs::ProgressLemmas::none_is_sending, crate::proofs::ProgressLemmas::turn_of, crate::proofs::ProgressLemmas::none_gone, crate::proofs::ProgressLemmas::none_idle))]
     fn next_of_streams(&self) -> Option<Next<'_>>
         ensures next { IfSome result (λ n. Of (stream_at self.now n.id)
             (λ e. Shows e.writing.queue n.bytes.now n.more.now n.fin)) }
-        ensures none { result ≡ None → NoneIsReady self.now }
+        ensures turn { IfSome result (λ n. IsTurnOf self.now n.id) }
+        ensures none { result ≡ None → NoneIsSending self.now }
     {
-        match self.ready.next() {
-            Some(id) => match self.streams.get(&id) {
-                Some(entry) => match entry.writing.next() {
-                    Some(next) => Some(Next {
-                        id,
-                        bytes: next.bytes,
-                        more: next.more,
-                        fin: next.fin,
-                    }),
-                    None => None,
-                },
-                None => None,
-            },
-            None => None,
-        }
+        let id = self.ready.next()?;
+        let entry = self.streams.get(&id)?;
+        let next = entry.writing.next()?;
+        Some(Next {
+            id,
+            bytes: next.bytes,
+            more: next.more,
+            fin: next.fin,
+        })
     }
 
     /// QUIC took the first `len` of the bytes that [`next_send`](Self::next_send) returned, and the end with the last
@@ -229,28 +219,11 @@ impl Connection {
         Ok(())
     }
 
-    // QUIC took bytes of a stream that is not critical. Returns whether nothing is to be done for its own half any more.
-    fn message_sent(&mut self, id: u64, len: usize) -> Result<bool, Refused>
-        ensures refused { OnErr result (IsStill self.old self.new) }
-        ensures own { UntouchedBut id self.old.streams.entries self.new.streams.entries }
-        ensures took { OnOk result (Took len (own_at self.old.streams.entries id)
-            (own_at self.new.streams.entries id)) }
-        ensures left { Left self.old.streams.entries self.new.streams.entries }
-        ensures config { self.new.config ≡ self.old.config }
-        ensures goes { GoesOn [] self.old self.new }
-    {
-        let taken = self.take_message(id, len)?;
-        self.ready.turn_taken(id, taken.kind);
-        if !taken.has_more {
-            self.ready.remove(id, taken.kind);
-        }
-        Ok(taken.is_done)
-    }
-
-    // QUIC took bytes of a stream that is not critical, whose turn it was.
+    // QUIC took bytes of a stream that is not critical, whose turn it was. Returns whether nothing is to be done for its own
+    // half any more.
     #[inline(always)]
-    #[tactic(auto, using(crate::proofs::KeepsLemmas::kept, crate::proofs::OwnLemmas::took_set, crate::proofs::TheirsLemmas::left_set, crate::proofs::GoesLemmas::goes_set, std::proofs::lemmas::Map::Steps::set_value_same))]
-    fn take_message(&mut self, id: u64, len: usize) -> Result<Taken, Refused>
+    #[tactic(auto, using(crate::proofs::KeepsLemmas::kept, crate::proofs::OwnLemmas::took_set, crate::proofs::TheirsLemmas::left_set, crate::proofs::GoesLemmas::goes_set, std::proofs::lemmas::Map::Steps::set_value_same, crate::proofs::PlaceLemmas::ordered_turned))]
+    fn message_sent(&mut self, id: u64, len: usize) -> Result<bool, Refused>
         ensures refused { OnErr result (IsStill self.old self.new) }
         ensures own { UntouchedBut id self.old.streams.entries self.new.streams.entries }
         ensures took { OnOk result (Took len (own_at self.old.streams.entries id)
@@ -263,11 +236,9 @@ impl Connection {
             return Err(Refused::NoStream);
         };
         entry.sent(&mut self.tools.spares, len)?;
-        Ok(Taken {
-            kind: entry.kind(),
-            has_more: entry.has_more(),
-            is_done: entry.writing.is_done(),
-        })
+        self.ready.turn_taken(id, entry.kind());
+        keep_place(&mut self.ready, id, entry);
+        Ok(entry.writing.is_done())
     }
 
     // Notes that there may be room on a stream.
@@ -305,6 +276,7 @@ impl Connection {
     }
 
     // Returns whether a `Writable` is owed on a stream, which is then told.
+    #[tactic(auto, using(crate::proofs::KeepsLemmas::keep, crate::proofs::PlaceLemmas::ordered_step, crate::proofs::PlaceLemmas::told_more))]
     fn take_writable(&mut self, id: u64) -> bool
         ensures keeps { Keeps [] self.old self.new }
     {
@@ -372,7 +344,7 @@ impl Connection {
 
     // The peer has more of the bytes of a stream that is not critical. Returns whether nothing is to be done for its own half
     // any more.
-    #[tactic(auto, using(crate::proofs::KeepsLemmas::keep, std::proofs::lemmas::Map::Steps::set_value_same))]
+    #[tactic(auto, using(crate::proofs::KeepsLemmas::keep, std::proofs::lemmas::Map::Steps::set_value_same, crate::proofs::PlaceLemmas::ordered_step, crate::proofs::PlaceLemmas::more_acked))]
     fn acked_on(&mut self, id: u64, len: u64) -> Result<bool, Refused>
         ensures refused { IfErr result (λ e. IsRefused e self.old self.new) }
         ensures acks { OnOk result (is_some (stream_at self.old id) ≡ true
@@ -397,9 +369,11 @@ impl Connection {
     }
 
     // QUIC took the reset of a stream.
+    #[tactic(auto, using(crate::proofs::KeepsLemmas::keep, crate::proofs::PlaceLemmas::ordered_step, crate::proofs::PlaceLemmas::reset_put_more))]
     fn note_reset_sent(&mut self, id: u64)
         ensures keeps { Keeps [] self.old self.new }
-        ensures others { self.new ≡ record self.old { streams = self.new.streams } }
+        ensures outputs { self.new.outputs ≡ self.old.outputs }
+        ensures closes { self.new.closes ≡ self.old.closes }
     {
         if let Some(entry) = self.streams.get_mut(&id) {
             let _taken = entry.writing.reset_sent();
@@ -433,7 +407,7 @@ impl Connection {
     }
 
     // QUIC takes nothing of a stream for now, or does again.
-    #[tactic(auto, using(crate::proofs::KeepsLemmas::kept, std::proofs::lemmas::Map::Steps::set_value_same, crate::proofs::GoesLemmas::goes_set))]
+    #[tactic(auto, using(crate::proofs::KeepsLemmas::kept, std::proofs::lemmas::Map::Steps::set_value_same, crate::proofs::GoesLemmas::goes_set, crate::proofs::PlaceLemmas::ordered, crate::proofs::PlaceLemmas::ordered_blocked, crate::proofs::PlaceLemmas::ordered_quiet, crate::proofs::PlaceLemmas::ordered_closed))]
     fn block_stream(&mut self, id: u64, blocked: bool) -> Result<(), Refused>
         ensures ok { OnOk result (view_of self.new ≡ blocked_in self.old id blocked) }
         ensures err { IfErr result (λ e. e ≡ refused.Memory) }
@@ -455,13 +429,17 @@ impl Connection {
         let Some(entry) = self.streams.get_mut(&id) else {
             return Ok(());
         };
-        let kind = entry.kind();
         if blocked {
-            self.ready.remove(id, kind);
-        } else if entry.is_opened && entry.has_more() {
-            self.ready.insert(id, kind)?;
+            self.ready.remove(id, entry.kind());
+            entry.is_blocked = true;
+            return Ok(());
         }
-        entry.is_blocked = blocked;
+        if !entry.is_opened || !entry.has_more() {
+            entry.is_blocked = false;
+            return Ok(());
+        }
+        self.unplaced = give_place(&mut self.ready, self.unplaced, id, entry)?;
+        entry.is_blocked = false;
         Ok(())
     }
 

@@ -2,7 +2,7 @@
 ghost use Rattle.std.specs.Prelude.{◌≡◌, ◌⊎◌, ◌+◌, ◌-◌, ◌^◌, min, true, false, List, Ok, Err, OnOk, OnErr, IfErr, IfOk, [], ◌∷◌};
 ghost use Rattle.vesgrauf.specs.Order.{LooksAtAll};
 ghost use Rattle.vesgrauf.specs.Messages.{ClosesSession, ChangesThen};
-ghost use Rattle.vesgrauf_stream.specs.Writing.{Drains};
+ghost use Rattle.vesgrauf_stream.specs.Writing.{Drains, Ends as EndsHalf, Closes as ClosesHalf};
 ghost use Rattle.vesgrauf.specs.Keeps.{Keeps, KeepsBut};
 ghost use Rattle.vesgrauf.specs.State.{IsStill, IsRefused, Changes, IsWhy, RefusesDrain, is_over, known_in, open_session};
 ghost use Rattle.vesgrauf.specs.Own.{UntouchedBut};
@@ -13,6 +13,7 @@ ghost use Rattle.vesgrauf.specs.Told.{GoesOn, Sound, said_by, said_in};
 ghost use Rattle.vesgrauf.specs.Cuts.{AreCut};
 ghost use Rattle.wtp_connection.specs.declared.connection.Known.TheVariants as known;
 
+use crate::connection::placing::{keep_place, take_place};
 use crate::connection::{Connection, Step, Stop};
 use crate::entry::SHARED;
 use crate::event::{EventKind, Tunnel, Why};
@@ -73,6 +74,7 @@ impl Connection {
     }
 
     // The request on a stream asks for a session.
+    #[tactic(auto, using(crate::proofs::KeepsLemmas::keep, crate::proofs::PlaceLemmas::ordered, crate::proofs::PlaceLemmas::ordered_quiet))]
     fn begin_session(&mut self, id: u64)
         ensures keeps { Keeps [] self.old self.new }
     {
@@ -81,7 +83,9 @@ impl Connection {
         if let Some(entry) = self.streams.get_mut(&id) {
             entry.is_session = true;
             entry.has_session = true;
-            entry.priority = SHARED;
+            if !entry.has_more() {
+                entry.priority = SHARED;
+            }
         }
     }
 
@@ -276,7 +280,7 @@ impl Connection {
     /// # Errors
     ///
     /// Nothing changes. `Closed`; `SessionGone`; `NotOpen`; and `Memory`.
-    #[tactic(auto, using(crate::proofs::KeepsLemmas::kept, crate::proofs::TheirsLemmas::left_set, std::proofs::lemmas::Map::Steps::set_value_same, crate::proofs::GoesLemmas::goes_set))]
+    #[tactic(auto, using(crate::proofs::KeepsLemmas::kept, crate::proofs::TheirsLemmas::left_set, std::proofs::lemmas::Map::Steps::set_value_same, crate::proofs::GoesLemmas::goes_set, crate::proofs::PlaceLemmas::ordered, crate::proofs::PlaceLemmas::ordered_sent))]
     pub fn drain_session(&mut self, session: u64) -> Result<(), Refused>
         ensures open { OnOk result (open_session self.old session ≡ Ok tt) }
         ensures ok { OnOk result (Changes session Drains self.old self.new) }
@@ -292,8 +296,9 @@ impl Connection {
         let Some(entry) = self.streams.get_mut(&session) else {
             return Err(Refused::NoStream);
         };
+        self.unplaced = take_place(&mut self.ready, self.unplaced, session, entry)?;
         let result = entry.writing.drain(&mut self.tools.spares);
-        self.end_send(session);
+        keep_place(&mut self.ready, session, entry);
         Ok(result?)
     }
 
@@ -333,15 +338,29 @@ impl Connection {
         ensures goes { GoesOn [] self.old self.new }
     {
         self.begin_send(session)?;
-        let result = self.close_half(session, code, reason);
-        self.end_send(session);
-        result
+        self.close_half(session, code, reason)
     }
 
     // Ends the own half of a session, by its end or by a code and a reason.
-    #[tactic(auto, using(crate::proofs::KeepsLemmas::kept, crate::proofs::TheirsLemmas::left_set, std::proofs::lemmas::Map::Steps::set_value_same, crate::proofs::GoesLemmas::goes_set))]
+    #[tactic(auto, using(crate::proofs::KeepsLemmas::kept, crate::proofs::TheirsLemmas::left_set, std::proofs::lemmas::Map::Steps::set_value_same, crate::proofs::GoesLemmas::goes_set, crate::proofs::PlaceLemmas::ordered, crate::proofs::PlaceLemmas::ordered_sent))]
     fn close_half(&mut self, session: u64, code: u32, reason: &str) -> Result<(), Refused>
         ensures closes { OnOk result (Changes session (ClosesSession code reason.now) self.old self.new) }
+        ensures kept { OnErr result (IsStill self.old self.new) }
+        ensures own { UntouchedBut session self.old.streams.entries self.new.streams.entries }
+        ensures left { Left self.old.streams.entries self.new.streams.entries }
+        ensures config { self.new.config ≡ self.old.config }
+        ensures goes { GoesOn [] self.old self.new }
+    {
+        if code == 0 && reason.is_empty() {
+            return self.end_half(session);
+        }
+        self.say_close(session, code, reason)
+    }
+
+    // Ends the own half of a session by its end.
+    #[tactic(auto, using(crate::proofs::KeepsLemmas::kept, crate::proofs::TheirsLemmas::left_set, std::proofs::lemmas::Map::Steps::set_value_same, crate::proofs::GoesLemmas::goes_set, crate::proofs::PlaceLemmas::ordered))]
+    fn end_half(&mut self, session: u64) -> Result<(), Refused>
+        ensures ends { OnOk result (Changes session EndsHalf self.old self.new) }
         ensures kept { OnErr result (IsStill self.old self.new) }
         ensures own { UntouchedBut session self.old.streams.entries self.new.streams.entries }
         ensures left { Left self.old.streams.entries self.new.streams.entries }
@@ -351,14 +370,31 @@ impl Connection {
         let Some(entry) = self.streams.get_mut(&session) else {
             return Err(Refused::NotOpen);
         };
-        if code == 0 && reason.is_empty() {
-            return Ok(entry.writing.finish()?);
-        }
-        Ok(
-            entry
-                .writing
-                .close(self.alloc, &mut self.tools.spares, code, reason)?,
-        )
+        self.unplaced = take_place(&mut self.ready, self.unplaced, session, entry)?;
+        let result = entry.writing.finish();
+        keep_place(&mut self.ready, session, entry);
+        Ok(result?)
+    }
+
+    // Ends the own half of a session by a code and a reason.
+    #[tactic(auto, using(crate::proofs::KeepsLemmas::kept, crate::proofs::TheirsLemmas::left_set, std::proofs::lemmas::Map::Steps::set_value_same, crate::proofs::GoesLemmas::goes_set, crate::proofs::PlaceLemmas::ordered))]
+    fn say_close(&mut self, session: u64, code: u32, reason: &str) -> Result<(), Refused>
+        ensures closes { OnOk result (Changes session (ClosesHalf code reason.now) self.old self.new) }
+        ensures kept { OnErr result (IsStill self.old self.new) }
+        ensures own { UntouchedBut session self.old.streams.entries self.new.streams.entries }
+        ensures left { Left self.old.streams.entries self.new.streams.entries }
+        ensures config { self.new.config ≡ self.old.config }
+        ensures goes { GoesOn [] self.old self.new }
+    {
+        let Some(entry) = self.streams.get_mut(&session) else {
+            return Err(Refused::NotOpen);
+        };
+        self.unplaced = take_place(&mut self.ready, self.unplaced, session, entry)?;
+        let result = entry
+            .writing
+            .close(self.alloc, &mut self.tools.spares, code, reason);
+        keep_place(&mut self.ready, session, entry);
+        Ok(result?)
     }
 
     // The end of a session is queued: what follows for its streams.
@@ -370,6 +406,7 @@ impl Connection {
     {
         self.end_session(session)?;
         self.drop_peer(session)?;
+        self.cancel_left(session);
         self.remove_if_done(session)
     }
 }

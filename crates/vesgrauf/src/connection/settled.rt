@@ -42,6 +42,7 @@ impl Connection {
             && !self.pending.begins_table
             && self.datagrams.opened.is_empty()
             && self.is_instructed()
+            && self.unplaced.is_none()
     }
 
     // Returns whether what is to be said for QPACK is queued on the own streams, as far as these have IDs.

@@ -167,7 +167,7 @@ impl Connection {
     }
 
     // Tells the peer's encoder that a stream is left, once (RFC 9204, section 2.2.2.2).
-    #[tactic(auto, using(crate::proofs::KeepsLemmas::keep, crate::proofs::CutLemmas::alone, crate::proofs::ReadsLemmas::set_here, std::proofs::lemmas::Map::Steps::set_value_same))]
+    #[tactic(auto, using(crate::proofs::KeepsLemmas::keep, crate::proofs::CutLemmas::alone, crate::proofs::ReadsLemmas::set_here, std::proofs::lemmas::Map::Steps::set_value_same, crate::proofs::PlaceLemmas::ordered))]
     pub(super) fn cancel(&mut self, id: u64) -> Result<(), AllocError>
         ensures ok { OnOk result (Cancels id self.old self.new) }
         ensures err { OnErr result (IsStill self.old self.new) }

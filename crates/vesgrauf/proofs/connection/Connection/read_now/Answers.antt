@@ -1,6 +1,7 @@
 use Rattle.std.proofs.Common.{◌∙◌, ap, Some}
 use Rattle.std.specs.Prelude.{Ok}
 use Rattle.vesgrauf.specs.Theirs.{Tells, TellsAll, told_by}
+use Rattle.vesgrauf.proofs.BoundLemmas.{bound_then, on_ok}
 use Rattle.vesgrauf.proofs.TellsLemmas.{all_of}
 use Rattle.vesgrauf.proofs.StepLemmas.{ok_map, told_none_all, quiet_then_all, told_none_if, told_told_if, told_more_if, told_nothing_if}
 use Rattle.vesgrauf.proofs.KeepsOwnLemmas.{keeps_holds, holds_then}
@@ -50,3 +51,15 @@ returns-in-Ok-Some-Nothing-clause-told c = λ h g. ok_map c.take_steps-in-Ok-Som
 pub returns-in-Err-Broken-clause-keeps : goal.returns-in-Err-Broken-clause-keeps
 returns-in-Err-Broken-clause-keeps c = holds_then (holds_then (rw c.in-Err-Broken.is at c.step_at_once.ensures.keeps)
     (keeps_holds c.fail.ensures.keeps)) c.take_steps-in-Err-Broken.ensures.keeps
+
+pub returns-in-Ok-None-clause-bounded : goal.returns-in-Ok-None-clause-bounded
+returns-in-Ok-None-clause-bounded c = λ h. on_ok c.next_by_steps.result
+    (bound_then (rw c.in-Ok-None.is at c.step_at_once.ensures.bounded)) (c.next_by_steps.ensures.bounded h)
+
+pub returns-in-Ok-Some-More-clause-bounded : goal.returns-in-Ok-Some-More-clause-bounded
+returns-in-Ok-Some-More-clause-bounded c = λ h. on_ok c.take_steps.result
+    (bound_then (rw c.in-Ok-Some-More.is at c.step_at_once.ensures.bounded)) (c.take_steps.ensures.bounded h)
+
+pub returns-in-Ok-Some-Nothing-clause-bounded : goal.returns-in-Ok-Some-Nothing-clause-bounded
+returns-in-Ok-Some-Nothing-clause-bounded c = λ h. on_ok c.take_steps-in-Ok-Some-Nothing.result
+    (bound_then (rw c.in-Ok-Some-Nothing.is at c.step_at_once.ensures.bounded)) (c.take_steps-in-Ok-Some-Nothing.ensures.bounded h)

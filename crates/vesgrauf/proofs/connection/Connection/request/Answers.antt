@@ -41,13 +41,14 @@ returns-clause-goes c =
 
 pub returns-clause-begins : goal.returns-clause-begins
 returns-clause-begins c = requests c.args.self.now c.choose_policy.new.self c.open_request.new.self
-    (record c.open_request.new.self { ids = c.take.new.self }) c.queue_due.new.self c.count_session.new.self c.in-Some.id
+    (record c.open_request.new.self { ids = c.take.new.self; ordered = _ }) c.queue_due.new.self c.count_session.new.self
+    c.in-Some.id
     (λ a s t v w. SendsHeaders (request_at v c.in-Some.id a) c.args.list.now c.args.fin s t v w)
     ((c.choose_policy.ensures.still ∙ c.reserve.ensures.still) ∙ c.check_room.ensures.still)
     (same_but c.args.self.now c.reserve.new.self c.choose_policy.new.self
     (c.reserve.ensures.tools ∙ c.check_room.ensures.tools) c.choose_policy.ensures.policy
     c.choose_policy.ensures.instructions)
-    c.in_ok-open_request.ensures.begins c.open_request.ensures.view refl c.queue_due.ensures.due
+    c.in_ok-open_request.ensures.begins c.open_request.ensures.view refl refl refl c.queue_due.ensures.due
     c.count_session.ensures.others
 
 pub returns-in_err-open_request-clause-kept : goal.returns-in_err-open_request-clause-kept
