@@ -138,6 +138,13 @@ impl Connection {
         }
     }
 
+    /// Returns whether an error ended the connection: [`receive`](Self::receive) then says nothing more.
+    pub fn is_over(&self) -> bool
+        ensures { result ≡ self.now.over }
+    {
+        self.over
+    }
+
     /// Returns what is next in the bytes of a stream that follow those consumed before. `fin`: the
     /// stream ends right after `bytes`. Call it until [`Event::More`] or [`Event::Waits`].
     ///
