@@ -10,8 +10,8 @@ use Rattle.vesgrauf.specs.Cuts.{Shut, ReadsOut, IsCut, is_over_in, is_read_out}
 use Rattle.vesgrauf.specs.Own.{entry_at}
 use Rattle.vesgrauf.specs.Ids.{was}
 use Rattle.vesgrauf.specs.State.{knows_of}
-use Rattle.vesgrauf.specs.Streams.{is_known}
-use Rattle.vesgrauf.specs.Told.{Word, Says, Fails, Closes, word_of, on_by, on, is_told_over, Path, status_by, status_at, knows, Sound, GoesOn}
+use Rattle.vesgrauf.specs.Streams.{is_known, is_told_over}
+use Rattle.vesgrauf.specs.Told.{Word, Says, Fails, Closes, word_of, on_by, on, Path, status_by, status_at, knows, Sound, GoesOn}
 use Rattle.vesgrauf.specs.Calls.{Call, Tells, Opens, Leads, Starts, Run, told_in_all, opened_in, EndsOnce, says, closes}
 use Rattle.vesgrauf.proofs.GoesLemmas.{goes_refl, goes_then, path_cut, path_known}
 

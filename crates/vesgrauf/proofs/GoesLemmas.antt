@@ -18,8 +18,8 @@ use Rattle.vesgrauf.specs.Ids.{was}
 use Rattle.vesgrauf.specs.Members.{is_member, session_in}
 use Rattle.vesgrauf.specs.Own.{entry_at}
 use Rattle.vesgrauf.specs.State.{told_on, knows_of, IsStill}
-use Rattle.vesgrauf.specs.Streams.{is_known, becomes_known, shown_session}
-use Rattle.vesgrauf.specs.Told.{Sets, Word, Says, Fails, Closes, word_of, ends, on_by, on, is_told_over, after, Stays, Path, status_by, status_in, status_at, Sound, Goes, GoesOn, said_in}
+use Rattle.vesgrauf.specs.Streams.{is_known, becomes_known, shown_session, is_told_over}
+use Rattle.vesgrauf.specs.Told.{Sets, Word, Says, Fails, Closes, word_of, ends, on_by, on, after, Stays, Path, status_by, status_in, status_at, Sound, Goes, GoesOn, said_in}
 
 -- ---- one stream
 

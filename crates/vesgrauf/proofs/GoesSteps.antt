@@ -16,7 +16,8 @@ use Rattle.vesgrauf.specs.State.{is_closed, closes_stream}
 use Rattle.wtp_frames.specs.declared.endpoint.Side.{Side}
 use Rattle.wtp_frames.specs.declared.endpoint.Side.TheVariants as side
 use Rattle.vesgrauf.specs.Ids.{IsFirst}
-use Rattle.vesgrauf.specs.Told.{AreIds, Sound, Goes, GoesOn, Word, Says, Fails, Closes, word_of, ends, on_by, on, is_told_over, may_fail, Path, status_at}
+use Rattle.vesgrauf.specs.Streams.{is_told_over}
+use Rattle.vesgrauf.specs.Told.{AreIds, Sound, Goes, GoesOn, Word, Says, Fails, Closes, word_of, ends, on_by, on, may_fail, Path, status_at}
 use Rattle.vesgrauf.proofs.GoesLemmas.{standing_of, standing_in, stays_refl, goes_then, goes_set, goes_queue, itself_linked, path_from, same_sets}
 use Rattle.vesgrauf.specs.declared.entry.Told.{Told}
 use Rattle.vesgrauf.specs.declared.entry.Told.TheVariants as told

@@ -34,7 +34,7 @@ use Rattle.vesgrauf.specs.Streams.{Says}
 use Rattle.vesgrauf.specs.Theirs.{IsRead, theirs_of, with_chunk}
 use Rattle.vesgrauf.specs.Instructions.{Table, table_by, Deed, Reads, Leaves, Counts, Acknowledges, MayAcknowledge, Looked, Rested, left, counted, Does, Deeds, IsSaidBy, AreSaid, bytes_of_all, Turn, Works, Takes, Turns, all_deeds, all_taken, is_piece, is_found_piece, HearsAndSays}
 use Rattle.vesgrauf.proofs.LookLemmas.{looked, looked_plain}
-use Rattle.vesgrauf.proofs.UnreadLemmas.{pieces_unread}
+use Rattle.vesgrauf.proofs.UnreadLemmas.{over_is_silent, pieces_unread}
 
 says_none_by : (o : Option ℕ) (bytes rest : List ℕ) (c : Critical) → false ≡ is_some o → rest ≡ bytes
     → SaysBy o bytes rest c c
@@ -69,9 +69,9 @@ unread_after id d r =
     none_read d.decoder id d refl r ∙ sym (ap (λ (o : Option Unacknowledged). after_read d.decoder o id d) r)
 
 pub hears_said : {limit : ℕ} {c d e : Shared} {r s : Reading} {i j : Chunk} {found : Found} (id : ℕ)
-    (before after : List ℕ) → Hears limit c r i found d s j → e ≡ after_read d.decoder d.read id d
+    (before after : List ℕ) → c.over ≡ false → Hears limit c r i found d s j → e ≡ after_read d.decoder d.read id d
     → after ≡ with_told before (due_read d.decoder d.read id) → HearsAndSays id limit c r i before found e s j after
-hears_said {limit} {c} {d} id before after h g b = record { d = d; hears = h; shared = g; bytes = b }
+hears_said {limit} {c} {d} id before after l h g b = record { d = d; lives = l; hears = h; shared = g; bytes = b }
 
 -- what is found of a piece is said of one
 payload_piece : (x : Say) → is_piece (without_payload x) ≡ is_piece x
@@ -89,6 +89,17 @@ piece_unread {limit} {c} {d} {r} {s} {i} {j} {found} h p =
     pieces_unread limit c r.stream _ _ (h.consumed, h.say, d, s.stream) h.gives
     (piece_said found h.say h.reach _ p h.says)
 
+-- and no error has ended the connection, since nothing is said after one
+lives_by : (b : Bool) (x : Say) → is_piece x ≡ true → (b ≡ true → x ≡ say.More) → b ≡ false
+lives_by false x p h = refl
+lives_by true x p h = absurd (let bad : false ≡ true = sym (ap is_piece (h refl)) ∙ p in cc)
+
+pub piece_lives : {limit : ℕ} {c d : Shared} {r s : Reading} {i j : Chunk} {found : Found}
+    → Hears limit c r i found d s j → is_found_piece found ≡ true → c.over ≡ false
+piece_lives {limit} {c} {d} {r} {s} {i} {j} {found} h p =
+    lives_by c.over h.say (piece_said found h.say h.reach _ p h.says)
+    (λ e. over_is_silent limit c r.stream _ _ (h.consumed, h.say, d, s.stream) h.gives e)
+
 -- a piece has no section
 pub hears_piece : {limit : ℕ} {c d : Shared} {r s : Reading} {i j : Chunk} {found : Found} (id : ℕ) (before : List ℕ)
     → Hears limit c r i found d s j → is_found_piece found ≡ true
@@ -97,6 +108,7 @@ hears_piece {limit} {c} {d} {r} {s} {i} {j} {found} id before h p =
     let none : d.read ≡ None = piece_unread h p in
     record {
       d = d;
+      lives = piece_lives h p;
       hears = h;
       shared = unread_after id d none;
       bytes = sym (ap (λ (o : Option Acknowledgment). with_told before o) (unread_due id d none));
@@ -124,7 +136,7 @@ acknowledges {limit} {c} {e} {r} {s} {i} {j} {found} {id} {before} {after} h =
     })
 
 -- a piece that is told at once
-heard_piece_is : (p : Part) (b : Bytes) → is_found_piece (found.Heard (heard_piece p b)) ≡ true
+pub heard_piece_is : (p : Part) (b : Bytes) → is_found_piece (found.Heard (heard_piece p b)) ≡ true
 heard_piece_is part.OfSession b = refl
 heard_piece_is other b = refl
 
@@ -171,7 +183,7 @@ pub looked_and_said : (e f : Entry) {limit : ℕ} {c d : Shared} {i j : Chunk} {
     → HearsAndSays id limit c e.reading i before found d f.reading j after
     → IsRead (with_chunk (theirs_of e) i) (items_found told) (with_chunk (theirs_of f) j)
 looked_and_said e f {limit} {c} {d} {i} {j} {found} told g same none p q h =
-    looked e f limit c h.d i j found told g same none p q h.hears
+    looked e f limit c h.d i j found told g same none p q h.lives h.hears
 
 pub looked_and_said_plain : (e f : Entry) {limit : ℕ} {c d : Shared} {i j : Chunk} {found : Found} {id : ℕ}
     {before after : List ℕ}
@@ -179,7 +191,7 @@ pub looked_and_said_plain : (e f : Entry) {limit : ℕ} {c d : Shared} {i j : Ch
     → HearsAndSays id limit c e.reading i before found d f.reading j after
     → IsRead (with_chunk (theirs_of e) i) (items_found found) (with_chunk (theirs_of f) j)
 looked_and_said_plain e f {limit} {c} {d} {i} {j} {found} g n p q h =
-    looked_plain e f limit c h.d i j found g n p q h.hears
+    looked_plain e f limit c h.d i j found g n p q h.lives h.hears
 
 -- ---- what is queued
 

@@ -1,14 +1,17 @@
 pub mod BoundLemmas
 pub mod CallLemmas
 pub mod CutLemmas
+pub mod EndLemmas
 pub mod GoesLemmas
 pub mod GoesSteps
 pub mod HalvesLemmas
 pub mod IdLemmas
 pub mod InstructionLemmas
+pub mod JoinedLemmas
 pub mod KeepsLemmas
 pub mod KeepsOwnLemmas
 pub mod LastsLemmas
+pub mod LostLemmas
 pub mod LookLemmas
 pub mod MemberLemmas
 pub mod MessageLemmas
@@ -17,6 +20,7 @@ pub mod OrderLemmas
 pub mod OwnLemmas
 pub mod PieceLemmas
 pub mod PlaceLemmas
+pub mod PlaceSteps
 pub mod ProgressLemmas
 pub mod ReadsLemmas
 pub mod RunLemmas

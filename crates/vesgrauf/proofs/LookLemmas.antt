@@ -43,10 +43,11 @@ call_reads : (consumed reach : ℕ) (bytes : List ℕ) → consumed ≤ length (
     → length (take reach bytes) ≡ min reach (length bytes) → consumed ≤ reach
 call_reads consumed reach bytes h e = omega (arith, h, e)
 
-hears_read : (limit : ℕ) (c d : Shared) (r s : Reading) (i j : Chunk) (found : Found) → Hears limit c r i found d s j
+hears_read : (limit : ℕ) (c d : Shared) (r s : Reading) (i j : Chunk) (found : Found) → c.over ≡ false
+    → Hears limit c r i found d s j
     → AreRead (with_chunk (Unread (kept_of r) r.ended r.stream) i) (items_found found)
     (with_chunk (Unread (kept_of s) s.ended s.stream) j)
-hears_read limit c d r s i j found h = record {
+hears_read limit c d r s i j found l h = record {
   bytes = unread r i;
   rest = unread s j;
   ended = is_ended r i;
@@ -64,6 +65,7 @@ hears_read limit c d r s i j found h = record {
       c = c;
       d = d;
       fin = h.reach == length (unread r i) && is_ended r i;
+      lives = l;
       within = h.within;
       reads = call_reads h.consumed h.reach (unread r i) (called_within limit c r.stream (take h.reach (unread r i))
           (h.reach == length (unread r i) && is_ended r i) (h.consumed, h.say, d, s.stream) h.gives)
@@ -79,33 +81,34 @@ hears_read limit c d r s i j found h = record {
 -- a stream is read, and nothing is said of items if its bytes are instructions for the own encoder
 reads_by_peer : (p : Peer) (b : Bool) (limit : ℕ) (c d : Shared) (r s : Reading) (i j : Chunk) (found told : Found)
     → p ≡ peer.Reads → (b ≡ false → told ≡ found) → (b ≡ true → items_found told ≡ [])
-    → Hears limit c r i found d s j
+    → c.over ≡ false → Hears limit c r i found d s j
     → IsRead (with_chunk (theirs_by p b r) i) (items_found told) (with_chunk (theirs_by p b s) j)
-reads_by_peer peer.Reads false limit c d r s i j found told g same none h = (
+reads_by_peer peer.Reads false limit c d r s i j found told g same none l h = (
   with_chunk (Unread (kept_of s) s.ended s.stream) j,
   inr (subst (λ f. AreRead (with_chunk (Unread (kept_of r) r.ended r.stream) i) (items_found f)
-      (with_chunk (Unread (kept_of s) s.ended s.stream) j)) (sym (same refl)) (hears_read limit c d r s i j found h)),
+      (with_chunk (Unread (kept_of s) s.ended s.stream) j)) (sym (same refl))
+      (hears_read limit c d r s i j found l h)),
   inl refl,
 )
-reads_by_peer peer.Reads true limit c d r s i j found told g same none h =
+reads_by_peer peer.Reads true limit c d r s i j found told g same none l h =
     (Gone, inl (refl, none refl), inl refl)
-reads_by_peer other b limit c d r s i j found told g same none h = absurd (cc g)
+reads_by_peer other b limit c d r s i j found told g same none l h = absurd (cc g)
 
 -- what an entry finds
 pub looked : (e f : Entry) (limit : ℕ) (c d : Shared) (i j : Chunk) (found told : Found)
     → e.peer ≡ peer.Reads → (e.is_decoder ≡ false → told ≡ found) → (e.is_decoder ≡ true → items_found told ≡ [])
-    → f.peer ≡ e.peer → f.is_decoder ≡ e.is_decoder → Hears limit c e.reading i found d f.reading j
+    → f.peer ≡ e.peer → f.is_decoder ≡ e.is_decoder → c.over ≡ false → Hears limit c e.reading i found d f.reading j
     → IsRead (with_chunk (theirs_of e) i) (items_found told) (with_chunk (theirs_of f) j)
-looked e f limit c d i j found told g same none p q h =
+looked e f limit c d i j found told g same none p q l h =
     subst (λ y. IsRead (with_chunk (theirs_of e) i) (items_found told) (with_chunk y j)) (sym (theirs_same e f p q))
-    (reads_by_peer e.peer e.is_decoder limit c d e.reading f.reading i j found told g same none h)
+    (reads_by_peer e.peer e.is_decoder limit c d e.reading f.reading i j found told g same none l h)
 
 pub looked_plain : (e f : Entry) (limit : ℕ) (c d : Shared) (i j : Chunk) (found : Found)
     → e.peer ≡ peer.Reads → e.is_decoder ≡ false
-    → f.peer ≡ e.peer → f.is_decoder ≡ e.is_decoder → Hears limit c e.reading i found d f.reading j
+    → f.peer ≡ e.peer → f.is_decoder ≡ e.is_decoder → c.over ≡ false → Hears limit c e.reading i found d f.reading j
     → IsRead (with_chunk (theirs_of e) i) (items_found found) (with_chunk (theirs_of f) j)
-looked_plain e f limit c d i j found g n p q h =
-    looked e f limit c d i j found found g (λ _. refl) (λ t. absurd (cc (sym n ∙ t))) p q h
+looked_plain e f limit c d i j found g n p q l h =
+    looked e f limit c d i j found found g (λ _. refl) (λ t. absurd (cc (sym n ∙ t))) p q l h
 
 pub not_looked : (e : Entry) (i : Chunk) → IsRead (with_chunk (theirs_of e) i) [] (with_chunk (theirs_of e) i)
 not_looked e i = read_left (with_chunk (theirs_of e) i) (with_chunk (theirs_of e) i) (inl refl)

@@ -91,17 +91,15 @@ pub requests : (c p q r m d : Connection) (id : ℕ) (How : Allows → Tools →
     → Of (stream_at q id) (IsRequest p.config (How (allowed p) p.tools q.tools))
     → view_of q ≡ record (view_of p) { streams = q.streams.entries }
     → r.streams ≡ q.streams → r.tools ≡ q.tools → r.encoder ≡ q.encoder
-    → Instructs SaysOrWaits r m → d ≡ record m { sessions = d.sessions }
+    → Instructs SaysOrWaits r m → d.streams ≡ m.streams → d.tools ≡ m.tools → d.encoder ≡ m.encoder
     → Of (stream_at d id) (λ e. Encodes (λ s t. IsRequest c.config (How (allowed c) s t) e) c d)
-requests c p q r m d id How s t h view kept tools coder i counted =
-    let one : stream_at d id ≡ stream_at m id = ap (λ x. stream_at x id) counted in
+requests c p q r m d id How s t h view kept tools coder i same last end =
+    let one : stream_at d id ≡ stream_at m id = ap (λ x. lookup (is_at (nat_cmp id)) x.entries) same in
     let two : stream_at m id ≡ stream_at r id = ap (λ v. lookup (is_at (nat_cmp id)) v.streams) i.others in
     let three : stream_at r id ≡ stream_at q id = ap (λ x. lookup (is_at (nat_cmp id)) x.entries) kept in
     let peer : allowed p ≡ allowed c = ap (λ v. allowed_by v.shared) s in
     let config : p.config ≡ c.config = ap (λ v. v.config) s in
-    let last : d.tools ≡ m.tools = ap (λ x. x.tools) counted in
     let encoder : r.encoder ≡ c.encoder = coder ∙ (ap (λ v. v.encoder) view ∙ ap (λ v. v.encoder) s) in
-    let end : d.encoder ≡ m.encoder = ap (λ x. x.encoder) counted in
     of_map (stream_at q id) (stream_at d id) _ _ (sym (one ∙ (two ∙ three)))
     (λ e at x. record {
       from = p.tools;

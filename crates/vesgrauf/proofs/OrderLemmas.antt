@@ -46,7 +46,7 @@ else_not : (s : Side) (c : Connection) (k : ℕ) → known_else s c k ≡ known.
 else_not Server c k h = begun_at c.shared.streams.endpoint.side c.shared.streams.begun k h
 else_not Client c k h = at_client _ h
 
-open_by : (b : Bool) (k : Known) → cond b (Err refused.Closed) (open_of k) ≡ Ok tt → k ≡ known.Open
+pub open_by : (b : Bool) (k : Known) → cond b (Err refused.Closed) (open_of k) ≡ Ok tt → k ≡ known.Open
 open_by true k h = absurd (let bad : Err refused.Closed ≡ Ok tt = h in cc)
 open_by false k h = open_is k h
 

@@ -32,6 +32,7 @@ use Rattle.vesgrauf.specs.State.{go_on, IsAfterEnd, IsStill}
 use Rattle.vesgrauf.specs.Items.{Item, Byte, content, has_end, items_found}
 use Rattle.vesgrauf.specs.Theirs.{Theirs, theirs_of, theirs_at, IsRead, IsHanded, ReadsOn, Hands, Tells, TellsAll, with_chunk, items_on}
 use Rattle.vesgrauf.proofs.ReadsLemmas.{reads_pass}
+use Rattle.vesgrauf.proofs.InstructionLemmas.{heard_piece_is, piece_lives}
 use Rattle.vesgrauf.proofs.LookLemmas.{looked_plain}
 use Rattle.vesgrauf.proofs.TellsLemmas.{taken_passes}
 use Rattle.vesgrauf.proofs.StepLemmas.{all_same}
@@ -56,7 +57,8 @@ pub looked_piece : (e f : Entry) (c d : Shared) (i j : Chunk) (b : Bytes)
 looked_piece e f c d i j b g n p q h =
     subst (λ l. IsRead (with_chunk (theirs_of e) i) l (with_chunk (theirs_of f) j))
     (piece_content e.reading.stream.part b)
-    (looked_plain e f 0 c d i j (found.Heard (heard_piece e.reading.stream.part b)) g n p q (h 0))
+    (looked_plain e f 0 c d i j (found.Heard (heard_piece e.reading.stream.part b)) g n p q
+    (piece_lives (h 0) (heard_piece_is e.reading.stream.part b)) (h 0))
 
 -- it is told, and nothing else is left of the input if all of its bytes were read
 itself_by : (b : Bool) (x : Theirs) (items : List Item) → has_end items ≡ false

@@ -337,6 +337,7 @@ call_more bytes more ended fin p s t h = record {
   c = h.c;
   d = h.d;
   fin = h.fin;
+  lives = h.lives;
   within = omega (arith, h.within, length-append bytes more);
   reads = h.reads;
   ends = λ e. or_true ended fin (h.ends e);

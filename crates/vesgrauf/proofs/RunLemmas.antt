@@ -2,7 +2,7 @@
 use Rattle.std.proofs.Common.{◌≡◌, ◌++◌, ◌||◌, ℕ, List, [], ◌∷◌, Bool, true, false, refl, inl, inr, sym, ap, ◌∙◌, append_assoc, append-nil, subst}
 use Rattle.wtp_webtransport.specs.declared.stream.Stream.{Stream}
 use Rattle.vesgrauf.specs.Items.{Item, has_end}
-use Rattle.vesgrauf.specs.Theirs.{Theirs, Gone, Unread, AreCalls, all_items, Turns, Still, IsTurned, IsLeft, AreRead, IsReadTo}
+use Rattle.vesgrauf.specs.Theirs.{Theirs, Gone, Unread, Piece, IsCall, AreCalls, all_items, Turns, Still, IsTurned, IsLeft, AreRead, IsReadTo}
 use Rattle.vesgrauf.specs.Runs.{Step, Comes, Tells, Rests, with_more, Does, Leads, came, ends, told, IsToldOf}
 use Rattle.vesgrauf.proofs.ReadsLemmas.{gone_left_by, gone_is_read, calls_turned, calls_join, calls_more, items_join}
 
@@ -150,3 +150,8 @@ end_is_last items steps x y z p e q = (gone_run steps y z (p.1 e) q).1
 pub run_tells : (steps : List Step) (s : Stream) (y : Theirs) → Leads steps (Unread [] false s) y
     → IsToldOf (came steps) (ends steps) s (told steps) y
 run_tells steps s y p = run_from steps [] false s (Unread [] false s) y refl p
+
+-- no call that reads is one after an error of the connection
+pub none_after_an_error : (bytes : List ℕ) (ended : Bool) (p : Piece) (s t : Stream) (k : IsCall bytes ended p s t)
+    → k.c.over ≡ true → ⊥
+none_after_an_error bytes ended p s t k h = absurd (let bad : false ≡ true = sym k.lives ∙ h in cc)

@@ -1,5 +1,5 @@
--- A call that gives a piece of content reads no section.
-use Rattle.std.proofs.Common.{◌≡◌, ℕ, refl, sym, ◌∙◌, cond, Bool, ◌||◌, ◌&&◌, not, true, false, List, Option, Some, None, Result, Ok, Err, length, nat_lt, ◌==◌, ◌-◌, ◌+◌}
+-- A call that gives a piece of content reads no section, and none is one after an error of the connection.
+use Rattle.std.proofs.Common.{◌≡◌, ℕ, refl, sym, ap, ◌∙◌, cond, Bool, ◌||◌, ◌&&◌, not, true, false, List, Option, Some, None, Result, Ok, Err, length, nat_lt, ◌==◌, ◌-◌, ◌+◌}
 use Rattle.std.specs.Prelude.{MatchResult}
 use Rattle.wtp_core.specs.Varint.{number_at}
 use Rattle.wtp_core.specs.declared.error.scope.ErrorScope.{ErrorScope}
@@ -54,7 +54,7 @@ use Rattle.wtp_webtransport.specs.Fault.{scope_of}
 use Rattle.wtp_webtransport.specs.Sessions.{allows_sessions, asks_session, asks_connect, asks_by}
 use Rattle.wtp_webtransport.specs.Streams.{with_streams, with_frames, spoiled_if, due_by}
 use Rattle.wtp_webtransport.specs.Receiving.{Outcome, closed_in, fails, goaway_in, in_stream, leaves, spoiled, found_opened, content_by, closed_if, complete, capsule_found, CapsulesGive, ContentBy, DataBy, ends_by, SessionEndGives, Between, Within, EndBy, too_large_by, interim_by, request_by, response_in, takes, taken_of, ResultGives, PrefixGives, span_in, SectionBy, told_more, FoundGives, UnreadBy, GoesOn, DueGives, StreamGives, ReceivesIf, noted, OverGives, TableGives}
-use Rattle.wtp_webtransport.specs.Tables.{without_read, with_decoder, instructed, CallBy, Call}
+use Rattle.wtp_webtransport.specs.Tables.{without_read, with_decoder, instructed, instructed_by, CallBy, Call}
 use Rattle.vesgrauf.specs.Instructions.{is_piece}
 
 -- a piece is given, and nothing is to be acknowledged
@@ -344,3 +344,21 @@ pub pieces_unread : (limit : ℕ) (c : Connection) (s : Stream) (bytes : List �
     → Call limit c s bytes fin o → is_piece o.1 ≡ true → o.2.read ≡ None
 pieces_unread limit c s bytes fin o g =
     call_by_plain (instructed c s bytes) limit (without_read c) s bytes fin o refl g
+
+-- ---- after an error
+
+silent_by : (b : Bool) (limit : ℕ) (c : Connection) (s : Stream) (bytes : List ℕ) (fin : Bool) (o : Outcome)
+    → b ≡ true → ReceivesIf b limit c s bytes fin o → o.1 ≡ told.More
+silent_by true limit c s bytes fin o h g = ap (λ (x : Outcome). x.1) g
+silent_by false limit c s bytes fin o h g = absurd (let bad : false ≡ true = h in cc)
+
+over_says : (b : Bool) (x : Option Decoder) (limit : ℕ) (c : Connection) (s : Stream) (bytes : List ℕ) (fin : Bool)
+    (o : Outcome) → c.over ≡ b → b ≡ true → CallBy (cond b None x) limit c s bytes fin o → o.1 ≡ told.More
+over_says true x limit c s bytes fin o h t g = silent_by c.over limit c s bytes fin o h g
+over_says false x limit c s bytes fin o h t g = absurd (let bad : false ≡ true = t in cc)
+
+-- a call after an error of the connection says nothing
+pub over_is_silent : (limit : ℕ) (c : Connection) (s : Stream) (bytes : List ℕ) (fin : Bool) (o : Outcome)
+    → Call limit c s bytes fin o → c.over ≡ true → o.1 ≡ told.More
+over_is_silent limit c s bytes fin o g h =
+    over_says c.over (instructed_by c.decoder s.frames bytes) limit (without_read c) s bytes fin o refl h g

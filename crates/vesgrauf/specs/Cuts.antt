@@ -9,10 +9,12 @@ use Rattle.vesgrauf.specs.declared.entry.Peer.{Peer}
 use Rattle.vesgrauf.specs.declared.entry.Peer.TheVariants as peer
 use Rattle.vesgrauf.specs.declared.output.Output.{Output}
 use Rattle.vesgrauf.specs.declared.output.Output.TheVariants as output
+use Rattle.vesgrauf.specs.Joined.{holds_in}
 use Rattle.vesgrauf.specs.Members.{DropsAt, is_member, session_in}
 use Rattle.vesgrauf.specs.Own.{Over, own_in, is_sent, entry_at}
+use Rattle.vesgrauf.specs.Streams.{is_told_over}
 use Rattle.vesgrauf.specs.Theirs.{Gone, theirs_in}
-use Rattle.vesgrauf.specs.Told.{AreOthers, is_told_over}
+use Rattle.vesgrauf.specs.Told.{AreOthers}
 
 -- nothing more is sent on a stream: it was reset, or QUIC took its end, or it has no own half
 pub data IsOwnOver : Option Entry → Type 0 where
@@ -50,13 +52,14 @@ pub data AreCut (session : ℕ) (es fs : List (ℕ × Entry)) : Type 0 where
 
 -- ---- steps about one stream
 
--- No other stream changes, nor of which session it is. If this one was over for the program, or nothing more was sent on it,
--- that stays so.
+-- No other stream changes, nor of which session it is. If this one was over for the program, or nothing more was sent on it, or
+-- no session counts whose own stream it is, that stays so.
 pub data AloneAt : (id : ℕ) (es : List (ℕ × Entry)) (ids : Ids) (fs : List (ℕ × Entry)) (jds : Ids) → Type 0 where
   IsAlone : {id : ℕ} {es : List (ℕ × Entry)} {ids : Ids} {fs : List (ℕ × Entry)} {jds : Ids}
       → (others : AreOthers id es fs) → (members : DropsAt id ids jds)
       → (told : is_over_in (entry_at es id) ≡ true → is_over_in (entry_at fs id) ≡ true)
       → (own : IsOwnOver (entry_at es id) → IsOwnOver (entry_at fs id))
+      → (holds : holds_in (entry_at es id) ≡ false → holds_in (entry_at fs id) ≡ false)
       → AloneAt id es ids fs jds
 
 abbrev pub Alone : ℕ → Connection → Connection → Type 0

@@ -161,11 +161,12 @@ is_found_piece (found.Heard (heard.Data piece)) = true
 is_found_piece (found.Heard (heard.StreamData piece)) = true
 is_found_piece other = false
 
--- What is next in the bytes of the stream with this ID is heard, and the section that was read with the table, if one was,
--- is acknowledged after these bytes.
+-- What is next in the bytes of the stream with this ID is heard, in a connection that no error has ended, and the section
+-- that was read with the table, if one was, is acknowledged after these bytes.
 pub record HearsAndSays (id limit : ℕ) (c : Shared) (r : Reading) (i : Chunk) (before : List ℕ) (found : Found)
     (e : Shared) (s : Reading) (j : Chunk) (after : List ℕ) : Type 0 where
   pub d : Shared
+  pub lives : c.over ≡ false
   pub hears : Hears limit c r i found d s j
   pub shared : e ≡ after_read d.decoder d.read id d
   pub bytes : after ≡ with_told before (due_read d.decoder d.read id)

@@ -11,6 +11,7 @@ pub mod Ids
 pub mod Inputs
 pub mod Instructions
 pub mod Items
+pub mod Joined
 pub mod Keeps
 pub mod Leaving
 pub mod Members

@@ -184,8 +184,13 @@ abbrev pub known_else : Side → Connection → ℕ → Known
 known_else Server c id = known_alone c.shared.streams id
 known_else Client c id = if id % 4 == 0 && was c.ids id then known.Over else known.Impossible
 
+-- one that was open is over once its streams were cut
+abbrev pub unless_over : (counts : Bool) → Known → Known
+unless_over false known.Open = known.Over
+unless_over counts other = other
+
 abbrev pub known_by : Option Entry → Connection → ℕ → Known
-known_by (Some e) c id = known_of c.shared e.reading.stream
+known_by (Some e) c id = unless_over e.has_session (known_of c.shared e.reading.stream)
 known_by None c id = known_else c.config.side c id
 
 abbrev pub known_in : Connection → ℕ → Known

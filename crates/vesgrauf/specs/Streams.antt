@@ -55,6 +55,11 @@ abbrev pub becomes_known : Told → Told
 becomes_known told.NotYet = told.Known
 becomes_known other = other
 
+-- it was told that it is over
+abbrev pub is_told_over : Told → Bool
+is_told_over told.Over = true
+is_told_over other = false
+
 -- its place in the order of sending
 abbrev pub kind_of_entry : Entry → Kind
 kind_of_entry e = order.Message e.priority

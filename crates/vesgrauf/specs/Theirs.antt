@@ -98,13 +98,14 @@ pub record Piece : Type 0 where
   pub consumed : ℕ
   pub say : Say
 
--- The layer below says so of the first of these bytes, from this state of the stream to that one. It is told of the end only if
--- the stream ends after them.
+-- The layer below says so of the first of these bytes, from this state of the stream to that one, in a connection that no error
+-- has ended: after an error it reads all bytes without a word. It is told of the end only if the stream ends after them.
 pub record IsCall (bytes : List ℕ) (ended : Bool) (p : Piece) (s t : Stream) : Type 0 where
   pub limit : ℕ
   pub c : Shared
   pub d : Shared
   pub fin : Bool
+  pub lives : c.over ≡ false
   pub within : p.reach ≤ length bytes
   pub reads : p.consumed ≤ p.reach
   pub ends : fin ≡ true → ended ≡ true

@@ -17,6 +17,7 @@ use Rattle.vesgrauf.specs.Ids.{own_bit, peer_bit, was}
 use Rattle.vesgrauf.specs.Members.{Linked}
 use Rattle.vesgrauf.specs.Own.{entry_at}
 use Rattle.vesgrauf.specs.State.{knows_of}
+use Rattle.vesgrauf.specs.Streams.{is_told_over}
 
 -- ---- one stream
 
@@ -52,10 +53,6 @@ on_by (Some w) false ws = ws
 abbrev pub on : ℕ → List Event → List Word
 on id [] = []
 on id (e ∷ es) = on_by (word_of e.kind) (e.stream == id) (on id es)
-
-abbrev pub is_told_over : Told → Bool
-is_told_over told.Over = true
-is_told_over other = false
 
 -- what the program knows of a stream after it was told this
 abbrev pub after : Word → Told → Told

@@ -1,4 +1,5 @@
 //! A whole connection.
+ghost use Rattle.vesgrauf.specs.Joined.{Joined, Joined-prop};
 ghost use Rattle.vesgrauf.specs.Places.{Ordered, Ordered-prop};
 
 mod beginning;
@@ -107,6 +108,7 @@ pub struct Connection {
     /// The code with which QUIC is to close the connection.
     closes: Option<u64>,
     ghost ordered: { Ordered streams.entries ready.ranks unplaced } by { Ordered-prop streams.entries ready.ranks unplaced },
+    ghost joined: { Joined streams.entries ids } by { Joined-prop streams.entries ids },
 }
 
 /// What is to be looked at in the next steps.
@@ -271,7 +273,7 @@ impl Connection {
     }
 
     // Returns a connection without streams, of which nothing is queued.
-    #[tactic(auto, using(crate::proofs::GoesSteps::sound_none, crate::proofs::PlaceLemmas::ordered_none))]
+    #[tactic(auto, using(crate::proofs::GoesSteps::sound_none, crate::proofs::PlaceLemmas::ordered_none, crate::proofs::JoinedLemmas::joined_none))]
     fn idle(alloc: Global, config: Config) -> Self
         ensures of_config { result.config ≡ config }
         ensures streams { result.streams.entries ≡ [] }

@@ -97,7 +97,8 @@ impl Entry {
     ghost use Rattle.std.specs.Prelude.{◌≡◌, ◌-◌, ◌&&◌, ◌↔◌, true, false, not, if◌then◌else◌, Some, IsTrue, IfOk, IfErr, OnOk, OnErr, length};
     ghost use Rattle.vesgrauf_stream.specs.Reading.{kept_of};
     ghost use Rattle.vesgrauf_stream.specs.Writing.{Sends};
-    ghost use Rattle.vesgrauf.specs.Own.{own_of, Took};
+    ghost use Rattle.vesgrauf.specs.Own.{Over, own_of, Took};
+    ghost use Rattle.vesgrauf.specs.Joined.{StaysOut};
     ghost use Rattle.vesgrauf.specs.Places.{has_more};
     ghost use Rattle.vesgrauf.specs.State.{OwnHalf, RefusesBytes, StaysOf};
     ghost use Rattle.vesgrauf_queue.specs.State.{IsIdle};
@@ -201,6 +202,20 @@ impl Entry {
         self.peer == Peer::Over && self.is_opened && self.writing.is_done()
     }
 
+    // Returns whether the own half was reset, or there is none.
+    #[tactic(auto, using(crate::proofs::LostLemmas::out_none, crate::proofs::LostLemmas::out_reset))]
+    pub(crate) fn is_out(&self) -> bool
+        ensures { result ≡ true → own_of self.now.writing ≡ Over }
+    {
+        if self.writing.is_none() {
+            return true;
+        }
+        if !self.writing.is_ended() {
+            return false;
+        }
+        !self.writing.is_finished()
+    }
+
     // Returns whether the peer's half is read.
     pub(crate) fn is_read(&self) -> bool
         ensures reads { result ≡ true → self.now.peer ≡ peer.Reads }
@@ -266,11 +281,12 @@ impl Entry {
     }
 
     // QUIC took the first `len` bytes that wait.
-    #[tactic(auto, using(crate::proofs::PlaceLemmas::more_put))]
+    #[tactic(auto, using(crate::proofs::PlaceLemmas::more_put, crate::proofs::JoinedLemmas::out_put))]
     pub(crate) fn sent(&mut self, spares: &mut Spares, len: usize) -> Result<(), NotShown>
         ensures took { OnOk result (Took len (own_of self.old.writing) (own_of self.new.writing)) }
         ensures kept { OnErr result (self.new ≡ self.old) }
         ensures more { has_more self.new.writing.queue ≡ true → has_more self.old.writing.queue ≡ true }
+        ensures out { StaysOut self.old.writing self.new.writing }
         ensures others { self.new ≡ record self.old { writing = self.new.writing } }
     {
         self.writing.sent(spares, len)

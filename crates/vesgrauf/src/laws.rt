@@ -1,6 +1,8 @@
 //! Laws of a connection, of its runs or of the steps that its calls take. Each function does nothing: its contract is the
 //! law.
-ghost use Rattle.std.specs.Prelude.{◌≡◌, ◌++◌, ◌<◌, min, ℕ, Bool, List, [], ◌∷◌, Some, None, true, false};
+ghost use Rattle.std.specs.Prelude.{◌≡◌, ◌++◌, ◌<◌, min, ℕ, Bool, List, [], ◌∷◌, Some, None, Ok, true, false};
+ghost use Rattle.vesgrauf_queue.specs.declared.ending.Ending.TheVariants as ending;
+ghost use Rattle.vesgrauf_stream.specs.Writing.{is_none};
 ghost use Rattle.wtp_qpack.specs.Field.{Field};
 ghost use Rattle.wtp_webtransport.specs.Events as say;
 ghost use Rattle.wtp_webtransport.specs.declared.stream.Stream.{Stream};
@@ -8,7 +10,7 @@ ghost use Rattle.wtp_webtransport.specs.declared.event.HeadersKind.TheVariants a
 ghost use Rattle.vesgrauf.specs.declared.event.EventKind.TheVariants as event;
 ghost use Rattle.vesgrauf.specs.declared.event.Tunnel.TheVariants as tunnel;
 ghost use Rattle.vesgrauf.specs.Items.{Item, content, has_end, items_of, items_told};
-ghost use Rattle.vesgrauf.specs.Theirs.{Theirs, Unread};
+ghost use Rattle.vesgrauf.specs.Theirs.{Theirs, Unread, Piece, IsCall};
 ghost use Rattle.vesgrauf.specs.Runs.{Step, Tells, Does, Leads, IsToldOf, came, ends, told};
 ghost use Rattle.vesgrauf.specs.declared.connection.Connection.{Connection};
 ghost use Rattle.vesgrauf.specs.declared.entry.Told.TheVariants as entry;
@@ -25,8 +27,10 @@ ghost use Rattle.wtp_dynamic_decoder.specs.Decoder.{Decoder};
 ghost use Rattle.wtp_webtransport.specs.Unacknowledged.{just_read};
 ghost use Rattle.vesgrauf.specs.Calls.{Call, Run, told_in_all, opened_in, EndsOnce, says, closes};
 ghost use Rattle.vesgrauf.specs.Cuts.{IsCut, is_read_out};
+ghost use Rattle.vesgrauf.specs.Joined.{AreSevered, holds_in, is_severed};
 ghost use Rattle.vesgrauf.specs.Members.{Linked};
 ghost use Rattle.vesgrauf.specs.Own.{End, Sends, entry_at, is_sent, own_in};
+ghost use Rattle.vesgrauf.specs.State.{open_session};
 ghost use Rattle.vesgrauf.specs.Theirs.{theirs_in};
 ghost use Rattle.vesgrauf.specs.declared.entry.Entry.{Entry as EntryOf};
 
@@ -34,8 +38,8 @@ ghost use Rattle.vesgrauf.specs.declared.entry.Entry.{Entry as EntryOf};
 /// their order, is what calls of the layer below say of the bytes that came on it, each of those that the one before left:
 /// none is read twice, however the bytes were cut, kept, paused and resumed. Each call goes on in the state in which the one
 /// before left the stream, but for an answer to its request, a session that it joins, and the like (`Moves`); with what its
-/// streams have in common a call may be made in any state, also in one in which it says nothing. What the layer says of the
-/// bytes that are left is still to be told, unless the stream is read no further.
+/// streams have in common a call may be made in any state, but not in one that an error of the connection left, in which it
+/// says nothing. What the layer says of the bytes that are left is still to be told, unless the stream is read no further.
 pub fn told_is_what_came()
     ensures { (steps : List Step) (s : Stream) (y : Theirs) → Leads steps (Unread [] false s) y
         → IsToldOf (came steps) (ends steps) s (told steps) y }
@@ -48,8 +52,9 @@ pub fn the_end_is_last()
 {}
 
 /// The definitions of what is told refuse an interim response as the final one, trailers as a head, a request for a session
-/// as another one or as one for another tunnel, an end or content for what says nothing, and a piece of content that is said and left out.
-/// Content in pieces is what they are together.
+/// as another one or as one for another tunnel, an end or content for what says nothing, a piece of content that is said and
+/// left out, and a call after an error of the connection, which would read all bytes without a word. Content in pieces is
+/// what they are together.
 pub fn wrong_tellings_are_refused()
     ensures interim_as_final { (status : ℕ) (fields : List Field)
         → items_told (event.Response status fields) ≡ items_of (say.Headers (headers.Interim status) fields) → ⊥ }
@@ -62,6 +67,8 @@ pub fn wrong_tellings_are_refused()
     ensures end_made_up { items_told event.End ≡ items_of say.More → ⊥ }
     ensures content_made_up { (b : ℕ) (bytes : List ℕ) → content (b ∷ bytes) ≡ items_of say.More → ⊥ }
     ensures content_left_out { (b : ℕ) (bytes : List ℕ) → [] ≡ items_of (say.Data (b ∷ bytes)) → ⊥ }
+    ensures after_an_error { (bytes : List ℕ) (ended : Bool) (p : Piece) (s t : Stream) (k : IsCall bytes ended p s t)
+        → k.c.over ≡ true → ⊥ }
     ensures accepted { (status : ℕ) (fields : List Field)
         → items_told (event.Response status fields) ≡ items_of (say.SessionReady status fields) }
     ensures pieces { (first rest : List ℕ) → content (first ++ rest) ≡ content first ++ content rest }
@@ -103,8 +110,7 @@ pub fn wrong_endings_are_refused()
     ensures failure { Path entry.NotYet (Fails ∷ []) entry.NotYet }
 {}
 
-/// In each run from the beginning what `close_session` takes for granted is so: each stream of a session is noted as one of
-/// it, and so is cut where `close_session` ends the session (draft-ietf-webtrans-http3-02, section 5).
+/// In each run from the beginning each stream of a session is noted as one of it.
 pub fn streams_of_sessions_are_noted()
     ensures sound { (calls : List Call) (d : Connection) → Run calls d → Sound d.streams.entries d.ids }
     ensures noted { (calls : List Call) (d : Connection) → Run calls d → Linked d.streams.entries d.ids }
@@ -132,6 +138,28 @@ pub fn wrong_cuts_are_refused()
     ensures reads { (e : EntryOf) (bytes : List ℕ) (ended : Bool) (at : Stream) → theirs_in (Some e) ≡ Unread bytes ended at
         → is_read_out (Some e) ≡ false → IsCut (Some e) → ⊥ }
     ensures forgotten { IsCut None }
+{}
+
+/// Of each connection, before and after each call: each stream of a session that is over is severed, but for the session's own
+/// stream (draft-ietf-webtrans-http3-02, section 5). A session that is open is not over.
+pub fn streams_of_ended_sessions_are_severed()
+    ensures severed { (c : Connection) (session : ℕ) → holds_in (entry_at c.streams.entries session) ≡ false
+        → AreSevered session c.streams.entries }
+    ensures open { (c : Connection) (session : ℕ) → open_session c session ≡ Ok tt
+        → holds_in (entry_at c.streams.entries session) ≡ true }
+{}
+
+/// The definition of a stream that is severed refuses one on which more may be sent, or the end is to be; and, unless its end
+/// came, one that the program knows of and one that is read. It allows one that is forgotten.
+pub fn wrong_severances_are_refused()
+    ensures open { (e : EntryOf) → is_none e.writing.half ≡ false → e.writing.queue.ending ≡ ending.Open
+        → is_severed (Some e) ≡ true → ⊥ }
+    ensures finishing { (e : EntryOf) → is_none e.writing.half ≡ false → e.writing.queue.ending ≡ ending.Finishing
+        → is_severed (Some e) ≡ true → ⊥ }
+    ensures known { (e : EntryOf) → e.told ≡ entry.Known → e.is_ended ≡ false → is_severed (Some e) ≡ true → ⊥ }
+    ensures reads { (e : EntryOf) (bytes : List ℕ) (ended : Bool) (at : Stream) → theirs_in (Some e) ≡ Unread bytes ended at
+        → e.is_ended ≡ false → is_severed (Some e) ≡ true → ⊥ }
+    ensures forgotten { is_severed None ≡ true }
 {}
 
 /// Over calls of `next_event` that do not end the connection: of a stream that the program knew of before, no own half is

@@ -88,7 +88,8 @@ pub enum Shutdown {
     Final,
 }
 
-/// How much there is of what is bounded.
+/// How many streams there are, but for the own critical ones; sessions, also those that may come to be; credited bytes
+/// that are kept until they can be read; and datagrams that are queued to be sent.
 #[derive(Clone, Copy, Debug, PartialEq, Eq)]
 pub struct Stats {
     /// How many streams there are, but for the own critical ones: the peer's are three where it uses a dynamic table.

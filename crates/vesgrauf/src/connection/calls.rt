@@ -210,7 +210,7 @@ impl Connection {
     /// # Errors
     ///
     /// Nothing changes. `Closed`; `NoStream`; and `Memory`.
-    #[tactic(auto, using(crate::proofs::KeepsLemmas::kept, std::proofs::lemmas::Map::Steps::set_value_same, crate::proofs::GoesLemmas::goes_set, crate::proofs::PlaceLemmas::ordered))]
+    #[tactic(auto, using(crate::proofs::KeepsLemmas::kept, std::proofs::lemmas::Map::Steps::set_value_same, crate::proofs::GoesLemmas::goes_set, crate::proofs::PlaceLemmas::ordered, crate::proofs::JoinedLemmas::joined))]
     pub fn pause(&mut self, id: u64, paused: bool) -> Result<(), Refused>
         ensures ok { OnOk result (Pauses id paused self.old self.new) }
         ensures looks { OnOk result (paused ≡ false → LooksAt id self.new) }
@@ -284,7 +284,7 @@ impl Connection {
     /// # Errors
     ///
     /// `NoStream`.
-    #[tactic(auto, using(crate::proofs::KeepsLemmas::kept, std::proofs::lemmas::Map::Steps::set_value_same, crate::proofs::GoesLemmas::goes_set, crate::proofs::PlaceLemmas::ordered))]
+    #[tactic(auto, using(crate::proofs::KeepsLemmas::kept, std::proofs::lemmas::Map::Steps::set_value_same, crate::proofs::GoesLemmas::goes_set, crate::proofs::PlaceLemmas::ordered, crate::proofs::JoinedLemmas::joined))]
     pub fn set_user(&mut self, id: u64, user: u64) -> Result<(), Refused>
         ensures ok { OnOk result (Becomes id (λ e. record e { user = Some user }) self.old self.new) }
         ensures err { IfErr result (λ e. (e ≡ refused.NoStream) × (named_at self.old id ≡ None)) }

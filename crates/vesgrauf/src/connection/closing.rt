@@ -1,11 +1,12 @@
 //! Streams that are closed.
-ghost use Rattle.std.specs.Prelude.{◌≡◌, [], true, false, not, OnOk};
+ghost use Rattle.std.specs.Prelude.{◌≡◌, ◌⊎◌, [], true, false, not, None, OnOk};
 ghost use Rattle.vesgrauf.specs.Cuts.{Alone, AreCut, Asks, IsOwnOver, is_over_in, is_read_out};
+ghost use Rattle.vesgrauf.specs.Joined.{AreSevered};
 ghost use Rattle.vesgrauf.specs.Members.{DropsAt};
 ghost use Rattle.vesgrauf.specs.Own.{Over, EndsOwn, entry_at, is_sent, own_at};
 ghost use Rattle.vesgrauf.specs.Keeps.{Keeps, KeepsBut};
 ghost use Rattle.vesgrauf.specs.State.{stream_at, knows_of};
-ghost use Rattle.vesgrauf.specs.Told.{Sound, ended_at};
+ghost use Rattle.vesgrauf.specs.Told.{ended_at};
 ghost use Rattle.vesgrauf.specs.Theirs.{Gone, theirs_at};
 
 use crate::code::StreamCode;
@@ -29,8 +30,7 @@ impl Connection {
     #[tactic(auto, using(crate::proofs::KeepsLemmas::keep, crate::proofs::KeepsLemmas::keeps_gone))]
     pub(super) fn shut(&mut self, id: u64, code: Code, why: Why) -> Result<(), AllocError>
         ensures keeps { Keeps [] self.old self.new }
-        ensures cut { Sound self.old.streams.entries self.old.ids
-            → OnOk result (AreCut id self.old.streams.entries self.new.streams.entries) }
+        ensures cut { OnOk result (AreCut id self.old.streams.entries self.new.streams.entries) }
         ensures gone { OnOk result (theirs_at self.new.streams.entries id ≡ Gone) }
     {
         self.end_session(id)?;
@@ -83,7 +83,7 @@ impl Connection {
         ensures alone { Alone id self.old self.new }
     {
         self.cancel_left(id);
-        self.remove_if_done(id)
+        self.forget_if_done(id)
     }
 
     // Resets the own half.
@@ -143,7 +143,7 @@ impl Connection {
     }
 
     // Resets the own half, if it may be.
-    #[tactic(auto, using(crate::proofs::KeepsLemmas::keep, crate::proofs::KeepsLemmas::keeps_but_set, crate::proofs::CutLemmas::alone, crate::proofs::CutLemmas::alone_over, crate::proofs::CutLemmas::asks, crate::proofs::CutLemmas::asks_reset, crate::proofs::OwnLemmas::own_set, std::proofs::lemmas::Map::Steps::set_value_same, crate::proofs::PlaceLemmas::ordered, crate::proofs::PlaceLemmas::ordered_over, crate::proofs::PlaceLemmas::reset_quiet))]
+    #[tactic(auto, using(crate::proofs::KeepsLemmas::keep, crate::proofs::KeepsLemmas::keeps_but_set, crate::proofs::CutLemmas::alone, crate::proofs::CutLemmas::alone_over, crate::proofs::CutLemmas::asks, crate::proofs::CutLemmas::asks_reset, crate::proofs::OwnLemmas::own_set, std::proofs::lemmas::Map::Steps::set_value_same, crate::proofs::PlaceLemmas::ordered, crate::proofs::JoinedLemmas::joined, crate::proofs::PlaceLemmas::ordered_over, crate::proofs::PlaceLemmas::reset_quiet, crate::proofs::JoinedLemmas::stays_half, crate::proofs::JoinedLemmas::out_reset))]
     fn reset_writing(&mut self, id: u64, code: u64) -> Result<(), AllocError>
         ensures keeps { KeepsBut id self.old self.new }
         ensures alone { Alone id self.old self.new }
@@ -165,7 +165,7 @@ impl Connection {
     }
 
     // Nothing more is sent on the own half of a stream. A request on it is refused.
-    #[tactic(auto, using(crate::proofs::KeepsLemmas::keep, crate::proofs::CutLemmas::alone, crate::proofs::CutLemmas::read_set, crate::proofs::KeepsLemmas::keeps_turned, crate::proofs::PlaceLemmas::ordered))]
+    #[tactic(auto, using(crate::proofs::KeepsLemmas::keep, crate::proofs::CutLemmas::alone, crate::proofs::CutLemmas::read_set, crate::proofs::KeepsLemmas::keeps_turned, crate::proofs::PlaceLemmas::ordered, crate::proofs::JoinedLemmas::joined))]
     pub(super) fn leave_order(&mut self, id: u64)
         ensures keeps { Keeps [] self.old self.new }
         ensures alone { Alone id self.old self.new }
@@ -225,7 +225,7 @@ impl Connection {
     }
 
     // Resets the own half, and tells the program so, if it knows of the stream.
-    #[tactic(auto, using(crate::proofs::KeepsLemmas::keep, crate::proofs::KeepsLemmas::keeps_stopped, crate::proofs::CutLemmas::alone, crate::proofs::CutLemmas::alone_over, crate::proofs::CutLemmas::asks, crate::proofs::CutLemmas::asks_reset, crate::proofs::CutLemmas::asks_popped, crate::proofs::CutLemmas::read_set, crate::proofs::OwnLemmas::own_set, crate::proofs::PlaceLemmas::ordered, crate::proofs::PlaceLemmas::ordered_over, crate::proofs::PlaceLemmas::reset_quiet))]
+    #[tactic(auto, using(crate::proofs::KeepsLemmas::keep, crate::proofs::KeepsLemmas::keeps_stopped, crate::proofs::CutLemmas::alone, crate::proofs::CutLemmas::alone_over, crate::proofs::CutLemmas::asks, crate::proofs::CutLemmas::asks_reset, crate::proofs::CutLemmas::asks_popped, crate::proofs::CutLemmas::read_set, crate::proofs::OwnLemmas::own_set, crate::proofs::PlaceLemmas::ordered, crate::proofs::JoinedLemmas::joined, crate::proofs::PlaceLemmas::ordered_over, crate::proofs::PlaceLemmas::reset_quiet, crate::proofs::JoinedLemmas::stays_half, crate::proofs::JoinedLemmas::out_reset))]
     pub(super) fn tell_stopped(
         &mut self,
         id: u64,
@@ -270,39 +270,107 @@ impl Connection {
 
     // QUIC has closed a stream: what is kept of the own half is freed. If its end was not taken, nor its reset, what waits is
     // lost: the program is told so, if it knows of the stream. Returns whether it was lost.
-    #[tactic(auto, using(crate::proofs::KeepsLemmas::keep, crate::proofs::KeepsLemmas::keeps_stopped, crate::proofs::PlaceLemmas::ordered, crate::proofs::PlaceLemmas::ordered_step, crate::proofs::PlaceLemmas::ordered_over, crate::proofs::PlaceLemmas::more_new, crate::proofs::PlaceLemmas::more_acked))]
     pub(super) fn lose_half(&mut self, id: u64) -> Result<bool, AllocError>
         ensures keeps { Keeps [] self.old self.new }
     {
+        if self.is_own_taken(id) {
+            self.free_half(id);
+            return Ok(false);
+        }
+        self.lose_waiting(id)
+    }
+
+    // Returns whether QUIC took the end of the own half of a stream.
+    fn is_own_taken(&self, id: u64) -> bool {
+        match self.streams.get(&id) {
+            Some(entry) => entry.writing.is_finished() && !entry.has_more(),
+            None => false,
+        }
+    }
+
+    // Frees what is kept of the own half of a stream that QUIC has closed.
+    #[tactic(auto, using(crate::proofs::KeepsLemmas::keep, crate::proofs::PlaceLemmas::ordered, crate::proofs::PlaceLemmas::ordered_step, crate::proofs::PlaceLemmas::more_acked))]
+    fn free_half(&mut self, id: u64)
+        ensures keeps { Keeps [] self.old self.new }
+    {
         let Some(entry) = self.streams.get_mut(&id) else {
-            return Ok(false);
+            return;
         };
-        if entry.writing.is_finished() && !entry.has_more() {
-            entry.is_closed = true;
-            entry.writing.acked_all(&mut self.tools.spares);
+        entry.is_closed = true;
+        entry.writing.acked_all(&mut self.tools.spares);
+    }
+
+    // Frees the own half of a stream that QUIC has closed, of which QUIC did not take the end. Returns whether it was lost.
+    fn lose_waiting(&mut self, id: u64) -> Result<bool, AllocError>
+        ensures keeps { Keeps [] self.old self.new }
+    {
+        if self.is_own_out(id) {
+            self.drop_own(id, false);
             return Ok(false);
         }
-        let was_reset = entry.writing.is_ended() && !entry.writing.is_finished();
-        let is_lost = !was_reset && !entry.writing.is_none();
-        if is_lost && entry.is_known() {
-            self.events.push_back(Event {
-                stream: id,
-                session: entry.session_shown(id),
-                user: entry.user,
-                kind: EventKind::Stopped(StreamCode::Http(Code::H3_REQUEST_CANCELLED)),
-            })?;
+        if !self.knows(id) {
+            self.drop_own(id, true);
+            return Ok(true);
         }
+        self.lose_told(id)?;
+        Ok(true)
+    }
+
+    // Returns whether the own half of a stream was reset, or there is none.
+    #[tactic(auto, using(crate::proofs::LostLemmas::own_out))]
+    fn is_own_out(&self, id: u64) -> bool
+        ensures { result ≡ true → own_at self.now.streams.entries id ≡ Over }
+    {
+        match self.streams.get(&id) {
+            Some(entry) => entry.is_out(),
+            None => true,
+        }
+    }
+
+    // There is no own half of a stream any more.
+    #[tactic(auto, using(crate::proofs::KeepsLemmas::keep, crate::proofs::PlaceLemmas::ordered_over, crate::proofs::PlaceLemmas::more_new))]
+    fn drop_own(&mut self, id: u64, is_lost: bool)
+        ensures keeps { (own_at self.old.streams.entries id ≡ Over) ⊎ (knows_of (stream_at self.old id) ≡ false)
+            → Keeps [] self.old self.new }
+    {
+        let Some(entry) = self.streams.get_mut(&id) else {
+            return;
+        };
         entry.is_closed = true;
         entry.is_reset = entry.is_reset | is_lost;
         entry.writing = Writing::none(self.alloc, self.config.queue());
         self.ready.remove(id, entry.kind());
         self.full.remove(&id);
-        Ok(is_lost)
+    }
+
+    // The own half of a stream that the program knows of is lost: the program is told so.
+    #[tactic(auto, using(crate::proofs::KeepsLemmas::keep, crate::proofs::KeepsLemmas::keeps_stopped, crate::proofs::PlaceLemmas::ordered_over, crate::proofs::PlaceLemmas::more_new))]
+    fn lose_told(&mut self, id: u64) -> Result<(), AllocError>
+        ensures keeps { Keeps [] self.old self.new }
+    {
+        let Some(lost) = self.streams.get_mut(&id) else {
+            return Ok(());
+        };
+        if !lost.is_known() {
+            return Ok(());
+        }
+        self.events.push_back(Event {
+            stream: id,
+            session: lost.session_shown(id),
+            user: lost.user,
+            kind: EventKind::Stopped(StreamCode::Http(Code::H3_REQUEST_CANCELLED)),
+        })?;
+        lost.is_closed = true;
+        lost.is_reset = true;
+        lost.writing = Writing::none(self.alloc, self.config.queue());
+        self.ready.remove(id, lost.kind());
+        self.full.remove(&id);
+        Ok(())
     }
 
     // Ends the own half of a CONNECT after what is queued, if the message may end there. Without memory it has its place in the
     // order of sending from the next step on.
-    #[tactic(auto, using(crate::proofs::KeepsLemmas::keep, crate::proofs::KeepsLemmas::keeps_tried, crate::proofs::PlaceLemmas::ordered, crate::proofs::PlaceLemmas::ordered_kept))]
+    #[tactic(auto, using(crate::proofs::KeepsLemmas::keep, crate::proofs::KeepsLemmas::keeps_tried, crate::proofs::PlaceLemmas::ordered, crate::proofs::JoinedLemmas::joined, crate::proofs::PlaceLemmas::ordered_kept, crate::proofs::JoinedLemmas::stays_half, crate::proofs::JoinedLemmas::out_finished))]
     pub(super) fn end_own(&mut self, id: u64)
         ensures keeps { Keeps [] self.old self.new }
     {
@@ -327,7 +395,7 @@ impl Connection {
 
     // Ends the own half of a CONNECT on which nothing waits, and which has its place in the order of sending later. (A step
     // first gives its place to the one before it.)
-    #[tactic(auto, using(crate::proofs::KeepsLemmas::keep, crate::proofs::KeepsLemmas::keeps_tried, crate::proofs::PlaceLemmas::ordered, crate::proofs::PlaceLemmas::ordered_later))]
+    #[tactic(auto, using(crate::proofs::KeepsLemmas::keep, crate::proofs::KeepsLemmas::keeps_tried, crate::proofs::PlaceLemmas::ordered, crate::proofs::JoinedLemmas::joined, crate::proofs::PlaceLemmas::ordered_later, crate::proofs::JoinedLemmas::stays_half, crate::proofs::JoinedLemmas::out_finished))]
     fn end_later(&mut self, id: u64)
         ensures keeps { Keeps [] self.old self.new }
     {
@@ -343,18 +411,26 @@ impl Connection {
     }
 
     // Gives a stream its place in the order of sending for which memory was refused.
-    #[tactic(auto, using(crate::proofs::KeepsLemmas::keep, crate::proofs::PlaceLemmas::ordered, crate::proofs::PlaceLemmas::ordered_now, crate::proofs::PlaceLemmas::ordered_gone_now, crate::proofs::PlaceLemmas::ordered_off_now))]
+    #[tactic(auto, using(crate::proofs::KeepsLemmas::keep, crate::proofs::PlaceLemmas::ordered, crate::proofs::JoinedLemmas::joined, crate::proofs::PlaceLemmas::ordered_now, crate::proofs::PlaceLemmas::ordered_gone_now, crate::proofs::PlaceLemmas::ordered_off_now))]
     pub(super) fn place_due(&mut self) -> Result<(), AllocError>
         ensures keeps { Keeps [] self.old self.new }
     {
         let Some(id) = self.unplaced else {
             return Ok(());
         };
-        if let Some(entry) = self.streams.get(&id) {
-            if entry.may_send() && entry.has_more() {
-                self.unplaced = give_place(&mut self.ready, self.unplaced, id, entry)?;
-            }
+        let Some(entry) = self.streams.get(&id) else {
+            self.unplaced = None;
+            return Ok(());
+        };
+        if !entry.may_send() {
+            self.unplaced = None;
+            return Ok(());
         }
+        if !entry.has_more() {
+            self.unplaced = None;
+            return Ok(());
+        }
+        let _none = give_place(&mut self.ready, self.unplaced, id, entry)?;
         self.unplaced = None;
         Ok(())
     }
@@ -387,7 +463,7 @@ impl Connection {
     }
 
     // The last event of a stream is told, or queued.
-    #[tactic(auto, using(crate::proofs::KeepsLemmas::keep, crate::proofs::PlaceLemmas::ordered))]
+    #[tactic(auto, using(crate::proofs::KeepsLemmas::keep, crate::proofs::PlaceLemmas::ordered, crate::proofs::JoinedLemmas::joined, crate::proofs::JoinedLemmas::stays_over))]
     pub(super) fn end_told(&mut self, id: u64)
         ensures ends { self.new.streams.entries ≡ ended_at self.old.streams.entries id }
         ensures ids { self.new.ids ≡ self.old.ids }
@@ -425,9 +501,9 @@ impl Connection {
         self.is_server() && refuses && is_sent && entry.peer == Peer::Reads
     }
 
-    // Forgets a stream of which both halves are over.
-    #[tactic(auto, using(crate::proofs::KeepsLemmas::keep, crate::proofs::CutLemmas::alone))]
-    pub(super) fn remove_if_done(&mut self, id: u64) -> Result<(), AllocError>
+    // Forgets a stream of which both halves are over, unless it is the own stream of a session that has streams.
+    #[tactic(auto, using(crate::proofs::KeepsLemmas::keep, crate::proofs::CutLemmas::alone, crate::proofs::CutLemmas::severed_alone))]
+    pub(super) fn forget_if_done(&mut self, id: u64) -> Result<(), AllocError>
         ensures keeps { Keeps [] self.old self.new }
         ensures alone { Alone id self.old self.new }
         ensures outputs { self.new.outputs ≡ self.old.outputs }
@@ -437,6 +513,9 @@ impl Connection {
             return Ok(());
         };
         if !entry.is_done() {
+            return Ok(());
+        }
+        if !self.has_no_streams(id) {
             return Ok(());
         }
         let why = if entry.is_rejected {
@@ -451,9 +530,10 @@ impl Connection {
         Ok(())
     }
 
-    // Forgets a stream.
-    #[tactic(auto, using(crate::proofs::KeepsLemmas::keep, crate::proofs::CutLemmas::alone, crate::proofs::CutLemmas::alone_removed, crate::proofs::PlaceLemmas::ordered_removed))]
+    // Forgets a stream, which is no own stream of a session that has streams.
+    #[tactic(auto, using(crate::proofs::KeepsLemmas::keep, crate::proofs::CutLemmas::alone, crate::proofs::CutLemmas::alone_removed, crate::proofs::PlaceLemmas::ordered_removed, crate::proofs::JoinedLemmas::joined_removed))]
     pub(super) fn remove(&mut self, id: u64)
+        requires { AreSevered id self.old.streams.entries }
         ensures keeps { knows_of (stream_at self.old id) ≡ false → Keeps [] self.old self.new }
         ensures alone { Alone id self.old self.new }
         ensures outputs { self.new.outputs ≡ self.old.outputs }
@@ -467,8 +547,9 @@ impl Connection {
     }
 
     // Forgets what is noted of a stream that was removed.
-    #[tactic(auto, using(crate::proofs::MemberLemmas::drops_refl, crate::proofs::MemberLemmas::drops_at))]
+    #[tactic(auto, using(crate::proofs::MemberLemmas::drops_refl, crate::proofs::MemberLemmas::drops_at, crate::proofs::JoinedLemmas::joined_dropped))]
     fn forget(&mut self, id: u64, entry: &Entry)
+        requires { stream_at self.old id ≡ None }
         ensures streams { self.new.streams ≡ self.old.streams }
         ensures ids { DropsAt id self.old.ids self.new.ids }
         ensures events { self.new.events ≡ self.old.events }
@@ -483,10 +564,11 @@ impl Connection {
         if entry.has_session {
             self.sessions = self.sessions.saturating_sub(1);
         }
-        if let Some(session) = entry.session {
-            self.ids.forget(session, id);
-        }
         self.waiting.remove(&id);
         self.full.remove(&id);
+        let Some(session) = entry.session else {
+            return;
+        };
+        self.ids.forget(session, id);
     }
 }

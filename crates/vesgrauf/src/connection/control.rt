@@ -1,5 +1,6 @@
 //! The own control stream, and the end of the connection.
 ghost use Rattle.std.specs.Prelude.{◌≡◌, ◌++◌, false, Some, length, option_map, IfOk, OnOk, OnErr, IfErr, []};
+ghost use Rattle.vesgrauf.specs.Halves.{LastsOn};
 ghost use Rattle.vesgrauf.specs.Keeps.{Keeps};
 ghost use Rattle.vesgrauf.specs.State.{is_over, next_output, stream_at, view_of, with_begun, EndsUnless, IsAfterEnd, IsStill};
 ghost use Rattle.vesgrauf.specs.Leaving.{ShutsDown, RefusesGoaway, not_above, goaway_for as goaway_is};
@@ -103,13 +104,14 @@ impl Connection {
     ///
     /// Nothing changes. `Closed`; `Send` for [`Notice`](crate::output::Shutdown::Notice) after the last one; and `Memory`.
     /// The last one may be repeated: GOAWAY is sent again.
-    #[tactic(auto, using(crate::proofs::KeepsLemmas::kept))]
+    #[tactic(auto, using(crate::proofs::KeepsLemmas::kept, crate::proofs::LastsLemmas::lasts_refl))]
     pub fn shutdown(&mut self, phase: Shutdown) -> Result<(), Refused>
         ensures ok { OnOk result (ShutsDown phase self.old self.new) }
         ensures why { IfErr result (λ e.
             RefusesGoaway (is_over self.old) self.old.goaways (goaway_is phase self.old) e) }
         ensures kept { OnErr result (IsStill self.old self.new) }
         ensures goes { GoesOn [] self.old self.new }
+        ensures lasts { LastsOn [] self.old self.new }
     {
         if self.ended.is_some() {
             return Err(Refused::Closed);
@@ -170,7 +172,7 @@ impl Connection {
         self.break_off(code.number().into_inner());
     }
 
-    /// Returns how much there is of what is bounded.
+    /// Returns how many streams and sessions there are, how many bytes are kept, and how many datagrams are queued.
     pub fn stats(&self) -> Stats
         ensures streams { result.streams ≡ length self.now.streams.entries }
         ensures sessions { result.sessions ≡ self.now.sessions }

@@ -1,10 +1,10 @@
 //! Sessions that end, and their streams.
 ghost use Rattle.std.specs.Prelude.{◌≡◌, false, true, OnOk, []};
 ghost use Rattle.vesgrauf.specs.Cuts.{Alone, AreCut, Asks, IsCut, IsOwnOver, MembersCut, is_read_out as is_read_out_in};
+ghost use Rattle.vesgrauf.specs.Joined.{AreSevered, holds_in};
 ghost use Rattle.vesgrauf.specs.Keeps.{Keeps};
 ghost use Rattle.vesgrauf.specs.Own.{entry_at};
 ghost use Rattle.vesgrauf.specs.State.{stream_at};
-ghost use Rattle.vesgrauf.specs.Told.{Sound};
 
 use crate::code::StreamCode;
 use crate::connection::Connection;
@@ -16,22 +16,53 @@ use wtp_core::error::Code;
 #[tactic(auto, using(crate::proofs::KeepsLemmas::keep))]
 impl Connection {
     // Ends the session whose own stream this is, if it is one: its streams are cut (draft-ietf-webtrans-http3-02, section
-    // 5).
-    #[tactic(auto, using(crate::proofs::KeepsLemmas::keep, crate::proofs::CutLemmas::cut_linked))]
+    // 5), and then it does not count any more.
+    #[tactic(auto, using(crate::proofs::KeepsLemmas::keep))]
     pub(super) fn end_session(&mut self, session: u64) -> Result<(), AllocError>
         ensures keeps { Keeps [] self.old self.new }
-        ensures cut { Sound self.old.streams.entries self.old.ids
-            → OnOk result (AreCut session self.old.streams.entries self.new.streams.entries) }
+        ensures cut { OnOk result (AreCut session self.old.streams.entries self.new.streams.entries) }
+        ensures over { OnOk result (holds_in (stream_at self.new session) ≡ false) }
     {
-        self.lose_own(session)?;
-        self.cut_all(session)
+        self.cut_all(session)?;
+        self.lose_own(session)
     }
 
-    // If this is the own stream of a session, there is none any more: its datagrams are dropped.
-    #[tactic(auto, using(crate::proofs::KeepsLemmas::keep, crate::proofs::CutLemmas::alone))]
+    // Forgets a stream of which both halves are over. The session ends first whose own stream it is, if there is one.
+    pub(super) fn remove_if_done(&mut self, id: u64) -> Result<(), AllocError>
+        ensures keeps { Keeps [] self.old self.new }
+    {
+        if self.is_done_session(id) {
+            self.end_session(id)?;
+        }
+        self.forget_if_done(id)
+    }
+
+    // Returns whether both halves of a session's own stream are over.
+    fn is_done_session(&self, id: u64) -> bool {
+        match self.streams.get(&id) {
+            Some(entry) => entry.has_session && entry.is_done(),
+            None => false,
+        }
+    }
+
+    // Returns whether this is no own stream of a session that counts, or no stream is noted as one of that.
+    #[tactic(auto, using(crate::proofs::JoinedLemmas::joined_severed, crate::proofs::JoinedLemmas::unnoted_severed))]
+    pub(super) fn has_no_streams(&self, id: u64) -> bool
+        ensures { result ≡ true → AreSevered id self.now.streams.entries }
+    {
+        if !self.has_session(id) {
+            return true;
+        }
+        self.ids.first_member(id).is_none()
+    }
+
+    // If this is the own stream of a session, whose streams were cut, there is none any more: its datagrams are dropped.
+    #[tactic(auto, using(crate::proofs::KeepsLemmas::keep, crate::proofs::CutLemmas::alone, crate::proofs::JoinedLemmas::holds_none, crate::proofs::JoinedLemmas::holds_not))]
     fn lose_own(&mut self, session: u64) -> Result<(), AllocError>
+        requires { AreSevered session self.old.streams.entries }
         ensures keeps { Keeps [] self.old self.new }
         ensures alone { Alone session self.old self.new }
+        ensures over { OnOk result (holds_in (stream_at self.new session) ≡ false) }
     {
         let Some(entry) = self.streams.get(&session) else {
             return Ok(());
@@ -45,22 +76,26 @@ impl Connection {
         self.drop_datagrams(session)
     }
 
-    // This stream has no session any more.
-    #[tactic(auto, using(crate::proofs::KeepsLemmas::keep, crate::proofs::CutLemmas::alone, crate::proofs::PlaceLemmas::ordered))]
+    // This stream has no session any more, whose streams were cut.
+    #[tactic(auto, using(crate::proofs::KeepsLemmas::keep, crate::proofs::CutLemmas::alone_refl, crate::proofs::CutLemmas::alone_lost, crate::proofs::PlaceLemmas::ordered, crate::proofs::JoinedLemmas::joined_over, crate::proofs::JoinedLemmas::holds_none, crate::proofs::JoinedLemmas::holds_set))]
     fn note_over(&mut self, session: u64)
+        requires { AreSevered session self.old.streams.entries }
         ensures keeps { Keeps [] self.old self.new }
         ensures alone { Alone session self.old self.new }
+        ensures over { holds_in (stream_at self.new session) ≡ false }
     {
         if let Some(entry) = self.streams.get_mut(&session) {
             entry.has_session = false;
         }
     }
 
-    // Cuts the streams of a session that is over. Without memory for one, all are when it is ended again.
-    #[tactic(auto, using(crate::proofs::KeepsLemmas::keep, crate::proofs::CutLemmas::cutting_first, crate::proofs::CutLemmas::cutting_next, crate::proofs::CutLemmas::cutting_last))]
+    // Cuts the streams of a session that ends. Without memory for one, all are when it is ended again.
+    #[tactic(auto, using(crate::proofs::KeepsLemmas::keep, crate::proofs::CutLemmas::cutting_first, crate::proofs::CutLemmas::cutting_next, crate::proofs::CutLemmas::cutting_last, crate::proofs::CutLemmas::cutting_severed, crate::proofs::CutLemmas::cut_joined))]
     fn cut_all(&mut self, session: u64) -> Result<(), AllocError>
         ensures keeps { Keeps [] self.old self.new }
         ensures cut { OnOk result (MembersCut session self.old.ids self.new.streams.entries) }
+        ensures joined { OnOk result (AreCut session self.old.streams.entries self.new.streams.entries) }
+        ensures severed { OnOk result (AreSevered session self.new.streams.entries) }
     {
         let mut next = self.ids.first_member(session);
         'members: while let Some(id) = next {
@@ -86,7 +121,7 @@ impl Connection {
         }
         self.closed(id, Why::SessionGone)?;
         self.end_left(id, gone.number().into_inner())?;
-        self.remove_if_done(id)
+        self.forget_if_done(id)
     }
 
     // Resets the own half of a stream whose session is over, if it is still to be sent, or its end to be taken.

@@ -1,5 +1,6 @@
 //! Datagrams (RFC 9297).
 ghost use Rattle.std.specs.Prelude.{◌≡◌, ◌≤◌, ◌+◌, ◌-◌, ◌++◌, [], Ok, Some, MatchOption, OnOk, IfOk, IfSome, OnErr, IfErr, List, ℕ, length, option_map};
+ghost use Rattle.vesgrauf.specs.Halves.{LastsOn};
 ghost use Rattle.vesgrauf.specs.Keeps.{Keeps};
 ghost use Rattle.vesgrauf.specs.State.{head, open_session};
 ghost use Rattle.vesgrauf.specs.Datagrams.{Adds, HeadOf, KeepsDatagrams, KeepsOthers, SendsDatagram};
@@ -123,7 +124,7 @@ impl Connection {
     ///
     /// Nothing changes. `Closed`; `SessionGone`; `NotOpen`; `TooLarge` if it has more bytes than
     /// [`max_datagram`](Self::max_datagram) says; and `Memory`.
-    #[tactic(auto, using(crate::proofs::KeepsLemmas::kept))]
+    #[tactic(auto, using(crate::proofs::KeepsLemmas::kept, crate::proofs::LastsLemmas::lasts_refl))]
     pub fn send_datagram(&mut self, session: u64, payload: &[u8]) -> Result<bool, Refused>
         ensures open { IfOk result (λ queued. open_session self.old session ≡ Ok tt) }
         ensures ok { IfOk result (λ queued. SendsDatagram queued session payload.now self.old self.new) }
@@ -133,6 +134,7 @@ impl Connection {
         ensures kept { OnErr result (KeepsDatagrams self.old self.new) }
         ensures goes { GoesOn [] self.old self.new }
         ensures fits { DatagramsFit self.old → DatagramsFit self.new }
+        ensures lasts { LastsOn [] self.old self.new }
     {
         self.check_session(session)?;
         let head = self.datagram_head(session)?;
@@ -191,7 +193,7 @@ impl Connection {
     /// # Errors
     ///
     /// `Memory`: nothing changes, and the call is to be made again.
-    #[tactic(auto, using(crate::proofs::KeepsLemmas::kept))]
+    #[tactic(auto, using(crate::proofs::KeepsLemmas::kept, crate::proofs::LastsLemmas::lasts_refl))]
     pub fn datagram_sent(&mut self) -> Result<(), Refused>
         ensures ok { OnOk result (TakesFirst self.old.datagrams.queue.items self.new.datagrams.queue.items) }
         ensures kept { OnErr result (self.new.datagrams.queue.items ≡ self.old.datagrams.queue.items) }
@@ -200,6 +202,7 @@ impl Connection {
         ensures left { Left self.old.streams.entries self.new.streams.entries }
         ensures config { self.new.config ≡ self.old.config }
         ensures goes { GoesOn [] self.old self.new }
+        ensures lasts { LastsOn [] self.old self.new }
     {
         self.reserve()?;
         let left = self.datagrams.queue.len().saturating_sub(1);

@@ -46,11 +46,13 @@ impl Connection {
     }
 
     // The peer's half is reset. Returns what the stream says, or `None` if there is none.
-    #[tactic(auto, using(crate::proofs::KeepsLemmas::keep, crate::proofs::KeepsLemmas::keeps_turned, crate::proofs::PlaceLemmas::ordered))]
+    #[tactic(auto, using(crate::proofs::KeepsLemmas::keep, crate::proofs::KeepsLemmas::keeps_turned, crate::proofs::PlaceLemmas::ordered, crate::proofs::JoinedLemmas::joined, crate::proofs::JoinedLemmas::stays_ended))]
     fn note_reset(&mut self, id: u64, is_rejected: bool) -> Option<Said<'static>>
         ensures keeps { Keeps [] self.old self.new }
     {
-        let entry = self.streams.get_mut(&id)?;
+        let Some(entry) = self.streams.get_mut(&id) else {
+            return None;
+        };
         entry.is_ended = true;
         entry.is_rejected = is_rejected;
         Some(entry.reading.reset(&mut self.shared))
@@ -68,7 +70,7 @@ impl Connection {
 
     // The peer's half of a stream is read no further, since the peer reset it. The program is told so, if it knows of the
     // stream.
-    #[tactic(auto, using(crate::proofs::KeepsLemmas::keep, crate::proofs::KeepsLemmas::keeps_reset, crate::proofs::TellsLemmas::gone_set, crate::proofs::PlaceLemmas::ordered))]
+    #[tactic(auto, using(crate::proofs::KeepsLemmas::keep, crate::proofs::KeepsLemmas::keeps_reset, crate::proofs::TellsLemmas::gone_set, crate::proofs::PlaceLemmas::ordered, crate::proofs::JoinedLemmas::joined, crate::proofs::JoinedLemmas::stays_gone))]
     fn tell_reset(&mut self, id: u64, shown: StreamCode) -> Result<(), AllocError>
         ensures keeps { Keeps [] self.old self.new }
         ensures gone { OnOk result (theirs_at self.new.streams.entries id ≡ Gone) }
@@ -178,14 +180,18 @@ impl Connection {
     }
 
     // The own half of a stream is stopped. Returns what the stream says, or `None` if there is none.
-    #[tactic(auto, using(crate::proofs::KeepsLemmas::keep, crate::proofs::KeepsLemmas::keeps_turned, crate::proofs::PlaceLemmas::ordered))]
+    #[tactic(auto, using(crate::proofs::KeepsLemmas::keep, crate::proofs::KeepsLemmas::keeps_turned, crate::proofs::PlaceLemmas::ordered, crate::proofs::JoinedLemmas::joined))]
     fn note_stop(&mut self, id: u64, code: u64) -> Option<Said<'static>>
         ensures keeps { Keeps [] self.old self.new }
     {
-        let entry = self.streams.get_mut(&id)?;
-        if !entry.is_known() {
-            entry.stopped = Some(code);
-        }
+        let Some(entry) = self.streams.get_mut(&id) else {
+            return None;
+        };
+        entry.stopped = if entry.is_known() {
+            entry.stopped
+        } else {
+            Some(code)
+        };
         Some(entry.reading.stop(&mut self.shared))
     }
 
@@ -225,7 +231,7 @@ impl Connection {
     }
 
     // Takes the code of a stop that is still to be told.
-    #[tactic(auto, using(crate::proofs::KeepsLemmas::keep, crate::proofs::PlaceLemmas::ordered))]
+    #[tactic(auto, using(crate::proofs::KeepsLemmas::keep, crate::proofs::PlaceLemmas::ordered, crate::proofs::JoinedLemmas::joined))]
     fn take_stop(&mut self, id: u64) -> Option<u64>
         ensures keeps { Keeps [] self.old self.new }
     {
@@ -251,7 +257,7 @@ impl Connection {
     }
 
     // Counts a request that its client gives up before its answer (RFC 9114, section 10.5).
-    #[tactic(auto, using(crate::proofs::KeepsLemmas::keep, crate::proofs::PlaceLemmas::ordered))]
+    #[tactic(auto, using(crate::proofs::KeepsLemmas::keep, crate::proofs::PlaceLemmas::ordered, crate::proofs::JoinedLemmas::joined))]
     fn give_up(&mut self, id: u64) -> Result<(), Stop>
         ensures keeps { Keeps [] self.old self.new }
         ensures budget { code_after self.old.budget ≡ None → OnOk result (code_after self.new.budget ≡ None) }
@@ -378,11 +384,12 @@ impl Connection {
     }
 
     // Ends the connection by an error.
-    #[tactic(auto, using(crate::proofs::KeepsLemmas::kept, crate::proofs::GoesSteps::goes_filtered))]
+    #[tactic(auto, using(crate::proofs::KeepsLemmas::keeps_refl, crate::proofs::KeepsLemmas::keeps_at_end, crate::proofs::GoesSteps::goes_filtered))]
     pub(super) fn break_off(&mut self, code: u64)
         ensures end { EndsUnless (is_over self.old) code self.old self.new }
         ensures after { is_over self.old ≡ false → IsAfterEnd self.new }
         ensures goes { GoesOn [] self.old self.new }
+        ensures keeps { Keeps [] self.old self.new }
     {
         if self.ended.is_some() {
             return;

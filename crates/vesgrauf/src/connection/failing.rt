@@ -1,7 +1,7 @@
 //! Rules that the peer violates, and where.
 ghost use Rattle.std.specs.Prelude.{◌≡◌, true, []};
 ghost use Rattle.vesgrauf.specs.Keeps.{Keeps};
-ghost use Rattle.vesgrauf.specs.State.{is_over, stream_at};
+ghost use Rattle.vesgrauf.specs.State.{is_over, stream_at, IsStill};
 ghost use Rattle.vesgrauf.specs.Order.{waits_on};
 
 use crate::connection::Connection;
@@ -58,12 +58,20 @@ impl Connection {
     }
 
     // Ends the connection by an error of this stream, if it is one of a stream.
-    #[tactic(auto, using(crate::proofs::KeepsLemmas::keep, crate::proofs::KeepsLemmas::keeps_at_end))]
     pub(super) fn fail(&mut self, stream: Option<u64>, code: u64, fault: Option<Fault>)
         ensures keeps { Keeps [] self.old self.new }
         ensures streams { self.new.streams.entries ≡ self.old.streams.entries }
         ensures ids { self.new.ids ≡ self.old.ids }
         ensures over { is_over self.new ≡ true }
+    {
+        self.note_failure(stream, fault);
+        self.break_off(code);
+    }
+
+    // Notes the fault by which the connection ends, if it is one of the peer, and where it is.
+    fn note_failure(&mut self, stream: Option<u64>, fault: Option<Fault>)
+        ensures still { IsStill self.old self.new }
+        ensures keeps { Keeps [] self.old self.new }
     {
         if let Some(fault) = fault {
             let offset = match stream {
@@ -76,7 +84,6 @@ impl Connection {
                 offset,
             });
         }
-        self.break_off(code);
     }
 
     // Tells of the rule that the peer violated on a stream, if the program is to know of it: nothing follows the last event
@@ -113,7 +120,7 @@ impl Connection {
     }
 
     // Counts bytes of a stream that were read.
-    #[tactic(auto, using(crate::proofs::KeepsLemmas::keep, crate::proofs::PlaceLemmas::ordered))]
+    #[tactic(auto, using(crate::proofs::KeepsLemmas::keep, crate::proofs::PlaceLemmas::ordered, crate::proofs::JoinedLemmas::joined))]
     pub(super) fn count_read(&mut self, id: u64, len: usize)
         ensures keeps { Keeps [] self.old self.new }
     {

@@ -8,9 +8,9 @@ ghost use Rattle.vesgrauf.specs.declared.connection.Stop.TheVariants as stop;
 ghost use Rattle.vesgrauf.specs.declared.entry.Peer.TheVariants as peer;
 ghost use Rattle.vesgrauf_stream.specs.Reading.{IsUntouched, kept_of};
 
-use crate::connection::Stop;
 use crate::connection::failing::is_failure;
 use crate::connection::heard::says_items;
+use crate::connection::{Stop, internal};
 use crate::entry::Entry;
 use std::alloc::Global;
 use vesgrauf_stream::bytes::Chunk;
@@ -23,7 +23,8 @@ use wtp_webtransport::fields::Fields;
 impl Entry {
     // Returns what is heard next on the stream with this ID, in the bytes that are kept and those of the input. The section
     // that was read with the own table is acknowledged: without memory for it, what the section says would be lost. A piece
-    // of content has none.
+    // of content has none. After an error of the connection nothing is heard: the layer below would read all bytes without a
+    // word.
     #[tactic(auto, using(crate::proofs::InstructionLemmas::hears_said, crate::proofs::InstructionLemmas::hears_piece))]
     fn hear<'a>(
         &mut self,
@@ -41,6 +42,9 @@ impl Entry {
         ensures others { self.new ≡ record self.old { reading = self.new.reading } }
         ensures shrinks { length (kept_of self.new.reading) ≤ length (kept_of self.old.reading) }
     {
+        if shared.is_over() {
+            return Err(internal());
+        }
         let found = match self.reading.next(alloc, shared, fields, chunk) {
             Ok(found) => found,
             Err(_) => return Err(Stop::Memory),
@@ -78,6 +82,7 @@ impl Entry {
         ensures place { (self.new.is_opened ≡ self.old.is_opened) × (self.new.is_blocked ≡ self.old.is_blocked)
             × (self.new.priority ≡ self.old.priority) }
         ensures read { (self.new.peer ≡ self.old.peer) × (self.new.is_decoder ≡ self.old.is_decoder) }
+        ensures holds { (self.new.has_session ≡ self.old.has_session) × (self.new.is_ended ≡ self.old.is_ended) }
         ensures fits { KeepsFit (theirs_of self.old) (theirs_of self.new) }
     {
         if !self.is_read() {
@@ -118,6 +123,7 @@ impl Entry {
         ensures place { (self.new.is_opened ≡ self.old.is_opened) × (self.new.is_blocked ≡ self.old.is_blocked)
             × (self.new.priority ≡ self.old.priority) }
         ensures read { (self.new.peer ≡ self.old.peer) × (self.new.is_decoder ≡ self.old.is_decoder) }
+        ensures holds { (self.new.has_session ≡ self.old.has_session) × (self.new.is_ended ≡ self.old.is_ended) }
         ensures fits { KeepsFit (theirs_of self.old) (theirs_of self.new) }
     {
         if !self.is_plain() {
@@ -162,6 +168,7 @@ impl Entry {
         ensures place { (self.new.is_opened ≡ self.old.is_opened) × (self.new.is_blocked ≡ self.old.is_blocked)
             × (self.new.priority ≡ self.old.priority) }
         ensures read { (self.new.peer ≡ self.old.peer) × (self.new.is_decoder ≡ self.old.is_decoder) }
+        ensures holds { (self.new.has_session ≡ self.old.has_session) × (self.new.is_ended ≡ self.old.is_ended) }
     {
         let left = self.reading.len();
         let read = kept
@@ -184,6 +191,7 @@ impl Entry {
         ensures place { (self.new.is_opened ≡ self.old.is_opened) × (self.new.is_blocked ≡ self.old.is_blocked)
             × (self.new.priority ≡ self.old.priority) }
         ensures read { (self.new.peer ≡ self.old.peer) × (self.new.is_decoder ≡ self.old.is_decoder) }
+        ensures holds { (self.new.has_session ≡ self.old.has_session) × (self.new.is_ended ≡ self.old.is_ended) }
     {
         if !is_failure(found) {
             self.offset = self.offset.saturating_add(len as u64);

@@ -4,6 +4,7 @@ ghost use Rattle.vesgrauf_stream.specs.Writing.{Sends};
 ghost use Rattle.vesgrauf_stream.specs.Headers.{response_at, SendsHeaders, SendsTrailers, RefusesTrailers};
 ghost use Rattle.vesgrauf_stream.specs.declared.tools.Tools.{Tools as ToolsOf};
 ghost use Rattle.vesgrauf.specs.Messages.{allowed, IsSameBut, ChangesBy, ChangesThen, ClosesSession};
+ghost use Rattle.vesgrauf.specs.Halves.{LastsBut};
 ghost use Rattle.vesgrauf.specs.Keeps.{Keeps, KeepsBut};
 ghost use Rattle.vesgrauf.specs.Own.{UntouchedBut};
 ghost use Rattle.vesgrauf.specs.Theirs.{Left};
@@ -45,7 +46,7 @@ impl Connection {
     ///
     /// Nothing changes, but QPACK's table and what is queued for it. `Closed`; `NoStream` if no request came on the stream;
     /// `Over`; `Send` if it would be malformed; and `Memory`.
-    #[tactic(auto, using(crate::proofs::KeepsLemmas::kept, crate::proofs::OwnLemmas::but_then, crate::proofs::StepLemmas::left_trans))]
+    #[tactic(auto, using(crate::proofs::KeepsLemmas::kept, crate::proofs::OwnLemmas::but_then, crate::proofs::StepLemmas::left_trans, crate::proofs::LastsLemmas::lasts_refl))]
     pub fn respond(&mut self, id: u64, list: &FieldList, fin: bool) -> Result<(), Refused>
         ensures refused { IfErr result (λ e. (e ≡ refused.Memory) ⊎ IsStillBut self.old self.new) }
         ensures own { UntouchedBut id self.old.streams.entries self.new.streams.entries }
@@ -55,6 +56,7 @@ impl Connection {
         ensures ends { is_over self.old ≡ true → is_over self.new ≡ true }
         ensures responds { OnOk result ((s : ToolsOf) × (t : ToolsOf) × IsSameBut self.old.tools s × ChangesThen id
             (λ v w. SendsHeaders (response_at v id (allowed self.old)) list.now fin s t v w) self.old self.new) }
+        ensures lasts { LastsBut id self.old self.new }
     {
         self.begin_send(id)?;
         self.choose_policy();
@@ -65,7 +67,7 @@ impl Connection {
     }
 
     // Queues the HEADERS of a response, and maybe the end.
-    #[tactic(auto, using(crate::proofs::KeepsLemmas::kept, crate::proofs::TheirsLemmas::left_set, std::proofs::lemmas::Map::Steps::set_value_same, crate::proofs::GoesLemmas::goes_set))]
+    #[tactic(auto, using(crate::proofs::KeepsLemmas::kept, crate::proofs::TheirsLemmas::left_set, std::proofs::lemmas::Map::Steps::set_value_same, crate::proofs::GoesLemmas::goes_set, crate::proofs::LastsLemmas::lasts_refl))]
     fn put_response(&mut self, id: u64, list: &FieldList, fin: bool) -> Result<(), Refused>
         ensures ok { OnOk result (Changes id (λ v w. SendsHeaders (response_at v id (allowed self.old)) list.now fin
             self.old.tools self.new.tools v w) self.old self.new) }
@@ -74,6 +76,7 @@ impl Connection {
         ensures left { Left self.old.streams.entries self.new.streams.entries }
         ensures config { self.new.config ≡ self.old.config }
         ensures goes { GoesOn [] self.old self.new }
+        ensures lasts { LastsBut id self.old self.new }
     {
         match session_id(id) {
             Ok(session) => self.respond_half(id, session, list, fin),
@@ -82,7 +85,7 @@ impl Connection {
     }
 
     // Queues the HEADERS of a response, and maybe the end, on the own half of a stream.
-    #[tactic(auto, using(crate::proofs::KeepsLemmas::kept, crate::proofs::TheirsLemmas::left_set, std::proofs::lemmas::Map::Steps::set_value_same, crate::proofs::GoesLemmas::goes_set, crate::proofs::PlaceLemmas::ordered, crate::proofs::PlaceLemmas::ordered_sent))]
+    #[tactic(auto, using(crate::proofs::KeepsLemmas::kept, crate::proofs::TheirsLemmas::left_set, std::proofs::lemmas::Map::Steps::set_value_same, crate::proofs::GoesLemmas::goes_set, crate::proofs::PlaceLemmas::ordered, crate::proofs::JoinedLemmas::joined, crate::proofs::PlaceLemmas::ordered_sent, crate::proofs::LastsLemmas::lasts_refl, crate::proofs::LastsLemmas::lasts_but_set))]
     fn respond_half(
         &mut self,
         id: u64,
@@ -97,6 +100,7 @@ impl Connection {
         ensures left { Left self.old.streams.entries self.new.streams.entries }
         ensures config { self.new.config ≡ self.old.config }
         ensures goes { GoesOn [] self.old self.new }
+        ensures lasts { LastsBut id self.old self.new }
     {
         let allows = self.allows();
         let Some(entry) = self.streams.get_mut(&id) else {
@@ -117,6 +121,10 @@ impl Connection {
     {
         if let Some(status) = status_of(list) {
             self.answered(id, status);
+            if status >= 300 {
+                // (there is no session then)
+                self.end_session(id)?;
+            }
         }
         if fin && matches!(self.known(id), Known::Open) {
             self.end_session(id)?;
@@ -151,30 +159,35 @@ impl Connection {
     }
 
     // A response with this status was sent.
-    #[tactic(auto, using(crate::proofs::KeepsLemmas::keep, crate::proofs::KeepsLemmas::keeps_turned, crate::proofs::PlaceLemmas::ordered))]
     fn answered(&mut self, id: u64, status: u32)
         ensures keeps { Keeps [] self.old self.new }
     {
         if status < 200 {
             return;
         }
-        let Some(entry) = self.streams.get_mut(&id) else {
-            return;
-        };
-        entry.reading.answer(status);
-        entry.has_tunnel = entry.has_tunnel && status >= 300;
-        if entry.is_awaited {
-            entry.is_awaited = false;
+        let (was_awaited, opens) = self.note_answer(id, status);
+        if was_awaited {
             self.budget.answered();
         }
-        if entry.has_session {
+        if opens {
             let _decided = self.datagrams.opened.push_back(id);
-            if status >= 300 {
-                entry.has_session = false;
-                self.sessions = self.sessions.saturating_sub(1);
-            }
         }
         self.wake();
+    }
+
+    // A final response with this status was sent. Returns whether it was awaited, and whether it opens a session.
+    #[tactic(auto, using(crate::proofs::KeepsLemmas::keep, crate::proofs::KeepsLemmas::keeps_turned, crate::proofs::PlaceLemmas::ordered, crate::proofs::JoinedLemmas::joined))]
+    fn note_answer(&mut self, id: u64, status: u32) -> (bool, bool)
+        ensures keeps { Keeps [] self.old self.new }
+    {
+        let Some(entry) = self.streams.get_mut(&id) else {
+            return (false, false);
+        };
+        entry.reading.answer(status);
+        entry.has_tunnel = entry.has_tunnel & (status >= 300);
+        let was_awaited = entry.is_awaited;
+        entry.is_awaited = false;
+        (was_awaited, entry.has_session & (status < 300))
     }
 
     /// Sends content of a message, in one DATA frame, or bytes of a stream of a session; and with `fin` the end. Returns
@@ -205,7 +218,7 @@ impl Connection {
 
     // Queues content on the own half of a stream.
     #[inline(always)]
-    #[tactic(auto, using(crate::proofs::KeepsLemmas::kept, std::proofs::lemmas::Map::Steps::set_value_same, crate::proofs::GoesLemmas::goes_set, crate::proofs::PlaceLemmas::ordered, crate::proofs::PlaceLemmas::ordered_sent))]
+    #[tactic(auto, using(crate::proofs::KeepsLemmas::kept, std::proofs::lemmas::Map::Steps::set_value_same, crate::proofs::GoesLemmas::goes_set, crate::proofs::PlaceLemmas::ordered, crate::proofs::JoinedLemmas::joined, crate::proofs::PlaceLemmas::ordered_sent))]
     fn send_half(
         &mut self,
         id: u64,
@@ -259,7 +272,7 @@ impl Connection {
     }
 
     // Queues content on the own half of a stream, or gives the bytes back.
-    #[tactic(auto, using(crate::proofs::KeepsLemmas::kept, std::proofs::lemmas::Map::Steps::set_value_same, crate::proofs::GoesLemmas::goes_set, crate::proofs::PlaceLemmas::ordered, crate::proofs::PlaceLemmas::ordered_sent))]
+    #[tactic(auto, using(crate::proofs::KeepsLemmas::kept, std::proofs::lemmas::Map::Steps::set_value_same, crate::proofs::GoesLemmas::goes_set, crate::proofs::PlaceLemmas::ordered, crate::proofs::JoinedLemmas::joined, crate::proofs::PlaceLemmas::ordered_sent))]
     fn send_half_owned(
         &mut self,
         id: u64,
@@ -330,7 +343,7 @@ impl Connection {
     }
 
     // Queues trailers and the end on a stream.
-    #[tactic(auto, using(crate::proofs::KeepsLemmas::kept, std::proofs::lemmas::Map::Steps::set_value_same, crate::proofs::GoesLemmas::goes_set, crate::proofs::PlaceLemmas::ordered, crate::proofs::PlaceLemmas::ordered_sent))]
+    #[tactic(auto, using(crate::proofs::KeepsLemmas::kept, std::proofs::lemmas::Map::Steps::set_value_same, crate::proofs::GoesLemmas::goes_set, crate::proofs::PlaceLemmas::ordered, crate::proofs::JoinedLemmas::joined, crate::proofs::PlaceLemmas::ordered_sent))]
     fn put_trailers(&mut self, id: u64, list: &FieldList) -> Result<(), Refused>
         ensures ok { OnOk result (Changes id (SendsTrailers list.now self.old.tools self.new.tools)
             self.old self.new) }
@@ -356,7 +369,7 @@ impl Connection {
     ///
     /// Nothing changes. `Closed`; `NoStream` if there never was such a stream; `Over` if it was reset; `Send` if the message
     /// may not end here; and `Memory`.
-    #[tactic(auto, using(crate::proofs::KeepsLemmas::kept))]
+    #[tactic(auto, using(crate::proofs::KeepsLemmas::kept, crate::proofs::LastsLemmas::lasts_refl))]
     pub fn finish(&mut self, id: u64) -> Result<(), Refused>
         ensures refused { IfErr result (λ e. IsRefused e self.old self.new) }
         ensures half { is_ok (open_session self.old id) ≡ false
@@ -367,6 +380,7 @@ impl Connection {
         ensures left { Left self.old.streams.entries self.new.streams.entries }
         ensures config { self.new.config ≡ self.old.config }
         ensures goes { GoesOn [] self.old self.new }
+        ensures lasts { LastsBut id self.old self.new }
     {
         if self.check_session(id).is_ok() {
             return self.close_session(id, 0, "");
@@ -375,7 +389,7 @@ impl Connection {
     }
 
     // Ends the own half of a stream that is not that of a session.
-    #[tactic(auto, using(crate::proofs::KeepsLemmas::kept, crate::proofs::TheirsLemmas::left_set, std::proofs::lemmas::Map::Steps::set_value_same, crate::proofs::GoesLemmas::goes_set, crate::proofs::PlaceLemmas::ordered, crate::proofs::PlaceLemmas::ordered_sent))]
+    #[tactic(auto, using(crate::proofs::KeepsLemmas::kept, crate::proofs::TheirsLemmas::left_set, std::proofs::lemmas::Map::Steps::set_value_same, crate::proofs::GoesLemmas::goes_set, crate::proofs::PlaceLemmas::ordered, crate::proofs::JoinedLemmas::joined, crate::proofs::PlaceLemmas::ordered_sent, crate::proofs::LastsLemmas::lasts_refl, crate::proofs::LastsLemmas::lasts_but_set))]
     fn finish_half(&mut self, id: u64) -> Result<(), Refused>
         ensures ok { OnOk result (FinishesUnless (was_finished self.old id) id self.old self.new) }
         ensures why { IfErr result (λ e. IsWhy RefusesEnd self.old id e) }
@@ -384,6 +398,7 @@ impl Connection {
         ensures left { Left self.old.streams.entries self.new.streams.entries }
         ensures config { self.new.config ≡ self.old.config }
         ensures goes { GoesOn [] self.old self.new }
+        ensures lasts { LastsBut id self.old self.new }
     {
         if self.ended.is_some() {
             return Err(Refused::Closed);

@@ -4,6 +4,7 @@ ghost use Rattle.wtp_frames.specs.declared.endpoint.Side.TheVariants as side;
 ghost use Rattle.vesgrauf.specs.Keeps.{Keeps, KeepsOwn};
 ghost use Rattle.vesgrauf.specs.declared.refused.Refused.TheVariants as refused;
 ghost use Rattle.vesgrauf.specs.State.{open_session, room_for, may_wait, IsStill, IsRefused, is_opened_at, known_in, opened_by, stream_at, view_of, Of};
+ghost use Rattle.vesgrauf.specs.Joined.{holds_in};
 ghost use Rattle.vesgrauf.specs.Members.{Notes, is_member, is_same_stream};
 ghost use Rattle.wtp_connection.specs.declared.connection.Known.TheVariants as knowns;
 ghost use Rattle.vesgrauf.specs.Own.{Open as OpenEnd, Over, Sends, own_of, entry_at, Untouched, UntouchedBut};
@@ -98,7 +99,7 @@ impl Connection {
     }
 
     // Registers the next stream of the peer, of the kind of this one.
-    #[tactic(auto, using(crate::proofs::TellsLemmas::accepts_insert, crate::proofs::KeepsOwnLemmas::holds_refl, crate::proofs::PlaceLemmas::ordered_new_quiet))]
+    #[tactic(auto, using(crate::proofs::TellsLemmas::accepts_insert, crate::proofs::KeepsOwnLemmas::holds_refl, crate::proofs::PlaceLemmas::ordered_new_quiet, crate::proofs::JoinedLemmas::joined_new, crate::proofs::JoinedLemmas::joined_seen))]
     fn accept_next(&mut self, id: u64) -> Result<(), Stop>
         ensures keeps { KeepsOwn [] self.old self.new }
         ensures accepts { Accepts self.old.ids self.old.streams.entries self.new.ids self.new.streams.entries }
@@ -110,7 +111,7 @@ impl Connection {
         if self.ids.was(next) {
             return Err(internal());
         }
-        if self.streams.get(&next).is_some() {
+        if self.has_stream(next) {
             return Err(internal());
         }
         let entry = self.entry_of_peer(next);
@@ -150,7 +151,7 @@ impl Connection {
     }
 
     // Notes a stream as one of its session, if that is open.
-    #[tactic(auto, using(crate::proofs::KeepsLemmas::keep, crate::proofs::MemberLemmas::notes_itself))]
+    #[tactic(auto, using(crate::proofs::KeepsLemmas::keep, crate::proofs::MemberLemmas::notes_itself, crate::proofs::JoinedLemmas::joined_noted))]
     fn note_member(&mut self, id: u64, session: u64, known: Known) -> Result<(), AllocError>
         ensures keeps { Keeps [] self.old self.new }
         ensures noted { known ≡ knowns.Open → OnOk result (is_member self.new.ids session id ≡ true) }
@@ -162,7 +163,7 @@ impl Connection {
     }
 
     // Joins a stream with its session, of which this is known.
-    #[tactic(auto, using(crate::proofs::KeepsLemmas::keep, crate::proofs::KeepsLemmas::keeps_turned, crate::proofs::TellsLemmas::joins_silent, crate::proofs::PlaceLemmas::ordered))]
+    #[tactic(auto, using(crate::proofs::KeepsLemmas::keep, crate::proofs::KeepsLemmas::keeps_turned, crate::proofs::TellsLemmas::joins_silent, crate::proofs::PlaceLemmas::ordered, crate::proofs::JoinedLemmas::joined))]
     fn join_known(&mut self, id: u64, known: Known) -> Said<'static>
         ensures keeps { Keeps [] self.old self.new }
         ensures ids { self.new.ids ≡ self.old.ids }
@@ -187,32 +188,48 @@ impl Connection {
         }
     }
 
-    // A stream of the peer joined its session, as one of which it was noted before.
+    // A stream of the peer joined its session, which counts, as one of which it was noted before.
     pub(super) fn joined(&mut self, id: u64, session: u64) -> Result<(), Stop>
         ensures keeps { Keeps [] self.old self.new }
     {
         if !self.ids.is_member(session, id) {
             return Err(internal());
         }
+        if !self.has_session(session) {
+            return Err(internal());
+        }
         self.note_joined(id, session);
+        self.share(id);
         Ok(())
     }
 
-    // A stream is one of a session now, as one of which it was noted.
-    #[tactic(auto, using(crate::proofs::MemberLemmas::keeps_joined, crate::proofs::KeepsLemmas::keeps_refl, crate::proofs::OwnLemmas::own_raw, crate::proofs::PlaceLemmas::ordered, crate::proofs::PlaceLemmas::ordered_quiet))]
+    // A stream is one of a session now that counts, as one of which it was noted.
+    #[tactic(auto, using(crate::proofs::MemberLemmas::keeps_joined, crate::proofs::KeepsLemmas::keeps_refl, crate::proofs::OwnLemmas::own_raw, crate::proofs::PlaceLemmas::ordered, crate::proofs::JoinedLemmas::joined, crate::proofs::PlaceLemmas::ordered_quiet, crate::proofs::JoinedLemmas::joined_joins))]
     fn note_joined(&mut self, id: u64, session: u64)
+        requires noted { is_member self.old.ids session id ≡ true }
+        requires counts { holds_in (stream_at self.old session) ≡ true }
         ensures keeps { is_member self.old.ids session id ≡ true → Keeps [] self.old self.new }
     {
         if let Some(entry) = self.streams.get_mut(&id) {
             entry.session = Some(session);
             entry.may_cancel = false;
-            // (nothing was said on it, so it has no place in the order of sending yet)
-            if !entry.has_more() {
-                entry.priority = SHARED;
-            }
             entry.know();
             entry.writing.belong();
         }
+    }
+
+    // A stream shares the bandwidth with others, unless something was said on it: then it has its place in the order of sending.
+    #[tactic(auto, using(crate::proofs::KeepsLemmas::keep, crate::proofs::PlaceLemmas::ordered_quiet, crate::proofs::PlaceLemmas::ordered, crate::proofs::JoinedLemmas::joined))]
+    pub(super) fn share(&mut self, id: u64)
+        ensures keeps { Keeps [] self.old self.new }
+    {
+        let Some(entry) = self.streams.get_mut(&id) else {
+            return;
+        };
+        if entry.has_more() {
+            return;
+        }
+        entry.priority = SHARED;
     }
 
     /// Opens a stream of an open session. Returns its ID. Its first bytes, which name the session, are queued
@@ -223,7 +240,7 @@ impl Connection {
     /// Nothing changes. `Closed`; `SessionGone`; `NotOpen`; `Full` if as many own streams of this
     /// kind wait for QUIC as [`max_unopened`](crate::config::Config) says: an event
     /// [`Openable`](crate::event::EventKind) follows; `NoMoreIds`; and `Memory`.
-    #[tactic(auto, using(crate::proofs::KeepsLemmas::kept, crate::proofs::IdLemmas::goes_opens, crate::proofs::IdLemmas::knows_here, crate::proofs::GoesLemmas::goes_still, crate::proofs::IdLemmas::keeps_still))]
+    #[tactic(auto, using(crate::proofs::KeepsLemmas::kept, crate::proofs::IdLemmas::goes_opens, crate::proofs::IdLemmas::knows_here, crate::proofs::GoesLemmas::goes_still, crate::proofs::IdLemmas::keeps_still, crate::proofs::JoinedLemmas::joined_taken))]
     pub fn open_stream(&mut self, session: u64, kind: StreamKind) -> Result<u64, Refused>
         ensures refused { IfErr result (λ e. IsRefused e self.old self.new) }
         ensures id { IfOk result (λ id. id ≡ next_own self.old.ids kind) }
@@ -246,6 +263,9 @@ impl Connection {
         let Some(id) = self.ids.next(kind) else {
             return Err(Refused::NoMoreIds);
         };
+        if self.has_stream(id) {
+            return Err(Refused::NoMoreIds);
+        }
         let head = self.stream_head(session, kind)?;
         let entry = self.new_member(session, kind, head.as_slice())?;
         self.add_member(session, id, entry)?;
@@ -310,7 +330,7 @@ impl Connection {
     #[tactic(auto, using(crate::proofs::KeepsLemmas::keep, crate::proofs::GoesLemmas::goes_general))]
     fn tell_openable(&mut self, kind: StreamKind) -> Result<(), AllocError>
         ensures keeps { Keeps [] self.old self.new }
-        ensures others { self.new ≡ record self.old { events = self.new.events; pending = self.new.pending } }
+        ensures others { view_of self.new ≡ record (view_of self.old) { events = self.new.events.items } }
     {
         let is_owed = match kind {
             StreamKind::Bidirectional => self.pending.owes_bidirectional,
@@ -335,10 +355,13 @@ impl Connection {
         }
     }
 
-    // Adds an own stream of a session.
-    #[tactic(auto, using(crate::proofs::KeepsLemmas::kept, crate::proofs::PlaceLemmas::ordered_new_closed, crate::proofs::PlaceLemmas::ordered_replaced))]
+    // Adds an own stream of a session that counts.
+    #[tactic(auto, using(crate::proofs::KeepsLemmas::kept, crate::proofs::PlaceLemmas::ordered_new_closed, crate::proofs::JoinedLemmas::joined_noted, crate::proofs::JoinedLemmas::joined_member, crate::proofs::JoinedLemmas::joined_dropped))]
     fn add_member(&mut self, session: u64, id: u64, entry: Entry) -> Result<(), AllocError>
-        requires { entry.is_opened ≡ false }
+        requires closed { entry.is_opened ≡ false }
+        requires joins { entry.session ≡ Some session }
+        requires absent { stream_at self.old id ≡ None }
+        requires counts { holds_in (stream_at self.old session) ≡ true }
         ensures own { OnOk result (UntouchedBut id self.old.streams.entries self.new.streams.entries) }
         ensures here { OnOk result (entry_at self.new.streams.entries id ≡ Some entry) }
         ensures others { OnOk result (AreOthers id self.old.streams.entries self.new.streams.entries) }
@@ -352,22 +375,21 @@ impl Connection {
         ensures kept { OnErr result (Keeps [] self.old self.new) }
     {
         self.ids.note(session, id)?;
-        let old = match self.streams.insert(id, entry) {
-            Ok(old) => old,
+        match self.streams.insert(id, entry) {
+            Ok(_) => {}
             Err(_) => {
                 self.ids.forget(session, id);
                 return Err(AllocError);
             }
-        };
-        if let Some(old) = old {
-            self.ready.remove(id, old.kind());
         }
         Ok(())
     }
 
     // Checks that a session is open.
+    #[tactic(auto, using(crate::proofs::JoinedLemmas::open_holds))]
     pub(super) fn check_session(&self, session: u64) -> Result<(), Refused>
-        ensures { result ≡ open_session self.now session }
+        ensures open { result ≡ open_session self.now session }
+        ensures holds { OnOk result (holds_in (stream_at self.now session) ≡ true) }
     {
         if self.ended.is_some() {
             return Err(Refused::Closed);
@@ -416,13 +438,12 @@ impl Connection {
     }
 
     // QUIC has opened the next stream of a kind.
-    #[tactic(auto, using(crate::proofs::KeepsLemmas::keep, crate::proofs::IdLemmas::goes_unopened))]
+    #[tactic(auto, using(crate::proofs::KeepsLemmas::keep, crate::proofs::IdLemmas::goes_unopened, crate::proofs::JoinedLemmas::joined_opened))]
     fn count_opened(&mut self, kind: StreamKind)
         ensures keeps { Keeps [] self.old self.new }
-        ensures counted { self.new ≡ record self.old {
-          ids = if nat_lt (unopened self.old.ids kind) (min (next_own self.old.ids kind) (2 ^ 62))
-              then opened_ids self.old.ids kind else self.old.ids;
-        } }
+        ensures ids { self.new.ids ≡ (if nat_lt (unopened self.old.ids kind) (min (next_own self.old.ids kind) (2 ^ 62))
+            then opened_ids self.old.ids kind else self.old.ids) }
+        ensures counted { view_of self.new ≡ record (view_of self.old) { ids = self.new.ids } }
     {
         self.ids.was_opened(kind);
     }
@@ -462,7 +483,7 @@ impl Connection {
     }
 
     // QUIC has opened an own stream, which has its place in the order of sending if something waits on it.
-    #[tactic(auto, using(crate::proofs::KeepsLemmas::keep, crate::proofs::PlaceLemmas::ordered, crate::proofs::PlaceLemmas::ordered_quiet, crate::proofs::PlaceLemmas::ordered_blocked_on))]
+    #[tactic(auto, using(crate::proofs::KeepsLemmas::keep, crate::proofs::PlaceLemmas::ordered, crate::proofs::JoinedLemmas::joined, crate::proofs::PlaceLemmas::ordered_quiet, crate::proofs::PlaceLemmas::ordered_blocked_on))]
     fn place_opened(&mut self, id: u64) -> Result<(), AllocError>
         ensures keeps { Keeps [] self.old self.new }
         ensures ids { self.new.ids ≡ self.old.ids }
@@ -474,7 +495,11 @@ impl Connection {
         let Some(entry) = self.streams.get_mut(&id) else {
             return Ok(());
         };
-        if entry.is_blocked || !entry.has_more() {
+        if entry.is_blocked {
+            entry.is_opened = true;
+            return Ok(());
+        }
+        if !entry.has_more() {
             entry.is_opened = true;
             return Ok(());
         }
@@ -484,7 +509,7 @@ impl Connection {
     }
 
     // QUIC has opened an own stream: it is asked what was to be asked of it.
-    #[tactic(auto, using(crate::proofs::KeepsLemmas::keep, crate::proofs::PlaceLemmas::ordered))]
+    #[tactic(auto, using(crate::proofs::KeepsLemmas::keep, crate::proofs::PlaceLemmas::ordered, crate::proofs::JoinedLemmas::joined))]
     fn show_opened(&mut self, id: u64) -> Result<(), AllocError>
         ensures keeps { Keeps [] self.old self.new }
         ensures ids { self.new.ids ≡ self.old.ids }

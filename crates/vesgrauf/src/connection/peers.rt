@@ -44,7 +44,7 @@ impl Connection {
     }
 
     // Tells that the peer's half ended, which is read no further.
-    #[tactic(auto, using(crate::proofs::KeepsLemmas::keep, crate::proofs::KeepsLemmas::keeps_end, crate::proofs::TellsLemmas::gone_set, crate::proofs::PlaceLemmas::ordered))]
+    #[tactic(auto, using(crate::proofs::KeepsLemmas::keep, crate::proofs::KeepsLemmas::keeps_end, crate::proofs::TellsLemmas::gone_set, crate::proofs::PlaceLemmas::ordered, crate::proofs::JoinedLemmas::joined, crate::proofs::JoinedLemmas::stays_gone))]
     fn tell_end(&mut self, id: u64) -> Step<'static>
         ensures keeps { Keeps (said_in result) self.old self.new }
         ensures is { IsOf id (Ends ∷ []) result }
@@ -75,7 +75,7 @@ impl Connection {
     }
 
     // All sections of a stream were read.
-    #[tactic(auto, using(crate::proofs::KeepsLemmas::keep, crate::proofs::PlaceLemmas::ordered))]
+    #[tactic(auto, using(crate::proofs::KeepsLemmas::keep, crate::proofs::PlaceLemmas::ordered, crate::proofs::JoinedLemmas::joined))]
     fn forget_cancel(&mut self, id: u64)
         ensures keeps { Keeps [] self.old self.new }
     {
@@ -113,7 +113,7 @@ impl Connection {
 
     // Asks the peer to stop its half, unless its end came, or QUIC closed the stream. QUIC is asked once it knows of the
     // stream.
-    #[tactic(auto, using(crate::proofs::KeepsLemmas::keep, crate::proofs::CutLemmas::alone, crate::proofs::CutLemmas::asks_refl, crate::proofs::CutLemmas::asks_stop, crate::proofs::PlaceLemmas::ordered))]
+    #[tactic(auto, using(crate::proofs::KeepsLemmas::keep, crate::proofs::CutLemmas::alone, crate::proofs::CutLemmas::asks_refl, crate::proofs::CutLemmas::asks_stop, crate::proofs::PlaceLemmas::ordered, crate::proofs::JoinedLemmas::joined))]
     fn ask_stop(&mut self, id: u64, code: u64) -> Result<(), AllocError>
         ensures keeps { Keeps [] self.old self.new }
         ensures alone { Alone id self.old self.new }
@@ -134,7 +134,7 @@ impl Connection {
     }
 
     // Gives up what waits on the peer's half.
-    #[tactic(auto, using(crate::proofs::KeepsLemmas::keep, crate::proofs::CutLemmas::alone, crate::proofs::KeepsLemmas::keeps_turned, crate::proofs::PlaceLemmas::ordered))]
+    #[tactic(auto, using(crate::proofs::KeepsLemmas::keep, crate::proofs::CutLemmas::alone, crate::proofs::KeepsLemmas::keeps_turned, crate::proofs::PlaceLemmas::ordered, crate::proofs::JoinedLemmas::joined))]
     fn abandon(&mut self, id: u64)
         ensures keeps { Keeps [] self.old self.new }
         ensures alone { Alone id self.old self.new }
@@ -180,7 +180,7 @@ impl Connection {
     }
 
     // Returns whether the program knows of a stream, and was not told that it is over.
-    fn knows(&self, id: u64) -> bool
+    pub(super) fn knows(&self, id: u64) -> bool
         ensures { result ≡ knows_of (stream_at self.now id) }
     {
         match self.streams.get(&id) {
@@ -223,7 +223,7 @@ impl Connection {
 
     // Drops what is kept of the peer's half, which is read no further. Returns by how many bytes QUIC's windows are to be
     // extended for it.
-    #[tactic(auto, using(crate::proofs::KeepsLemmas::keep, crate::proofs::KeepsLemmas::keeps_but_set, crate::proofs::KeepsLemmas::keeps_gone_set, crate::proofs::CutLemmas::alone, crate::proofs::TellsLemmas::gone_set, crate::proofs::PlaceLemmas::ordered))]
+    #[tactic(auto, using(crate::proofs::KeepsLemmas::keep, crate::proofs::KeepsLemmas::keeps_but_set, crate::proofs::KeepsLemmas::keeps_gone_set, crate::proofs::CutLemmas::alone, crate::proofs::TellsLemmas::gone_set, crate::proofs::PlaceLemmas::ordered, crate::proofs::JoinedLemmas::joined, crate::proofs::JoinedLemmas::stays_gone))]
     fn drop_half(&mut self, id: u64, is_over: bool) -> usize
         ensures keeps { KeepsBut id self.old self.new }
         ensures alone { Alone id self.old self.new }

@@ -141,7 +141,7 @@ impl Connection {
 
     // Returns the piece of content that is next in bytes of a stream.
     #[inline(always)]
-    #[tactic(auto, using(crate::proofs::LookLemmas::reads_set, crate::proofs::InstructionLemmas::may_after, crate::proofs::PieceLemmas::piece_keeps, std::proofs::lemmas::Map::Steps::set_value_same, crate::proofs::BoundLemmas::bound, crate::proofs::PlaceLemmas::ordered))]
+    #[tactic(auto, using(crate::proofs::LookLemmas::reads_set, crate::proofs::InstructionLemmas::may_after, crate::proofs::PieceLemmas::piece_keeps, std::proofs::lemmas::Map::Steps::set_value_same, crate::proofs::BoundLemmas::bound, crate::proofs::PlaceLemmas::ordered, crate::proofs::JoinedLemmas::joined))]
     fn piece_in<'a>(&mut self, id: u64, chunk: &mut Chunk<'a>) -> Option<Piece<'a>>
         ensures stream { IfSome result (λ p. p.stream ≡ id) }
         ensures reads { IfSome result (λ p. ReadsOn id (content p.bytes.now) self.old.streams.entries chunk.old
@@ -190,6 +190,7 @@ impl Entry {
         ensures place { (self.new.is_opened ≡ self.old.is_opened) × (self.new.is_blocked ≡ self.old.is_blocked)
             × (self.new.priority ≡ self.old.priority) }
         ensures read { (self.new.peer ≡ self.old.peer) × (self.new.is_decoder ≡ self.old.is_decoder) }
+        ensures holds { (self.new.has_session ≡ self.old.has_session) × (self.new.is_ended ≡ self.old.is_ended) }
         ensures fits { KeepsFit (theirs_of self.old) (theirs_of self.new) }
     {
         if !self.gives_pieces() {

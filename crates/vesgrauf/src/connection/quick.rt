@@ -126,7 +126,7 @@ impl Connection {
     }
 
     // Returns what is found in bytes of a stream that is read, of which nothing is kept and that waits for nothing.
-    #[tactic(auto, using(crate::proofs::KeepsOwnLemmas::hold, crate::proofs::KeepsOwnLemmas::holds_looked, crate::proofs::InstructionLemmas::may_after, crate::proofs::InstructionLemmas::may_rest, crate::proofs::LookLemmas::reads_set, crate::proofs::TellsLemmas::left_reads, crate::proofs::StepLemmas::left_itself, crate::proofs::BoundLemmas::bound, crate::proofs::BoundLemmas::bound_left, crate::proofs::PlaceLemmas::ordered))]
+    #[tactic(auto, using(crate::proofs::KeepsOwnLemmas::hold, crate::proofs::KeepsOwnLemmas::holds_looked, crate::proofs::InstructionLemmas::may_after, crate::proofs::InstructionLemmas::may_rest, crate::proofs::LookLemmas::reads_set, crate::proofs::TellsLemmas::left_reads, crate::proofs::StepLemmas::left_itself, crate::proofs::BoundLemmas::bound, crate::proofs::BoundLemmas::bound_left, crate::proofs::PlaceLemmas::ordered, crate::proofs::JoinedLemmas::joined))]
     fn read_plain<'a>(&mut self, id: u64, chunk: &mut Chunk<'a>) -> Result<Option<Found<'a>>, Stop>
         ensures keeps { KeepsOwn [] self.old self.new }
         ensures reads { IfOk result (λ found. ReadsOn id (items_if found) self.old.streams.entries chunk.old

@@ -78,7 +78,7 @@ impl Connection {
     }
 
     // Notes whether the end of the peer's half of a stream came.
-    #[tactic(auto, using(crate::proofs::KeepsLemmas::keep, crate::proofs::PlaceLemmas::ordered))]
+    #[tactic(auto, using(crate::proofs::KeepsLemmas::keep, crate::proofs::PlaceLemmas::ordered, crate::proofs::JoinedLemmas::joined, crate::proofs::JoinedLemmas::stays_ended))]
     fn note_end(&mut self, id: u64, is_last: bool)
         ensures keeps { Keeps [] self.old self.new }
     {
@@ -241,7 +241,7 @@ impl Connection {
     }
 
     // Returns what is found next on a stream, and by how many bytes QUIC's windows are then to be extended.
-    #[tactic(auto, using(crate::proofs::KeepsOwnLemmas::hold, crate::proofs::KeepsOwnLemmas::holds_looked, crate::proofs::InstructionLemmas::may_after, crate::proofs::InstructionLemmas::may_rest, crate::proofs::LookLemmas::reads_set, crate::proofs::TellsLemmas::left_reads, crate::proofs::StepLemmas::left_itself, crate::proofs::BoundLemmas::bound, crate::proofs::PlaceLemmas::ordered))]
+    #[tactic(auto, using(crate::proofs::KeepsOwnLemmas::hold, crate::proofs::KeepsOwnLemmas::holds_looked, crate::proofs::InstructionLemmas::may_after, crate::proofs::InstructionLemmas::may_rest, crate::proofs::LookLemmas::reads_set, crate::proofs::TellsLemmas::left_reads, crate::proofs::StepLemmas::left_itself, crate::proofs::BoundLemmas::bound, crate::proofs::PlaceLemmas::ordered, crate::proofs::JoinedLemmas::joined))]
     fn look<'a>(&mut self, id: u64, chunk: &mut Chunk<'a>) -> Result<(Found<'a>, usize), Stop>
         ensures keeps { KeepsOwn [] self.old self.new }
         ensures reads { IfOk result (λ r. ReadsOn id (items_found r.0) self.old.streams.entries chunk.old
@@ -297,7 +297,7 @@ impl Connection {
     }
 
     // Keeps the bytes of the input, however many are kept already.
-    #[tactic(auto, using(crate::proofs::KeepsOwnLemmas::holds_refl, crate::proofs::KeepsOwnLemmas::holds_looked, crate::proofs::LookLemmas::keep_set, crate::proofs::TellsLemmas::only_set, crate::proofs::TellsLemmas::only_none, crate::proofs::PlaceLemmas::ordered))]
+    #[tactic(auto, using(crate::proofs::KeepsOwnLemmas::holds_refl, crate::proofs::KeepsOwnLemmas::holds_looked, crate::proofs::LookLemmas::keep_set, crate::proofs::TellsLemmas::only_set, crate::proofs::TellsLemmas::only_none, crate::proofs::PlaceLemmas::ordered, crate::proofs::JoinedLemmas::joined))]
     fn keep_input<'a>(&mut self, id: u64, input: &mut Input<'a>, most: usize) -> Result<(), Stop>
         ensures keeps { KeepsOwn [] self.old self.new }
         ensures same { input.old.report ≡ report.Stream id
@@ -335,7 +335,7 @@ impl Connection {
     }
 
     // Holds nothing of a stream back any more. Returns how many bytes were.
-    #[tactic(auto, using(crate::proofs::KeepsLemmas::keep, crate::proofs::PlaceLemmas::ordered))]
+    #[tactic(auto, using(crate::proofs::KeepsLemmas::keep, crate::proofs::PlaceLemmas::ordered, crate::proofs::JoinedLemmas::joined))]
     fn take_withheld(&mut self, id: u64) -> usize
         ensures keeps { Keeps [] self.old self.new }
     {
@@ -385,7 +385,7 @@ impl Connection {
     }
 
     // More of a stream is kept than may be. Returns the fault.
-    #[tactic(auto, using(crate::proofs::KeepsLemmas::keep, crate::proofs::KeepsLemmas::keeps_turned, crate::proofs::PlaceLemmas::ordered))]
+    #[tactic(auto, using(crate::proofs::KeepsLemmas::keep, crate::proofs::KeepsLemmas::keeps_turned, crate::proofs::PlaceLemmas::ordered, crate::proofs::JoinedLemmas::joined))]
     fn overflow(&mut self, id: u64) -> Joining
         ensures keeps { Keeps [] self.old self.new }
     {

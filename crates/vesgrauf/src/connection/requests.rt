@@ -7,6 +7,7 @@ ghost use Rattle.vesgrauf.specs.Messages.{allowed, Encodes, IsRequest};
 ghost use Rattle.vesgrauf.specs.Ids.{taken};
 ghost use Rattle.vesgrauf.specs.Streams.{new_entry};
 ghost use Rattle.vesgrauf.specs.declared.entry.Peer.TheVariants as peers;
+ghost use Rattle.vesgrauf.specs.Joined.{holds_in};
 ghost use Rattle.vesgrauf.specs.Members.{session_in};
 ghost use Rattle.vesgrauf.specs.Own.{entry_at, UntouchedBut};
 ghost use Rattle.vesgrauf.specs.Told.{GoesOn, AreOthers, IsUndone, knows};
@@ -37,7 +38,7 @@ impl Connection {
     /// allows; `Full` if as many requests wait for QUIC as [`max_unopened`](crate::config::Config) says: an event
     /// [`Openable`](crate::event::EventKind) follows; `NoMoreIds`; `Send` if it would be malformed or the peer does not
     /// support it; and `Memory`.
-    #[tactic(auto, using(crate::proofs::KeepsLemmas::kept, crate::proofs::IdLemmas::goes_opens, crate::proofs::GoesLemmas::goes_still, crate::proofs::IdLemmas::keeps_still))]
+    #[tactic(auto, using(crate::proofs::KeepsLemmas::kept, crate::proofs::IdLemmas::goes_opens, crate::proofs::GoesLemmas::goes_still, crate::proofs::IdLemmas::keeps_still, crate::proofs::JoinedLemmas::joined_taken))]
     pub fn request(&mut self, list: &FieldList, fin: bool) -> Result<u64, Refused>
         ensures id { IfOk result (λ id. id ≡ self.old.ids.bidirectional) }
         ensures room { IfOk result (λ id. may_wait self.old kinds.Bidirectional ≡ true) }
@@ -115,7 +116,7 @@ impl Connection {
     }
 
     // Opens the stream of a request.
-    #[tactic(auto, using(crate::proofs::IdLemmas::others_untouched, crate::proofs::PlaceLemmas::ordered_removed))]
+    #[tactic(auto, using(crate::proofs::IdLemmas::others_untouched, crate::proofs::PlaceLemmas::ordered_removed, crate::proofs::JoinedLemmas::joined_removed))]
     fn open_request(
         &mut self,
         id: u64,
@@ -135,6 +136,9 @@ impl Connection {
         ensures ids { self.new.ids ≡ self.old.ids }
     {
         let session = session_id(id)?;
+        if self.has_stream(id) {
+            return Err(Refused::NoMoreIds);
+        }
         let allows = self.allows();
         // (what a stream takes of memory is taken before the section is encoded)
         let mut blank = self.blank_entry(asked);
@@ -174,10 +178,12 @@ impl Connection {
         )
     }
 
-    // Puts the entry of a stream in its place.
-    #[tactic(auto, using(crate::proofs::KeepsLemmas::keep, crate::proofs::PlaceLemmas::ordered_new_closed, crate::proofs::PlaceLemmas::ordered_replaced))]
+    // Puts the entry of a stream in its place, where there was none whose session counts.
+    #[tactic(auto, using(crate::proofs::KeepsLemmas::keep, crate::proofs::PlaceLemmas::ordered_new_closed, crate::proofs::PlaceLemmas::ordered_replaced, crate::proofs::JoinedLemmas::joined_put))]
     fn put_entry(&mut self, id: u64, entry: Entry) -> Result<(), Refused>
-        requires { entry.is_opened ≡ false }
+        requires closed { entry.is_opened ≡ false }
+        requires alone { entry.session ≡ None }
+        requires free { holds_in (stream_at self.old id) ≡ false }
         ensures here { OnOk result (stream_at self.new id ≡ Some entry) }
         ensures alone { OnOk result (AreOthers id self.old.streams.entries self.new.streams.entries) }
         ensures view { view_of self.new ≡ record (view_of self.old) { streams = self.new.streams.entries } }

@@ -162,7 +162,7 @@ impl Connection {
     ///
     /// `NoStream`; `NotAsked` if so many bytes were not returned; `Memory`: nothing changes, and the call is to be made
     /// again.
-    #[tactic(auto, using(crate::proofs::KeepsLemmas::kept))]
+    #[tactic(auto, using(crate::proofs::KeepsLemmas::kept, crate::proofs::LastsLemmas::lasts_refl))]
     pub fn sent(&mut self, id: u64, len: usize) -> Result<(), Refused>
         ensures refused { IfErr result (λ e. IsRefused e self.old self.new) }
         ensures own { UntouchedBut id self.old.streams.entries self.new.streams.entries }
@@ -177,6 +177,7 @@ impl Connection {
             → TookOwn len self.old.decoder self.new.decoder) }
         ensures encoder { OnOk result (is_it id self.old.control.id ≡ false → is_it id self.old.decoder.id ≡ false
             → is_it id self.old.encoder.id ≡ true → TookOwn len self.old.encoder self.new.encoder) }
+        ensures lasts { LastsBut id self.old self.new }
     {
         self.reserve()?;
         let spares = &mut self.tools.spares;
@@ -202,6 +203,7 @@ impl Connection {
         ensures left { Left self.old.streams.entries self.new.streams.entries }
         ensures config { self.new.config ≡ self.old.config }
         ensures goes { GoesOn [] self.old self.new }
+        ensures lasts { LastsBut id self.old self.new }
     {
         let is_done = self.message_sent(id, len)?;
         Ok(self.after_sent(id, is_done)?)
@@ -222,7 +224,7 @@ impl Connection {
     // QUIC took bytes of a stream that is not critical, whose turn it was. Returns whether nothing is to be done for its own
     // half any more.
     #[inline(always)]
-    #[tactic(auto, using(crate::proofs::KeepsLemmas::kept, crate::proofs::OwnLemmas::took_set, crate::proofs::TheirsLemmas::left_set, crate::proofs::GoesLemmas::goes_set, std::proofs::lemmas::Map::Steps::set_value_same, crate::proofs::PlaceLemmas::ordered_turned))]
+    #[tactic(auto, using(crate::proofs::KeepsLemmas::kept, crate::proofs::OwnLemmas::took_set, crate::proofs::TheirsLemmas::left_set, crate::proofs::GoesLemmas::goes_set, std::proofs::lemmas::Map::Steps::set_value_same, crate::proofs::PlaceLemmas::ordered_turned, crate::proofs::JoinedLemmas::joined_stays, crate::proofs::JoinedLemmas::stays_put, crate::proofs::LastsLemmas::lasts_refl, crate::proofs::LastsLemmas::lasts_but_set))]
     fn message_sent(&mut self, id: u64, len: usize) -> Result<bool, Refused>
         ensures refused { OnErr result (IsStill self.old self.new) }
         ensures own { UntouchedBut id self.old.streams.entries self.new.streams.entries }
@@ -231,6 +233,7 @@ impl Connection {
         ensures left { Left self.old.streams.entries self.new.streams.entries }
         ensures config { self.new.config ≡ self.old.config }
         ensures goes { GoesOn [] self.old self.new }
+        ensures lasts { LastsBut id self.old self.new }
     {
         let Some(entry) = self.streams.get_mut(&id) else {
             return Err(Refused::NoStream);
@@ -276,7 +279,7 @@ impl Connection {
     }
 
     // Returns whether a `Writable` is owed on a stream, which is then told.
-    #[tactic(auto, using(crate::proofs::KeepsLemmas::keep, crate::proofs::PlaceLemmas::ordered_step, crate::proofs::PlaceLemmas::told_more))]
+    #[tactic(auto, using(crate::proofs::KeepsLemmas::keep, crate::proofs::PlaceLemmas::ordered_step, crate::proofs::PlaceLemmas::told_more, crate::proofs::JoinedLemmas::joined_half, crate::proofs::JoinedLemmas::out_told))]
     fn take_writable(&mut self, id: u64) -> bool
         ensures keeps { Keeps [] self.old self.new }
     {
@@ -344,7 +347,7 @@ impl Connection {
 
     // The peer has more of the bytes of a stream that is not critical. Returns whether nothing is to be done for its own half
     // any more.
-    #[tactic(auto, using(crate::proofs::KeepsLemmas::keep, std::proofs::lemmas::Map::Steps::set_value_same, crate::proofs::PlaceLemmas::ordered_step, crate::proofs::PlaceLemmas::more_acked))]
+    #[tactic(auto, using(crate::proofs::KeepsLemmas::keep, std::proofs::lemmas::Map::Steps::set_value_same, crate::proofs::PlaceLemmas::ordered_step, crate::proofs::PlaceLemmas::more_acked, crate::proofs::JoinedLemmas::joined_half, crate::proofs::JoinedLemmas::out_acked, crate::proofs::JoinedLemmas::out_same))]
     fn acked_on(&mut self, id: u64, len: u64) -> Result<bool, Refused>
         ensures refused { IfErr result (λ e. IsRefused e self.old self.new) }
         ensures acks { OnOk result (is_some (stream_at self.old id) ≡ true
@@ -365,11 +368,11 @@ impl Connection {
         ensures closes { self.new.closes ≡ self.old.closes }
     {
         self.note_reset_sent(id);
-        self.remove_if_done(id)
+        self.forget_if_done(id)
     }
 
     // QUIC took the reset of a stream.
-    #[tactic(auto, using(crate::proofs::KeepsLemmas::keep, crate::proofs::PlaceLemmas::ordered_step, crate::proofs::PlaceLemmas::reset_put_more))]
+    #[tactic(auto, using(crate::proofs::KeepsLemmas::keep, crate::proofs::PlaceLemmas::ordered_step, crate::proofs::PlaceLemmas::reset_put_more, crate::proofs::JoinedLemmas::joined_half, crate::proofs::JoinedLemmas::out_reset_put))]
     fn note_reset_sent(&mut self, id: u64)
         ensures keeps { Keeps [] self.old self.new }
         ensures outputs { self.new.outputs ≡ self.old.outputs }
@@ -386,7 +389,7 @@ impl Connection {
     /// # Errors
     ///
     /// `Memory`: nothing changes, and the call is to be made again.
-    #[tactic(auto, using(crate::proofs::KeepsLemmas::kept, crate::proofs::IdLemmas::goes_blocked))]
+    #[tactic(auto, using(crate::proofs::KeepsLemmas::kept, crate::proofs::IdLemmas::goes_blocked, crate::proofs::JoinedLemmas::joined_blocked))]
     pub fn set_blocked(&mut self, scope: Scope, blocked: bool) -> Result<(), Refused>
         ensures ok { OnOk result (view_of self.new ≡ blocked_at scope self.old blocked) }
         ensures err { IfErr result (λ e. e ≡ refused.Memory) }
@@ -407,7 +410,7 @@ impl Connection {
     }
 
     // QUIC takes nothing of a stream for now, or does again.
-    #[tactic(auto, using(crate::proofs::KeepsLemmas::kept, std::proofs::lemmas::Map::Steps::set_value_same, crate::proofs::GoesLemmas::goes_set, crate::proofs::PlaceLemmas::ordered, crate::proofs::PlaceLemmas::ordered_blocked, crate::proofs::PlaceLemmas::ordered_quiet, crate::proofs::PlaceLemmas::ordered_closed))]
+    #[tactic(auto, using(crate::proofs::KeepsLemmas::kept, std::proofs::lemmas::Map::Steps::set_value_same, crate::proofs::GoesLemmas::goes_set, crate::proofs::PlaceLemmas::ordered, crate::proofs::JoinedLemmas::joined, crate::proofs::PlaceLemmas::ordered_blocked, crate::proofs::PlaceLemmas::ordered_quiet, crate::proofs::PlaceLemmas::ordered_closed))]
     fn block_stream(&mut self, id: u64, blocked: bool) -> Result<(), Refused>
         ensures ok { OnOk result (view_of self.new ≡ blocked_in self.old id blocked) }
         ensures err { IfErr result (λ e. e ≡ refused.Memory) }
@@ -434,7 +437,11 @@ impl Connection {
             entry.is_blocked = true;
             return Ok(());
         }
-        if !entry.is_opened || !entry.has_more() {
+        if !entry.is_opened {
+            entry.is_blocked = false;
+            return Ok(());
+        }
+        if !entry.has_more() {
             entry.is_blocked = false;
             return Ok(());
         }

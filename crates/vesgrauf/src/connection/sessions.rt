@@ -1,21 +1,22 @@
 //! Sessions.
-ghost use Rattle.std.specs.Prelude.{◌≡◌, ◌⊎◌, ◌+◌, ◌-◌, ◌^◌, min, true, false, List, Ok, Err, OnOk, OnErr, IfErr, IfOk, [], ◌∷◌};
+ghost use Rattle.std.specs.Prelude.{◌≡◌, ◌⊎◌, ◌==◌, ◌&&◌, length, ◌+◌, ◌-◌, ◌^◌, min, is_some, true, false, List, Ok, Err, OnOk, OnErr, IfErr, IfOk, [], ◌∷◌};
+ghost use Rattle.vesgrauf.specs.Joined.{holds_in};
 ghost use Rattle.vesgrauf.specs.Order.{LooksAtAll};
 ghost use Rattle.vesgrauf.specs.Messages.{ClosesSession, ChangesThen};
 ghost use Rattle.vesgrauf_stream.specs.Writing.{Drains, Ends as EndsHalf, Closes as ClosesHalf};
+ghost use Rattle.vesgrauf.specs.Halves.{LastsBut, LastsOn};
 ghost use Rattle.vesgrauf.specs.Keeps.{Keeps, KeepsBut};
-ghost use Rattle.vesgrauf.specs.State.{IsStill, IsRefused, Changes, IsWhy, RefusesDrain, is_over, known_in, open_session};
-ghost use Rattle.vesgrauf.specs.Own.{UntouchedBut};
+ghost use Rattle.vesgrauf.specs.State.{stream_at, IsStill, IsRefused, Changes, IsWhy, RefusesDrain, is_over, known_in, open_session};
+ghost use Rattle.vesgrauf.specs.Own.{UntouchedBut, entry_at};
 ghost use Rattle.vesgrauf.specs.Items.{Item, Section, Asks};
 ghost use Rattle.wtp_webtransport.specs.declared.event.HeadersKind.TheVariants as headers;
 ghost use Rattle.vesgrauf.specs.Theirs.{Left, Gone, Hands, IsSilent, theirs_at, told_in};
-ghost use Rattle.vesgrauf.specs.Told.{GoesOn, Sound, said_by, said_in};
+ghost use Rattle.vesgrauf.specs.Told.{GoesOn, said_by, said_in};
 ghost use Rattle.vesgrauf.specs.Cuts.{AreCut};
 ghost use Rattle.wtp_connection.specs.declared.connection.Known.TheVariants as known;
 
 use crate::connection::placing::{keep_place, take_place};
 use crate::connection::{Connection, Step, Stop};
-use crate::entry::SHARED;
 use crate::event::{EventKind, Tunnel, Why};
 use crate::refused::Refused;
 use std::alloc::AllocError;
@@ -74,18 +75,23 @@ impl Connection {
     }
 
     // The request on a stream asks for a session.
-    #[tactic(auto, using(crate::proofs::KeepsLemmas::keep, crate::proofs::PlaceLemmas::ordered, crate::proofs::PlaceLemmas::ordered_quiet))]
     fn begin_session(&mut self, id: u64)
         ensures keeps { Keeps [] self.old self.new }
     {
         self.note_request(id, Asked::Session);
         self.sessions = self.sessions.saturating_add(1);
+        self.note_session(id);
+        self.share(id);
+    }
+
+    // This is the own stream of a session, which counts.
+    #[tactic(auto, using(crate::proofs::KeepsLemmas::keep, crate::proofs::PlaceLemmas::ordered, crate::proofs::JoinedLemmas::joined_holds))]
+    fn note_session(&mut self, id: u64)
+        ensures keeps { Keeps [] self.old self.new }
+    {
         if let Some(entry) = self.streams.get_mut(&id) {
             entry.is_session = true;
             entry.has_session = true;
-            if !entry.has_more() {
-                entry.priority = SHARED;
-            }
         }
     }
 
@@ -218,6 +224,26 @@ impl Connection {
         Some(session)
     }
 
+    // Returns whether there is a stream with this ID.
+    pub(super) fn has_stream(&self, id: u64) -> bool
+        ensures { result ≡ is_some (stream_at self.now id) }
+    {
+        match self.streams.get(&id) {
+            Some(_) => true,
+            None => false,
+        }
+    }
+
+    // Returns whether a session counts whose own stream this is: it is to come, or open.
+    pub(super) fn has_session(&self, id: u64) -> bool
+        ensures { result ≡ holds_in (stream_at self.now id) }
+    {
+        match self.streams.get(&id) {
+            Some(entry) => entry.has_session,
+            None => false,
+        }
+    }
+
     // Returns whether this is the own stream of a session.
     pub(super) fn is_session(&self, id: u64) -> bool {
         match self.streams.get(&id) {
@@ -232,7 +258,7 @@ impl Connection {
     /// last call of this, and whose session is not open, is dropped (draft-ietf-webtrans-http3-02, section 4.5; RFC 9297,
     /// section 2.1). So what comes too early waits for one to two of these times, and does not keep the place of another
     /// for ever. After the end of the connection nothing changes.
-    #[tactic(auto, using(crate::proofs::KeepsLemmas::kept))]
+    #[tactic(auto, using(crate::proofs::KeepsLemmas::kept, crate::proofs::LastsLemmas::lasts_refl))]
     pub fn tick(&mut self)
         ensures over { is_over self.old ≡ true → self.new ≡ self.old }
         ensures still { IsStill self.old self.new }
@@ -246,6 +272,7 @@ impl Connection {
           datagrams = record self.old.datagrams { early = self.new.datagrams.early; aged = self.new.datagrams.aged };
           pending = record self.old.pending { is_woken = true; cursor = 0 };
         } }
+        ensures lasts { LastsOn [] self.old self.new }
     {
         if self.ended.is_some() {
             return;
@@ -280,7 +307,7 @@ impl Connection {
     /// # Errors
     ///
     /// Nothing changes. `Closed`; `SessionGone`; `NotOpen`; and `Memory`.
-    #[tactic(auto, using(crate::proofs::KeepsLemmas::kept, crate::proofs::TheirsLemmas::left_set, std::proofs::lemmas::Map::Steps::set_value_same, crate::proofs::GoesLemmas::goes_set, crate::proofs::PlaceLemmas::ordered, crate::proofs::PlaceLemmas::ordered_sent))]
+    #[tactic(auto, using(crate::proofs::KeepsLemmas::kept, crate::proofs::TheirsLemmas::left_set, std::proofs::lemmas::Map::Steps::set_value_same, crate::proofs::GoesLemmas::goes_set, crate::proofs::PlaceLemmas::ordered, crate::proofs::JoinedLemmas::joined, crate::proofs::PlaceLemmas::ordered_sent))]
     pub fn drain_session(&mut self, session: u64) -> Result<(), Refused>
         ensures open { OnOk result (open_session self.old session ≡ Ok tt) }
         ensures ok { OnOk result (Changes session Drains self.old self.new) }
@@ -310,7 +337,7 @@ impl Connection {
     /// # Errors
     ///
     /// Nothing changes. `Closed`; `SessionGone`; `NotOpen`; `Send` if the reason has more than 1,024 bytes; and `Memory`.
-    #[tactic(auto, using(crate::proofs::KeepsLemmas::kept, crate::proofs::OwnLemmas::but_then, crate::proofs::StepLemmas::left_trans))]
+    #[tactic(auto, using(crate::proofs::KeepsLemmas::kept, crate::proofs::OwnLemmas::but_then, crate::proofs::StepLemmas::left_trans, crate::proofs::LastsLemmas::lasts_refl))]
     pub fn close_session(&mut self, session: u64, code: u32, reason: &str) -> Result<(), Refused>
         ensures open { OnOk result (open_session self.old session ≡ Ok tt) }
         ensures refused { IfErr result (λ e. IsRefused e self.old self.new) }
@@ -319,8 +346,9 @@ impl Connection {
         ensures config { self.new.config ≡ self.old.config }
         ensures goes { GoesOn [] self.old self.new }
         ensures closes { OnOk result (ChangesThen session (ClosesSession code reason.now) self.old self.new) }
-        ensures cut { Sound self.old.streams.entries self.old.ids
-            → OnOk result (AreCut session self.old.streams.entries self.new.streams.entries) }
+        ensures cut { OnOk result (AreCut session self.old.streams.entries self.new.streams.entries) }
+        ensures over { OnOk result (holds_in (entry_at self.new.streams.entries session) ≡ false) }
+        ensures lasts { LastsBut session self.old self.new }
     {
         self.check_session(session)?;
         self.put_close(session, code, reason)?;
@@ -328,7 +356,7 @@ impl Connection {
     }
 
     // Queues the end of a session.
-    #[tactic(auto, using(crate::proofs::KeepsLemmas::kept, crate::proofs::TheirsLemmas::left_set, std::proofs::lemmas::Map::Steps::set_value_same, crate::proofs::GoesLemmas::goes_set))]
+    #[tactic(auto, using(crate::proofs::KeepsLemmas::kept, crate::proofs::TheirsLemmas::left_set, std::proofs::lemmas::Map::Steps::set_value_same, crate::proofs::GoesLemmas::goes_set, crate::proofs::LastsLemmas::lasts_refl))]
     fn put_close(&mut self, session: u64, code: u32, reason: &str) -> Result<(), Refused>
         ensures closes { OnOk result (Changes session (ClosesSession code reason.now) self.old self.new) }
         ensures kept { OnErr result (IsStill self.old self.new) }
@@ -336,13 +364,14 @@ impl Connection {
         ensures left { Left self.old.streams.entries self.new.streams.entries }
         ensures config { self.new.config ≡ self.old.config }
         ensures goes { GoesOn [] self.old self.new }
+        ensures lasts { LastsBut session self.old self.new }
     {
         self.begin_send(session)?;
         self.close_half(session, code, reason)
     }
 
     // Ends the own half of a session, by its end or by a code and a reason.
-    #[tactic(auto, using(crate::proofs::KeepsLemmas::kept, crate::proofs::TheirsLemmas::left_set, std::proofs::lemmas::Map::Steps::set_value_same, crate::proofs::GoesLemmas::goes_set, crate::proofs::PlaceLemmas::ordered, crate::proofs::PlaceLemmas::ordered_sent))]
+    #[tactic(auto, using(crate::proofs::KeepsLemmas::kept, crate::proofs::TheirsLemmas::left_set, std::proofs::lemmas::Map::Steps::set_value_same, crate::proofs::GoesLemmas::goes_set, crate::proofs::PlaceLemmas::ordered, crate::proofs::PlaceLemmas::ordered_sent, crate::proofs::LastsLemmas::lasts_refl))]
     fn close_half(&mut self, session: u64, code: u32, reason: &str) -> Result<(), Refused>
         ensures closes { OnOk result (Changes session (ClosesSession code reason.now) self.old self.new) }
         ensures kept { OnErr result (IsStill self.old self.new) }
@@ -350,15 +379,16 @@ impl Connection {
         ensures left { Left self.old.streams.entries self.new.streams.entries }
         ensures config { self.new.config ≡ self.old.config }
         ensures goes { GoesOn [] self.old self.new }
+        ensures lasts { LastsBut session self.old self.new }
     {
-        if code == 0 && reason.is_empty() {
+        if says_nothing(code, reason) {
             return self.end_half(session);
         }
         self.say_close(session, code, reason)
     }
 
     // Ends the own half of a session by its end.
-    #[tactic(auto, using(crate::proofs::KeepsLemmas::kept, crate::proofs::TheirsLemmas::left_set, std::proofs::lemmas::Map::Steps::set_value_same, crate::proofs::GoesLemmas::goes_set, crate::proofs::PlaceLemmas::ordered))]
+    #[tactic(auto, using(crate::proofs::KeepsLemmas::kept, crate::proofs::TheirsLemmas::left_set, std::proofs::lemmas::Map::Steps::set_value_same, crate::proofs::GoesLemmas::goes_set, crate::proofs::PlaceLemmas::ordered, crate::proofs::JoinedLemmas::joined, crate::proofs::LastsLemmas::lasts_refl, crate::proofs::LastsLemmas::lasts_but_set))]
     fn end_half(&mut self, session: u64) -> Result<(), Refused>
         ensures ends { OnOk result (Changes session EndsHalf self.old self.new) }
         ensures kept { OnErr result (IsStill self.old self.new) }
@@ -366,6 +396,7 @@ impl Connection {
         ensures left { Left self.old.streams.entries self.new.streams.entries }
         ensures config { self.new.config ≡ self.old.config }
         ensures goes { GoesOn [] self.old self.new }
+        ensures lasts { LastsBut session self.old self.new }
     {
         let Some(entry) = self.streams.get_mut(&session) else {
             return Err(Refused::NotOpen);
@@ -377,7 +408,7 @@ impl Connection {
     }
 
     // Ends the own half of a session by a code and a reason.
-    #[tactic(auto, using(crate::proofs::KeepsLemmas::kept, crate::proofs::TheirsLemmas::left_set, std::proofs::lemmas::Map::Steps::set_value_same, crate::proofs::GoesLemmas::goes_set, crate::proofs::PlaceLemmas::ordered))]
+    #[tactic(auto, using(crate::proofs::KeepsLemmas::kept, crate::proofs::TheirsLemmas::left_set, std::proofs::lemmas::Map::Steps::set_value_same, crate::proofs::GoesLemmas::goes_set, crate::proofs::PlaceLemmas::ordered, crate::proofs::JoinedLemmas::joined, crate::proofs::LastsLemmas::lasts_refl, crate::proofs::LastsLemmas::lasts_but_set))]
     fn say_close(&mut self, session: u64, code: u32, reason: &str) -> Result<(), Refused>
         ensures closes { OnOk result (Changes session (ClosesHalf code reason.now) self.old self.new) }
         ensures kept { OnErr result (IsStill self.old self.new) }
@@ -385,6 +416,7 @@ impl Connection {
         ensures left { Left self.old.streams.entries self.new.streams.entries }
         ensures config { self.new.config ≡ self.old.config }
         ensures goes { GoesOn [] self.old self.new }
+        ensures lasts { LastsBut session self.old self.new }
     {
         let Some(entry) = self.streams.get_mut(&session) else {
             return Err(Refused::NotOpen);
@@ -401,12 +433,19 @@ impl Connection {
     #[tactic(auto, using(crate::proofs::KeepsLemmas::but))]
     fn session_ended(&mut self, session: u64) -> Result<(), AllocError>
         ensures keeps { KeepsBut session self.old self.new }
-        ensures cut { Sound self.old.streams.entries self.old.ids
-            → OnOk result (AreCut session self.old.streams.entries self.new.streams.entries) }
+        ensures cut { OnOk result (AreCut session self.old.streams.entries self.new.streams.entries) }
+        ensures over { OnOk result (holds_in (entry_at self.new.streams.entries session) ≡ false) }
     {
         self.end_session(session)?;
         self.drop_peer(session)?;
         self.cancel_left(session);
-        self.remove_if_done(session)
+        self.forget_if_done(session)
     }
+}
+
+// Returns whether a session is closed by the end of its stream alone, without a code and a reason.
+fn says_nothing(code: u32, reason: &str) -> bool
+    ensures { result ≡ (code == 0 && length reason.now == 0) }
+{
+    code == 0 && reason.is_empty()
 }

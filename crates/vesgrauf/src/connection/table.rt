@@ -42,9 +42,9 @@ impl Connection {
     }
 
     // Takes the ID of an own critical stream, if there is one left.
-    #[tactic(auto, using(crate::proofs::KeepsLemmas::kept))]
+    #[tactic(auto, using(crate::proofs::KeepsLemmas::kept, crate::proofs::JoinedLemmas::joined_taken))]
     pub(super) fn take_critical(&mut self) -> Option<u64>
-        ensures others { self.new ≡ record self.old { ids = self.new.ids } }
+        ensures others { view_of self.new ≡ record (view_of self.old) { ids = self.new.ids } }
         ensures goes { GoesOn [] self.old self.new }
     {
         let id = self.ids.next(StreamKind::Unidirectional);
@@ -167,7 +167,7 @@ impl Connection {
     }
 
     // Tells the peer's encoder that a stream is left, once (RFC 9204, section 2.2.2.2).
-    #[tactic(auto, using(crate::proofs::KeepsLemmas::keep, crate::proofs::CutLemmas::alone, crate::proofs::ReadsLemmas::set_here, std::proofs::lemmas::Map::Steps::set_value_same, crate::proofs::PlaceLemmas::ordered))]
+    #[tactic(auto, using(crate::proofs::KeepsLemmas::keep, crate::proofs::CutLemmas::alone, crate::proofs::ReadsLemmas::set_here, std::proofs::lemmas::Map::Steps::set_value_same, crate::proofs::PlaceLemmas::ordered, crate::proofs::JoinedLemmas::joined))]
     pub(super) fn cancel(&mut self, id: u64) -> Result<(), AllocError>
         ensures ok { OnOk result (Cancels id self.old self.new) }
         ensures err { OnErr result (IsStill self.old self.new) }

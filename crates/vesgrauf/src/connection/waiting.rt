@@ -1,7 +1,7 @@
 //! Streams that wait.
 ghost use Rattle.std.specs.Prelude.{◌≡◌, true, []};
 ghost use Rattle.vesgrauf.specs.Keeps.{Keeps};
-ghost use Rattle.vesgrauf.specs.State.{known_in};
+ghost use Rattle.vesgrauf.specs.State.{known_in, unless_over as unless_over_is};
 ghost use Rattle.vesgrauf.specs.Theirs.{IsSilent};
 ghost use Rattle.vesgrauf.specs.Told.{said_in};
 
@@ -134,13 +134,13 @@ impl Connection {
         }
     }
 
-    // Returns what is known of a session. At a client any of its requests is over that has no stream left, and was that of
-    // a session for all that is known.
+    // Returns what is known of a session. One that ended here is over. At a client any of its requests is over that has no
+    // stream left, and was that of a session for all that is known.
     pub(super) fn known(&self, session: u64) -> Known
         ensures { result ≡ known_in self.now session }
     {
         match self.streams.get(&session) {
-            Some(entry) => entry.reading.known(&self.shared),
+            Some(entry) => unless_over(entry.has_session, entry.reading.known(&self.shared)),
             None => match self.config.side {
                 Side::Server => self.shared.known_without_stream(session),
                 Side::Client => {
@@ -152,5 +152,15 @@ impl Connection {
                 }
             },
         }
+    }
+}
+
+// Returns what is known of a session that its stream shows as this: it is open only if it did not end here.
+fn unless_over(counts: bool, known: Known) -> Known
+    ensures { result ≡ unless_over_is counts known }
+{
+    match known {
+        Known::Open if !counts => Known::Over,
+        known => known,
     }
 }

@@ -1,4 +1,4 @@
-use Rattle.std.proofs.Common.{rules, ◌≡◌, ◌<◌, ◌^◌, None, refl, ap, sym, ◌∙◌, arith}
+use Rattle.std.proofs.Common.{◌≡◌, ◌<◌, ◌^◌, None, refl, ap, sym, ◌∙◌, arith}
 use Rattle.std.specs.Prelude.{nat_lt}
 use Rattle.vesgrauf.specs.Ids.{next_peer}
 use Rattle.vesgrauf.specs.Keeps.{KeptOwn}
@@ -6,6 +6,7 @@ use Rattle.vesgrauf.specs.Own.{entry_at}
 use Rattle.vesgrauf.proofs.LastsLemmas.{lasts_insert}
 use Rattle.vesgrauf.proofs.IdLemmas.{goes_accepts}
 use Rattle.vesgrauf.proofs.OwnLemmas.{new_insert}
+use Rattle.vesgrauf.proofs.JoinedLemmas.{joined_new, joined_seen, not_there}
 use Rattle.vesgrauf.proofs.PlaceLemmas.{ordered_new_quiet}
 use Rattle.vesgrauf.proofs.TellsLemmas.{accepts_insert}
 use Rattle.vesgrauf.proofs.connection.Connection.accept_next.Goals as goal
@@ -44,13 +45,23 @@ returns-clause-accepts c = accepts_insert c.args.self.now.ids c.see_next.new.sel
     (rw c.entry_of_peer-entry.ensures.ids at c.see_next.ensures) c.in_ok-insert.ensures.updates.1
     (rw (ap (λ m. m.entries) c.entry_of_peer-entry.ensures.streams) at c.in_ok-insert.ensures.updates.2)
 
-pub invariant_of-self-2 : goal.invariant_of-self-2
-invariant_of-self-2 c =
-    let none : entry_at c.args.self.now.streams.entries c.next_of_peer-next.result ≡ None = search (rules) in
-    record {
-      ordered = ordered_new_quiet c.entry_of_peer-entry.new.self.streams c.insert.new.self
-          c.entry_of_peer-entry.new.self.ready.ranks c.entry_of_peer-entry.new.self.unplaced c.next_of_peer-next.result
-          c.entry_of_peer-entry.result
-          (ap (λ m. entry_at m.entries c.next_of_peer-next.result) c.entry_of_peer-entry.ensures.streams ∙ none)
-          c.entry_of_peer-entry.ensures.idle c.in_ok-insert.ensures.updates c.entry_of_peer-entry.new.self.ordered;
-    }
+pub invariant_of-self-2-clause-ordered : goal.invariant_of-self-2-clause-ordered
+invariant_of-self-2-clause-ordered c =
+    let none : entry_at c.args.self.now.streams.entries c.next_of_peer-next.result ≡ None
+    = not_there _ c.has_stream.result c.has_stream.ensures c.if-has_stream.false in
+    ordered_new_quiet c.entry_of_peer-entry.new.self.streams c.insert.new.self
+    c.entry_of_peer-entry.new.self.ready.ranks c.entry_of_peer-entry.new.self.unplaced c.next_of_peer-next.result
+    c.entry_of_peer-entry.result
+    (ap (λ m. entry_at m.entries c.next_of_peer-next.result) c.entry_of_peer-entry.ensures.streams ∙ none)
+    c.entry_of_peer-entry.ensures.idle c.in_ok-insert.ensures.updates c.entry_of_peer-entry.new.self.ordered
+
+pub invariant_of-self-2-clause-joined : goal.invariant_of-self-2-clause-joined
+invariant_of-self-2-clause-joined c =
+    let none : entry_at c.args.self.now.streams.entries c.next_of_peer-next.result ≡ None
+    = not_there _ c.has_stream.result c.has_stream.ensures c.if-has_stream.false in
+    joined_seen c.insert.new.self.entries c.entry_of_peer-entry.new.self.ids c.see_next.new.self c.of.result
+    c.see_next.ensures
+    (joined_new c.entry_of_peer-entry.new.self.streams c.insert.new.self c.entry_of_peer-entry.new.self.ids
+    c.next_of_peer-next.result c.entry_of_peer-entry.result
+    (ap (λ m. entry_at m.entries c.next_of_peer-next.result) c.entry_of_peer-entry.ensures.streams ∙ none)
+    c.entry_of_peer-entry.ensures.alone c.in_ok-insert.ensures.updates c.entry_of_peer-entry.new.self.joined)

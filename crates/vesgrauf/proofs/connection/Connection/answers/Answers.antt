@@ -13,3 +13,6 @@ returns-in-Ok-clause-keeps c =
     holds_then (keeps_holds (keeps_weak c.args.id c.note_other.ensures.keeps))
     (KeptOwn (λ m. absurd (other m)) c.respond.ensures.goes c.respond.ensures.config c.respond.ensures.ends
     (λ m. absurd (other m)))
+
+pub returns-in-Err-clause-keeps : goal.returns-in-Err-clause-keeps
+returns-in-Err-clause-keeps c = keeps_holds (keeps_weak c.args.id c.note_other.ensures.keeps)

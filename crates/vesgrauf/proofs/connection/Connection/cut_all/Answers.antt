@@ -1,6 +1,6 @@
-use Rattle.std.proofs.Common.{subst}
+use Rattle.std.proofs.Common.{subst, rules}
 use Rattle.vesgrauf.proofs.KeepsLemmas.{keeps_then}
-use Rattle.vesgrauf.proofs.CutLemmas.{Cutting, cutting_next}
+use Rattle.vesgrauf.proofs.CutLemmas.{Cutting, cutting_next, cutting_severed}
 use Rattle.vesgrauf.proofs.connection.Connection.cut_all.Goals as goal
 
 pub members-preserved : goal.members-preserved
@@ -12,3 +12,8 @@ members-preserved c = record {
       c.in-Some.is c.members.invariant.cutting)
       c.cut.ensures.alone c.in_ok-cut.ensures.cut c.member_after-next.ensures;
 }
+
+pub returns-clause-severed : goal.returns-clause-severed
+returns-clause-severed c = rw c.wake.ensures
+    (cutting_severed c.args.session c.args.self.now.ids c.members.self.ids c.members.self.streams.entries
+    (search (rules)) c.members.self.joined)

@@ -4,18 +4,29 @@ use Rattle.std.specs.Map.{set_value}
 use Rattle.std.specs.BTreeMap.{is_at}
 use Rattle.vesgrauf.specs.declared.entry.Entry.{Entry}
 use Rattle.vesgrauf.specs.Own.{entry_at}
+use Rattle.vesgrauf.proofs.JoinedLemmas.{joined_stays, out_drained, stays_half}
 use Rattle.vesgrauf.proofs.PlaceLemmas.{ordered_sent}
 use Rattle.vesgrauf.proofs.connection.Connection.drain_session.Goals as goal
 
-pub invariant_of-self-2 : goal.invariant_of-self-2
-invariant_of-self-2 c =
+pub invariant_of-self-2-clause-ordered : goal.invariant_of-self-2-clause-ordered
+invariant_of-self-2-clause-ordered c =
     let e : Entry = c.in-Some.entry.now in
     let f : Entry = record e { writing = c.drain-result.new.self } in
     let there : entry_at c.begin_send.new.self.streams.entries c.args.session ≡ Some e = search (rules) in
     let written : (c.get_mut.follows.lender f).entries
     ≡ set_value (is_at (nat_cmp c.args.session)) c.begin_send.new.self.streams.entries f = search (rules) in
-    record {
-      ordered = rw written (ordered_sent c.begin_send.new.self.streams.entries c.begin_send.new.self.ready _ c.keep_place.new.ready
-          c.begin_send.new.self.unplaced c.in_ok-self.field-0 c.args.session e f there c.keep_place.ensures c.in_ok-self.ensures.ok refl refl refl
-          c.begin_send.new.self.ordered);
-    }
+    rw written (ordered_sent c.begin_send.new.self.streams.entries c.begin_send.new.self.ready _ c.keep_place.new.ready
+    c.begin_send.new.self.unplaced c.in_ok-self.field-0 c.args.session e f there c.keep_place.ensures c.in_ok-self.ensures.ok refl refl refl
+    c.begin_send.new.self.ordered)
+
+pub invariant_of-self-2-clause-joined : goal.invariant_of-self-2-clause-joined
+invariant_of-self-2-clause-joined c =
+    let e : Entry = c.in-Some.entry.now in
+    let f : Entry = record e { writing = c.drain-result.new.self } in
+    let there : entry_at c.begin_send.new.self.streams.entries c.args.session ≡ Some e = search (rules) in
+    let written : (c.get_mut.follows.lender f).entries
+    ≡ set_value (is_at (nat_cmp c.args.session)) c.begin_send.new.self.streams.entries f = search (rules) in
+    rw written (joined_stays c.begin_send.new.self.streams.entries c.begin_send.new.self.ids c.args.session e f there
+    (stays_half e f refl refl (out_drained c.drain-result.result e.writing c.drain-result.new.self
+    c.drain-result.ensures.ok c.drain-result.ensures.kept) refl refl refl refl)
+    c.begin_send.new.self.joined)

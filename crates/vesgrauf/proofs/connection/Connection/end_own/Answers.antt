@@ -1,4 +1,5 @@
-use Rattle.std.proofs.Common.{rules, ◌≡◌, ◌∙◌, true, refl, Some}
+use Rattle.vesgrauf.specs.Places.{Ordered}
+use Rattle.std.proofs.Common.{rules, ◌≡◌, ◌∙◌, true, refl, Some, sym, subst, ℕ, List}
 use Rattle.std.specs.Ordering.{nat_cmp}
 use Rattle.std.specs.Map.{set_value}
 use Rattle.std.specs.BTreeMap.{is_at}
@@ -7,21 +8,21 @@ use Rattle.vesgrauf.specs.declared.entry.Entry.{Entry}
 use Rattle.std.proofs.lemmas.Map.Steps.{set_value_same}
 use Rattle.vesgrauf.specs.Own.{entry_at}
 use Rattle.vesgrauf.proofs.KeepsLemmas.{keeps_tried}
-use Rattle.vesgrauf.proofs.PlaceLemmas.{ordered_sent}
+use Rattle.vesgrauf.specs.Joined.{Joined}
+use Rattle.vesgrauf.proofs.JoinedLemmas.{joined_stays, out_finished, stays_half, stays_same}
+use Rattle.vesgrauf.proofs.PlaceLemmas.{ordered_sent, ordered_half}
 use Rattle.vesgrauf.proofs.connection.Connection.end_own.Goals as goal
 
-pub invariant_of-self-2 : goal.invariant_of-self-2
-invariant_of-self-2 c =
+pub invariant_of-self-2-clause-ordered : goal.invariant_of-self-2-clause-ordered
+invariant_of-self-2-clause-ordered c =
     let e : Entry = c.in-Some.entry.now in
     let f : Entry = record e { writing = c.finish-finished-2.new.self } in
     let there : entry_at c.args.self.now.streams.entries c.args.id ≡ Some e = search (rules) in
     let written : (c.get_mut.follows.lender f).entries
     ≡ set_value (is_at (nat_cmp c.args.id)) c.args.self.now.streams.entries f = search (rules) in
-    record {
-      ordered = rw written (ordered_sent c.args.self.now.streams.entries c.args.self.now.ready _ c.keep_place-2.new.ready
-          c.args.self.now.unplaced c.in-Ok.later c.args.id e f there c.keep_place-2.ensures c.in-Ok.ensures.ok refl refl refl
-          c.args.self.now.ordered);
-    }
+    rw written (ordered_sent c.args.self.now.streams.entries c.args.self.now.ready _ c.keep_place-2.new.ready
+    c.args.self.now.unplaced c.in-Ok.later c.args.id e f there c.keep_place-2.ensures c.in-Ok.ensures.ok refl refl refl
+    c.args.self.now.ordered)
 
 pub returns-then-has_more : goal.returns-then-has_more
 returns-then-has_more c =
@@ -60,3 +61,45 @@ returns-in-Err c =
     let same : (c.get_mut.follows.lender e).entries ≡ c.args.self.now.streams.entries
     = written ∙ set_value_same (is_at (nat_cmp c.args.id)) c.args.self.now.streams.entries e there in
     record { keeps = rw same at c.end_later.ensures.keeps }
+
+pub invariant_of-self-2-clause-joined : goal.invariant_of-self-2-clause-joined
+invariant_of-self-2-clause-joined c =
+    let e : Entry = c.in-Some.entry.now in
+    let f : Entry = record e { writing = c.finish-finished-2.new.self } in
+    let there : entry_at c.args.self.now.streams.entries c.args.id ≡ Some e = search (rules) in
+    let written : (c.get_mut.follows.lender f).entries
+    ≡ set_value (is_at (nat_cmp c.args.id)) c.args.self.now.streams.entries f = search (rules) in
+    rw written (joined_stays c.args.self.now.streams.entries c.args.self.now.ids c.args.id e f there
+    (stays_half e f refl refl (out_finished c.finish-finished-2.result e.writing c.finish-finished-2.new.self
+    c.finish-finished-2.ensures) refl refl refl refl)
+    c.args.self.now.joined)
+
+pub invariant_of-self-then-has_more-clause-joined : goal.invariant_of-self-then-has_more-clause-joined
+invariant_of-self-then-has_more-clause-joined c =
+    let e : Entry = c.in-Some.entry.now in
+    let there : entry_at c.args.self.now.streams.entries c.args.id ≡ Some e = search (rules) in
+    let written : (f : Entry) → (c.get_mut.follows.lender f).entries
+    ≡ set_value (is_at (nat_cmp c.args.id)) c.args.self.now.streams.entries f = λ f. search (rules) in
+    subst (λ (x : List (ℕ × Entry)). Joined x c.args.self.now.ids) (sym (written _))
+    (joined_stays c.args.self.now.streams.entries c.args.self.now.ids c.args.id e _ there
+    (stays_half e _ refl refl (out_finished c.finish-finished.result e.writing c.finish-finished.new.self
+    c.finish-finished.ensures) refl refl refl refl) c.args.self.now.joined)
+
+pub invariant_of-self-in-Err-clause-joined : goal.invariant_of-self-in-Err-clause-joined
+invariant_of-self-in-Err-clause-joined c =
+    let e : Entry = c.in-Some.entry.now in
+    let there : entry_at c.args.self.now.streams.entries c.args.id ≡ Some e = search (rules) in
+    let written : (f : Entry) → (c.get_mut.follows.lender f).entries
+    ≡ set_value (is_at (nat_cmp c.args.id)) c.args.self.now.streams.entries f = λ f. search (rules) in
+    subst (λ (x : List (ℕ × Entry)). Joined x c.args.self.now.ids) (sym (written _))
+    (joined_stays c.args.self.now.streams.entries c.args.self.now.ids c.args.id e _ there
+    (stays_same e _ refl refl refl refl refl refl refl) c.args.self.now.joined)
+
+pub invariant_of-self-in-Err-clause-ordered : goal.invariant_of-self-in-Err-clause-ordered
+invariant_of-self-in-Err-clause-ordered c =
+    let e : Entry = c.in-Some.entry.now in
+    let there : entry_at c.args.self.now.streams.entries c.args.id ≡ Some e = search (rules) in
+    let written : (f : Entry) → (c.get_mut.follows.lender f).entries
+    ≡ set_value (is_at (nat_cmp c.args.id)) c.args.self.now.streams.entries f = λ f. search (rules) in
+    subst (λ (x : List (ℕ × Entry)). Ordered x c.take_place.new.ready.ranks c.args.self.now.unplaced) (sym (written _))
+    (rw c.in-Err.ensures.err (ordered_half c.args.self.now.streams.entries c.args.self.now.ready.ranks c.args.self.now.unplaced c.args.id e _ there refl refl refl refl c.args.self.now.ordered))

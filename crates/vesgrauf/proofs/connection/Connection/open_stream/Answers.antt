@@ -1,11 +1,13 @@
-use Rattle.std.proofs.Common.{◌≡◌, None, true, [], ap, arith, sym, ◌∙◌}
+use Rattle.std.proofs.Common.{◌≡◌, None, true, [], ap, arith, sym, ◌∙◌, refl}
 use Rattle.vesgrauf.specs.declared.connection.ids.Ids.{Ids}
 use Rattle.vesgrauf.specs.Ids.{next_own, taken}
 use Rattle.vesgrauf.specs.Own.{entry_at}
 use Rattle.vesgrauf.specs.State.{IsStill, View, view_of, knows_of}
+use Rattle.vesgrauf.proofs.CutLemmas.{on_err_is}
 use Rattle.vesgrauf.proofs.GoesLemmas.{goes_still, goes_then}
 use Rattle.vesgrauf.proofs.GoesSteps.{goes_on}
-use Rattle.vesgrauf.proofs.IdLemmas.{goes_opens, knows_here}
+use Rattle.vesgrauf.proofs.IdLemmas.{goes_opens, keeps_still, knows_here}
+use Rattle.vesgrauf.proofs.JoinedLemmas.{joined_taken}
 use Rattle.vesgrauf.proofs.KeepsLemmas.{keeps_goes}
 use Rattle.vesgrauf.proofs.MemberLemmas.{keeps_noted, member_noted, member_taken, next_as, taken_as}
 use Rattle.vesgrauf.proofs.MessageLemmas.{member_begins}
@@ -18,7 +20,11 @@ returns-clause-goes c =
     let known : knows_of (entry_at c.add_member.new.self.streams.entries c.in-Some.id) ≡ true
     = knows_here c.add_member.new.self.streams.entries c.in-Some.id _ c.in_ok-add_member.ensures.here
     (ap (λ e. e.told) c.in_ok-entry.ensures.entry.is) in (
-      goes_on [] c.args.self.now c.new_member.new.self (record c.add_member.new.self { ids = c.take.new.self })
+      goes_on [] c.args.self.now c.new_member.new.self (record c.add_member.new.self {
+        ids = c.take.new.self;
+        joined = joined_taken c.add_member.new.self.streams.entries c.add_member.new.self.ids c.take.new.self
+            c.args.kind c.take.ensures c.add_member.new.self.joined;
+      })
           (goes_still c.args.self.now c.new_member.new.self still)
           (rw (ap (λ d. d.items) c.in_ok-add_member.ensures.events)
           (goes_then [] [] c.new_member.new.self.streams.entries c.new_member.new.self.streams.entries
@@ -68,3 +74,20 @@ returns-clause-member c = λ s k.
     = ap (λ x. view_of x) c.new_member.ensures.others ∙ c.check_room.ensures.still in
     rw (ap (λ v. v.ids) (sym still)) (member_taken c.args.kind c.add_member.new.self.ids c.take.new.self s k
     c.take.ensures ∙ c.in_ok-add_member.ensures.noted.members s k)
+
+pub invariant_of-self-clause-joined : goal.invariant_of-self-clause-joined
+invariant_of-self-clause-joined c = joined_taken c.add_member.new.self.streams.entries c.add_member.new.self.ids
+    c.take.new.self c.args.kind c.take.ensures c.add_member.new.self.joined
+
+pub returns-in_err-check_session-clause-kept : goal.returns-in_err-check_session-clause-kept
+returns-in_err-check_session-clause-kept c = on_err_is _ _ (keeps_still c.args.self.now c.args.self.now refl)
+
+pub returns-in_err-check_room-clause-kept : goal.returns-in_err-check_room-clause-kept
+returns-in_err-check_room-clause-kept c = on_err_is _ _ (keeps_still c.args.self.now c.check_room.new.self c.check_room.ensures.still)
+
+pub returns-in_err-head-clause-kept : goal.returns-in_err-head-clause-kept
+returns-in_err-head-clause-kept c = on_err_is _ _ (keeps_still c.args.self.now c.check_room.new.self c.check_room.ensures.still)
+
+pub returns-in_err-entry-clause-kept : goal.returns-in_err-entry-clause-kept
+returns-in_err-entry-clause-kept c = on_err_is _ _ (keeps_still c.args.self.now c.new_member.new.self
+    (ap (λ x. view_of x) c.new_member.ensures.others ∙ c.check_room.ensures.still))

@@ -4,18 +4,39 @@ use Rattle.std.specs.Map.{set_value}
 use Rattle.std.specs.BTreeMap.{is_at}
 use Rattle.vesgrauf.specs.declared.entry.Entry.{Entry}
 use Rattle.vesgrauf.specs.Own.{entry_at}
+use Rattle.vesgrauf.proofs.JoinedLemmas.{joined_stays, stays_same}
 use Rattle.vesgrauf.proofs.PlaceLemmas.{ordered_moved}
 use Rattle.vesgrauf.proofs.connection.Connection.prioritize.Goals as goal
 
-pub invariant_of-self-2 : goal.invariant_of-self-2
-invariant_of-self-2 c =
+pub invariant_of-self-2-clause-ordered : goal.invariant_of-self-2-clause-ordered
+invariant_of-self-2-clause-ordered c =
     let e : Entry = c.in-Some.entry.now in
     let f : Entry = record e { priority = c.args.priority } in
     let there : entry_at c.args.self.now.streams.entries c.args.id ≡ Some e = search (rules) in
     let written : (c.get_mut.follows.lender f).entries
     ≡ set_value (is_at (nat_cmp c.args.id)) c.args.self.now.streams.entries f = search (rules) in
-    record {
-      ordered = rw written (ordered_moved c.args.self.now.streams.entries c.args.self.now.ready
-          c.move_place.new.ready c.args.self.now.unplaced c.args.id e f c.args.priority there (search (rules)) refl
-          c.args.self.now.ordered);
-    }
+    rw written (ordered_moved c.args.self.now.streams.entries c.args.self.now.ready
+    c.move_place.new.ready c.args.self.now.unplaced c.args.id e f c.args.priority there (search (rules)) refl
+    c.args.self.now.ordered)
+
+pub invariant_of-self-2-clause-joined : goal.invariant_of-self-2-clause-joined
+invariant_of-self-2-clause-joined c =
+    let e : Entry = c.in-Some.entry.now in
+    let f : Entry = record e { priority = c.args.priority } in
+    let there : entry_at c.args.self.now.streams.entries c.args.id ≡ Some e = search (rules) in
+    let written : (c.get_mut.follows.lender f).entries
+    ≡ set_value (is_at (nat_cmp c.args.id)) c.args.self.now.streams.entries f = search (rules) in
+    rw written (joined_stays c.args.self.now.streams.entries c.args.self.now.ids c.args.id e f there
+    (stays_same e f refl refl refl refl refl refl refl)
+    c.args.self.now.joined)
+
+pub invariant_of-self-then-not-entry-clause-joined : goal.invariant_of-self-then-not-entry-clause-joined
+invariant_of-self-then-not-entry-clause-joined c =
+    let e : Entry = c.in-Some.entry.now in
+    let f : Entry = record e { priority = c.args.priority } in
+    let there : entry_at c.args.self.now.streams.entries c.args.id ≡ Some e = search (rules) in
+    let written : (c.get_mut.follows.lender f).entries
+    ≡ set_value (is_at (nat_cmp c.args.id)) c.args.self.now.streams.entries f = search (rules) in
+    rw written (joined_stays c.args.self.now.streams.entries c.args.self.now.ids c.args.id e f there
+    (stays_same e f refl refl refl refl refl refl refl)
+    c.args.self.now.joined)

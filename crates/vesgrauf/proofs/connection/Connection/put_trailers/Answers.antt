@@ -4,18 +4,29 @@ use Rattle.std.specs.Map.{set_value}
 use Rattle.std.specs.BTreeMap.{is_at}
 use Rattle.vesgrauf.specs.declared.entry.Entry.{Entry}
 use Rattle.vesgrauf.specs.Own.{entry_at}
+use Rattle.vesgrauf.proofs.JoinedLemmas.{joined_stays, out_trailers, stays_half}
 use Rattle.vesgrauf.proofs.PlaceLemmas.{ordered_sent}
 use Rattle.vesgrauf.proofs.connection.Connection.put_trailers.Goals as goal
 
-pub invariant_of-self-2 : goal.invariant_of-self-2
-invariant_of-self-2 c =
+pub invariant_of-self-2-clause-ordered : goal.invariant_of-self-2-clause-ordered
+invariant_of-self-2-clause-ordered c =
     let e : Entry = c.in-Some.entry.now in
     let f : Entry = record e { writing = c.trailers-result.new.self } in
     let there : entry_at c.args.self.now.streams.entries c.args.id ≡ Some e = search (rules) in
     let written : (c.get_mut.follows.lender f).entries
     ≡ set_value (is_at (nat_cmp c.args.id)) c.args.self.now.streams.entries f = search (rules) in
-    record {
-      ordered = rw written (ordered_sent c.args.self.now.streams.entries c.args.self.now.ready _ c.keep_place.new.ready
-          c.args.self.now.unplaced c.in_ok-self.field-0 c.args.id e f there c.keep_place.ensures c.in_ok-self.ensures.ok refl refl refl
-          c.args.self.now.ordered);
-    }
+    rw written (ordered_sent c.args.self.now.streams.entries c.args.self.now.ready _ c.keep_place.new.ready
+    c.args.self.now.unplaced c.in_ok-self.field-0 c.args.id e f there c.keep_place.ensures c.in_ok-self.ensures.ok refl refl refl
+    c.args.self.now.ordered)
+
+pub invariant_of-self-2-clause-joined : goal.invariant_of-self-2-clause-joined
+invariant_of-self-2-clause-joined c =
+    let e : Entry = c.in-Some.entry.now in
+    let f : Entry = record e { writing = c.trailers-result.new.self } in
+    let there : entry_at c.args.self.now.streams.entries c.args.id ≡ Some e = search (rules) in
+    let written : (c.get_mut.follows.lender f).entries
+    ≡ set_value (is_at (nat_cmp c.args.id)) c.args.self.now.streams.entries f = search (rules) in
+    rw written (joined_stays c.args.self.now.streams.entries c.args.self.now.ids c.args.id e f there
+    (stays_half e f refl refl (out_trailers c.trailers-result.result _ _ _ e.writing c.trailers-result.new.self
+    c.trailers-result.ensures.ok c.trailers-result.ensures.kept) refl refl refl refl)
+    c.args.self.now.joined)

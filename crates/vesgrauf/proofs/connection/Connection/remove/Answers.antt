@@ -1,4 +1,6 @@
-use Rattle.std.proofs.Common.{None, ap, sym, ◌∙◌}
+use Rattle.vesgrauf.proofs.PlaceLemmas.{ordered_removed}
+use Rattle.vesgrauf.proofs.JoinedLemmas.{joined_removed}
+use Rattle.std.proofs.Common.{None, ap, sym, ◌∙◌, rules}
 use Rattle.std.specs.Prelude.{is_some}
 use Rattle.vesgrauf.proofs.KeepsLemmas.{keeps_removed, keeps_then}
 use Rattle.vesgrauf.proofs.MemberLemmas.{keeps_unnoted}
@@ -18,3 +20,12 @@ returns-clause-keeps c = λ unknown. rw (
     (keeps_unnoted None c.remove.new.self.entries c.args.self.now.ids c.forget.new.self.ids
     c.args.self.now.events.items c.args.self.now.config c.args.self.now.ended c.args.id c.remove.ensures.updates.1
     c.forget.ensures.ids))
+
+pub invariant_of-self-2-clause-joined : goal.invariant_of-self-2-clause-joined
+invariant_of-self-2-clause-joined c = joined_removed c.args.self.now.streams c.remove.new.self c.args.self.now.ids c.args.id c.requires
+    c.remove.ensures.updates c.args.self.now.joined
+
+pub invariant_of-self-2-clause-ordered : goal.invariant_of-self-2-clause-ordered
+invariant_of-self-2-clause-ordered c = ordered_removed c.args.self.now.streams c.remove.new.self c.args.self.now.ready
+    c.remove-2.new.self c.args.self.now.unplaced c.args.id c.in-Some.entry (sym (sym c.remove.ensures.value ∙ c.in-Some.is))
+    c.remove.ensures.updates (search (rules)) c.args.self.now.ordered

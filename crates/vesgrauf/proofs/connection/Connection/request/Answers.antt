@@ -1,14 +1,19 @@
-use Rattle.std.proofs.Common.{◌≡◌, true, [], refl, ap, sym, ◌∙◌, arith}
+use Rattle.std.proofs.Common.{rules, ◌≡◌, true, false, [], refl, ap, sym, ◌∙◌, arith, Bool}
+use Rattle.std.specs.Prelude.{if◌then◌else◌, Result, Ok, Err}
 use Rattle.vesgrauf_stream.specs.Headers.{request_at, SendsHeaders}
 use Rattle.vesgrauf.specs.Ids.{next_own}
 use Rattle.vesgrauf.specs.Own.{entry_at}
-use Rattle.vesgrauf.specs.State.{IsStill, knows_of}
+use Rattle.vesgrauf.specs.State.{IsStill, knows_of, may_wait}
+use Rattle.vesgrauf.specs.declared.refused.Refused.{Refused}
+use Rattle.vesgrauf.specs.declared.refused.Refused.TheVariants as refused
 use Rattle.vesgrauf.specs.Keeps.{Keeps}
 use Rattle.vesgrauf.specs.declared.connection.Connection.{Connection}
 use Rattle.vesgrauf.specs.declared.output.StreamKind.TheVariants as kind
+use Rattle.vesgrauf.proofs.CutLemmas.{on_err_is}
 use Rattle.vesgrauf.proofs.GoesLemmas.{goes_still, goes_same}
 use Rattle.vesgrauf.proofs.GoesSteps.{goes_on}
 use Rattle.vesgrauf.proofs.IdLemmas.{goes_opens, keeps_undone, keeps_still, noted_alone}
+use Rattle.vesgrauf.proofs.JoinedLemmas.{joined_taken}
 use Rattle.vesgrauf.proofs.KeepsLemmas.{keeps_then}
 use Rattle.vesgrauf.proofs.MessageLemmas.{same_but, requests}
 use Rattle.vesgrauf.proofs.connection.Connection.request.Goals as goal
@@ -20,7 +25,11 @@ returns-clause-goes c =
     let still : IsStill c.args.self.now c.choose_policy.new.self = later ∙ c.check_room.ensures.still in
     let known : knows_of (entry_at c.open_request.new.self.streams.entries c.in-Some.id) ≡ true
     = c.in_ok-open_request.ensures.known in
-    let opened : Connection = record c.open_request.new.self { ids = c.take.new.self } in (
+    let opened : Connection = record c.open_request.new.self {
+      ids = c.take.new.self;
+      joined = joined_taken c.open_request.new.self.streams.entries c.open_request.new.self.ids c.take.new.self
+          kind.Bidirectional c.take.ensures c.open_request.new.self.joined;
+    } in (
       goes_on [] c.args.self.now c.choose_policy.new.self c.count_session.new.self
           (goes_still c.args.self.now c.choose_policy.new.self still)
           (goes_on [] c.choose_policy.new.self opened c.count_session.new.self
@@ -41,15 +50,16 @@ returns-clause-goes c =
 
 pub returns-clause-begins : goal.returns-clause-begins
 returns-clause-begins c = requests c.args.self.now c.choose_policy.new.self c.open_request.new.self
-    (record c.open_request.new.self { ids = c.take.new.self; ordered = _ }) c.queue_due.new.self c.count_session.new.self
-    c.in-Some.id
+    (record c.open_request.new.self { ids = c.take.new.self; ordered = _; joined = _ }) c.queue_due.new.self
+    c.count_session.new.self c.in-Some.id
     (λ a s t v w. SendsHeaders (request_at v c.in-Some.id a) c.args.list.now c.args.fin s t v w)
     ((c.choose_policy.ensures.still ∙ c.reserve.ensures.still) ∙ c.check_room.ensures.still)
     (same_but c.args.self.now c.reserve.new.self c.choose_policy.new.self
     (c.reserve.ensures.tools ∙ c.check_room.ensures.tools) c.choose_policy.ensures.policy
     c.choose_policy.ensures.instructions)
     c.in_ok-open_request.ensures.begins c.open_request.ensures.view refl refl refl c.queue_due.ensures.due
-    c.count_session.ensures.others
+    c.count_session.ensures.streams (ap (λ x. x.tools) c.count_session.ensures.others)
+    (ap (λ x. x.encoder) c.count_session.ensures.others)
 
 pub returns-in_err-open_request-clause-kept : goal.returns-in_err-open_request-clause-kept
 returns-in_err-open_request-clause-kept c =
@@ -69,3 +79,30 @@ returns-in_err-open_request-clause-kept c =
     let h : Keeps [] c.args.self.now c.open_request.new.self =
     keeps_then (keeps_still c.args.self.now c.choose_policy.new.self (later ∙ c.check_room.ensures.still)) last in
     grind (arith, h)
+
+pub invariant_of-self : goal.invariant_of-self
+invariant_of-self c = record {
+  ordered = c.open_request.new.self.ordered;
+  joined = joined_taken c.open_request.new.self.streams.entries c.open_request.new.self.ids c.take.new.self
+      kind.Bidirectional c.take.ensures c.open_request.new.self.joined;
+}
+
+pub returns-in_err-check_asked-clause-kept : goal.returns-in_err-check_asked-clause-kept
+returns-in_err-check_asked-clause-kept c = on_err_is _ _ (keeps_still c.args.self.now c.args.self.now refl)
+
+pub returns-in_err-check_room-clause-kept : goal.returns-in_err-check_room-clause-kept
+returns-in_err-check_room-clause-kept c = on_err_is _ _
+    (keeps_still c.args.self.now c.check_room.new.self c.check_room.ensures.still)
+
+pub returns-in_err-reserve-clause-kept : goal.returns-in_err-reserve-clause-kept
+returns-in_err-reserve-clause-kept c = on_err_is _ _ (keeps_still c.args.self.now c.reserve.new.self
+    (c.reserve.ensures.still ∙ c.check_room.ensures.still))
+
+room_by : (b : Bool) (r : Result (Unit {0}) Refused) → r ≡ (if b then Ok tt else Err refused.Full) → r ≡ Ok tt
+    → b ≡ true
+room_by true r h g = refl
+room_by false r h g = let bad : Err refused.Full ≡ Ok tt = sym h ∙ g in cc
+
+pub returns-clause-room : goal.returns-clause-room
+returns-clause-room c = room_by (may_wait c.args.self.now kind.Bidirectional) c.check_room.result
+    c.check_room.ensures.room (search (rules))

@@ -1,21 +1,46 @@
-use Rattle.std.proofs.Common.{rules, ◌≡◌, Some}
+use Rattle.vesgrauf.proofs.GoesLemmas.{goes_set, standing_in}
+use Rattle.vesgrauf.specs.Told.{Goes}
+use Rattle.std.proofs.Common.{rules, ◌≡◌, Some, sym, subst, ℕ, List, ap, ◌∙◌, []}
 use Rattle.std.specs.Ordering.{nat_cmp}
 use Rattle.std.specs.Map.{set_value}
 use Rattle.std.specs.BTreeMap.{is_at}
 use Rattle.vesgrauf.specs.declared.entry.Entry.{Entry}
 use Rattle.vesgrauf.specs.Own.{entry_at}
+use Rattle.vesgrauf.proofs.JoinedLemmas.{joined_stays, stays_sent_owned, standing_sent_owned}
 use Rattle.vesgrauf.proofs.PlaceLemmas.{ordered_sent}
 use Rattle.vesgrauf.proofs.connection.Connection.send_half_owned.Goals as goal
 
-pub invariant_of-self-2 : goal.invariant_of-self-2
-invariant_of-self-2 c =
+pub invariant_of-self-2-clause-ordered : goal.invariant_of-self-2-clause-ordered
+invariant_of-self-2-clause-ordered c =
     let e : Entry = c.in-Some.entry.now in
     let f : Entry = c.send_owned-result.new.self in
     let there : entry_at c.args.self.now.streams.entries c.args.id ≡ Some e = search (rules) in
     let written : (c.get_mut.follows.lender f).entries
     ≡ set_value (is_at (nat_cmp c.args.id)) c.args.self.now.streams.entries f = search (rules) in
-    record {
-      ordered = rw written (ordered_sent c.args.self.now.streams.entries c.args.self.now.ready _ c.keep_place.new.ready
-          c.args.self.now.unplaced c.in-Ok.later c.args.id e f there c.keep_place.ensures c.in-Ok.ensures.ok c.send_owned-result.ensures.place.0 c.send_owned-result.ensures.place.1 c.send_owned-result.ensures.place.2
-          c.args.self.now.ordered);
-    }
+    rw written (ordered_sent c.args.self.now.streams.entries c.args.self.now.ready _ c.keep_place.new.ready
+    c.args.self.now.unplaced c.in-Ok.later c.args.id e f there c.keep_place.ensures c.in-Ok.ensures.ok c.send_owned-result.ensures.place.0 c.send_owned-result.ensures.place.1 c.send_owned-result.ensures.place.2
+    c.args.self.now.ordered)
+
+pub invariant_of-self-2-clause-joined : goal.invariant_of-self-2-clause-joined
+invariant_of-self-2-clause-joined c =
+    let e : Entry = c.in-Some.entry.now in
+    let f : Entry = c.send_owned-result.new.self in
+    let there : entry_at c.args.self.now.streams.entries c.args.id ≡ Some e = search (rules) in
+    let written : (c.get_mut.follows.lender f).entries
+    ≡ set_value (is_at (nat_cmp c.args.id)) c.args.self.now.streams.entries f = search (rules) in
+    rw written (joined_stays c.args.self.now.streams.entries c.args.self.now.ids c.args.id e f there
+    (stays_sent_owned c.send_owned-result.result _ _ e f c.send_owned-result.ensures.ok c.send_owned-result.ensures.kept)
+    c.args.self.now.joined)
+
+pub returns-clause-goes : goal.returns-clause-goes
+returns-clause-goes c =
+    let e : Entry = c.in-Some.entry.now in
+    let f : Entry = c.send_owned-result.new.self in
+    let there : entry_at c.args.self.now.streams.entries c.args.id ≡ Some e = search (rules) in
+    let written : (c.get_mut.follows.lender f).entries
+    ≡ set_value (is_at (nat_cmp c.args.id)) c.args.self.now.streams.entries f = search (rules) in
+    subst (λ (x : List (ℕ × Entry)). Goes [] c.args.self.now.streams.entries c.args.self.now.ids
+    c.args.self.now.events.items x c.args.self.now.ids c.args.self.now.events.items) (sym written)
+    (goes_set c.args.self.now.streams.entries c.args.self.now.ids c.args.self.now.events.items c.args.id f
+    (ap (λ o. standing_in o) there ∙ ap (λ x. Some x)
+    (sym (standing_sent_owned c.send_owned-result.result _ _ e f c.send_owned-result.ensures.ok c.send_owned-result.ensures.kept))))

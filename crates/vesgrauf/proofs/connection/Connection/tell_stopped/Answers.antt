@@ -4,48 +4,95 @@ use Rattle.std.specs.Map.{set_value}
 use Rattle.std.specs.BTreeMap.{is_at}
 use Rattle.vesgrauf.specs.declared.entry.Entry.{Entry}
 use Rattle.vesgrauf.specs.Own.{entry_at}
+use Rattle.vesgrauf.specs.Joined.{Joined}
 use Rattle.vesgrauf.specs.Places.{Ordered}
+use Rattle.vesgrauf.proofs.JoinedLemmas.{joined_stays, out_reset, stays_half, stays_same}
 use Rattle.vesgrauf.proofs.PlaceLemmas.{more_unset, ordered_half, ordered_over, ordered_step, reset_quiet}
 use Rattle.vesgrauf.proofs.connection.Connection.tell_stopped.Goals as goal
 
-pub invariant_of-self-then-is_told-2 : goal.invariant_of-self-then-is_told-2
-invariant_of-self-then-is_told-2 c =
+pub invariant_of-self-then-is_told-2-clause-ordered : goal.invariant_of-self-then-is_told-2-clause-ordered
+invariant_of-self-then-is_told-2-clause-ordered c =
     let e : Entry = c.in-Some.entry.now in
     let there : entry_at c.args.self.now.streams.entries c.args.id ≡ Some e = search (rules) in
     let written : (f : Entry) → (c.get_mut.follows.lender f).entries
     ≡ set_value (is_at (nat_cmp c.args.id)) c.args.self.now.streams.entries f = λ f. search (rules) in
-    record {
-      ordered = subst (λ (x : List (ℕ × Entry)). Ordered x c.args.self.now.ready.ranks c.args.self.now.unplaced)
-          (sym (written _))
-          (ordered_half c.args.self.now.streams.entries c.args.self.now.ready.ranks c.args.self.now.unplaced c.args.id
-          e _ there refl refl refl refl c.args.self.now.ordered);
-    }
+    subst (λ (x : List (ℕ × Entry)). Ordered x c.args.self.now.ready.ranks c.args.self.now.unplaced)
+    (sym (written _))
+    (ordered_half c.args.self.now.streams.entries c.args.self.now.ready.ranks c.args.self.now.unplaced c.args.id
+    e _ there refl refl refl refl c.args.self.now.ordered)
 
-pub invariant_of-self-then-not-reset : goal.invariant_of-self-then-not-reset
-invariant_of-self-then-not-reset c =
+pub invariant_of-self-then-not-reset-clause-ordered : goal.invariant_of-self-then-not-reset-clause-ordered
+invariant_of-self-then-not-reset-clause-ordered c =
     let e : Entry = c.in-Some.entry.now in
     let there : entry_at c.args.self.now.streams.entries c.args.id ≡ Some e = search (rules) in
     let written : (f : Entry) → (c.get_mut.follows.lender f).entries
     ≡ set_value (is_at (nat_cmp c.args.id)) c.args.self.now.streams.entries f = λ f. search (rules) in
-    record {
-      ordered = subst (λ (x : List (ℕ × Entry)). Ordered x c.args.self.now.ready.ranks c.args.self.now.unplaced)
-          (sym (written _))
-          (ordered_step c.args.self.now.streams.entries c.args.self.now.ready.ranks c.args.self.now.unplaced c.args.id e _
-          there (more_unset c.reset.result _ _ e.writing c.reset.new.self c.reset.ensures.queue (search (rules)))
-          refl refl refl c.args.self.now.ordered);
-    }
+    subst (λ (x : List (ℕ × Entry)). Ordered x c.args.self.now.ready.ranks c.args.self.now.unplaced)
+    (sym (written _))
+    (ordered_step c.args.self.now.streams.entries c.args.self.now.ready.ranks c.args.self.now.unplaced c.args.id e _
+    there (more_unset c.reset.result _ _ e.writing c.reset.new.self c.reset.ensures.queue (search (rules)))
+    refl refl refl c.args.self.now.ordered)
 
-pub invariant_of-self-2 : goal.invariant_of-self-2
-invariant_of-self-2 c =
+pub invariant_of-self-2-clause-ordered : goal.invariant_of-self-2-clause-ordered
+invariant_of-self-2-clause-ordered c =
     let e : Entry = c.in-Some.entry.now in
     let there : entry_at c.args.self.now.streams.entries c.args.id ≡ Some e = search (rules) in
     let written : (f : Entry) → (c.get_mut.follows.lender f).entries
     ≡ set_value (is_at (nat_cmp c.args.id)) c.args.self.now.streams.entries f = λ f. search (rules) in
-    record {
-      ordered = subst (λ (x : List (ℕ × Entry)). Ordered x c.remove.new.self.ranks c.args.self.now.unplaced)
-          (sym (written _))
-          (ordered_over c.args.self.now.streams.entries c.args.self.now.ready c.remove.new.self
-          c.args.self.now.unplaced c.args.id e _ there
-          (reset_quiet c.reset.result _ _ e.writing.queue c.reset.new.self.queue c.args.code c.reset.ensures.queue
-          (search (rules))) (search (rules)) c.args.self.now.ordered);
-    }
+    subst (λ (x : List (ℕ × Entry)). Ordered x c.remove.new.self.ranks c.args.self.now.unplaced)
+    (sym (written _))
+    (ordered_over c.args.self.now.streams.entries c.args.self.now.ready c.remove.new.self
+    c.args.self.now.unplaced c.args.id e _ there
+    (reset_quiet c.reset.result _ _ e.writing.queue c.reset.new.self.queue c.args.code c.reset.ensures.queue
+    (search (rules))) (search (rules)) c.args.self.now.ordered)
+
+pub invariant_of-self-then-is_told-2-clause-joined : goal.invariant_of-self-then-is_told-2-clause-joined
+invariant_of-self-then-is_told-2-clause-joined c =
+    let e : Entry = c.in-Some.entry.now in
+    let there : entry_at c.args.self.now.streams.entries c.args.id ≡ Some e = search (rules) in
+    let written : (f : Entry) → (c.get_mut.follows.lender f).entries
+    ≡ set_value (is_at (nat_cmp c.args.id)) c.args.self.now.streams.entries f = λ f. search (rules) in
+    subst (λ (x : List (ℕ × Entry)). Joined x c.args.self.now.ids) (sym (written _))
+    (joined_stays c.args.self.now.streams.entries c.args.self.now.ids c.args.id e _ there
+    (stays_same e _ refl refl refl refl refl refl refl) c.args.self.now.joined)
+
+pub invariant_of-self-then-not-reset-clause-joined : goal.invariant_of-self-then-not-reset-clause-joined
+invariant_of-self-then-not-reset-clause-joined c =
+    let e : Entry = c.in-Some.entry.now in
+    let there : entry_at c.args.self.now.streams.entries c.args.id ≡ Some e = search (rules) in
+    let written : (f : Entry) → (c.get_mut.follows.lender f).entries
+    ≡ set_value (is_at (nat_cmp c.args.id)) c.args.self.now.streams.entries f = λ f. search (rules) in
+    subst (λ (x : List (ℕ × Entry)). Joined x c.args.self.now.ids) (sym (written _))
+    (joined_stays c.args.self.now.streams.entries c.args.self.now.ids c.args.id e _ there
+    (stays_half e _ refl refl (out_reset c.reset.result _ _ e.writing c.reset.new.self c.args.code c.reset.ensures.queue)
+    refl refl refl refl) c.args.self.now.joined)
+
+pub invariant_of-self-2-clause-joined : goal.invariant_of-self-2-clause-joined
+invariant_of-self-2-clause-joined c =
+    let e : Entry = c.in-Some.entry.now in
+    let there : entry_at c.args.self.now.streams.entries c.args.id ≡ Some e = search (rules) in
+    let written : (f : Entry) → (c.get_mut.follows.lender f).entries
+    ≡ set_value (is_at (nat_cmp c.args.id)) c.args.self.now.streams.entries f = λ f. search (rules) in
+    subst (λ (x : List (ℕ × Entry)). Joined x c.args.self.now.ids) (sym (written _))
+    (joined_stays c.args.self.now.streams.entries c.args.self.now.ids c.args.id e _ there
+    (stays_half e _ refl refl (out_reset c.reset.result _ _ e.writing c.reset.new.self c.args.code c.reset.ensures.queue)
+    refl refl refl refl) c.args.self.now.joined)
+
+pub invariant_of-self-else-is_told-2-clause-joined : goal.invariant_of-self-else-is_told-2-clause-joined
+invariant_of-self-else-is_told-2-clause-joined c =
+    let e : Entry = c.in-Some.entry.now in
+    let there : entry_at c.args.self.now.streams.entries c.args.id ≡ Some e = search (rules) in
+    let written : (f : Entry) → (c.get_mut.follows.lender f).entries
+    ≡ set_value (is_at (nat_cmp c.args.id)) c.args.self.now.streams.entries f = λ f. search (rules) in
+    subst (λ (x : List (ℕ × Entry)). Joined x c.args.self.now.ids) (sym (written _))
+    (joined_stays c.args.self.now.streams.entries c.args.self.now.ids c.args.id e _ there
+    (stays_same e _ refl refl refl refl refl refl refl) c.args.self.now.joined)
+
+pub invariant_of-self-else-is_told-2-clause-ordered : goal.invariant_of-self-else-is_told-2-clause-ordered
+invariant_of-self-else-is_told-2-clause-ordered c =
+    let e : Entry = c.in-Some.entry.now in
+    let there : entry_at c.args.self.now.streams.entries c.args.id ≡ Some e = search (rules) in
+    let written : (f : Entry) → (c.get_mut.follows.lender f).entries
+    ≡ set_value (is_at (nat_cmp c.args.id)) c.args.self.now.streams.entries f = λ f. search (rules) in
+    subst (λ (x : List (ℕ × Entry)). Ordered x c.args.self.now.ready.ranks c.args.self.now.unplaced) (sym (written _))
+    (ordered_half c.args.self.now.streams.entries c.args.self.now.ready.ranks c.args.self.now.unplaced c.args.id e _ there refl refl refl refl c.args.self.now.ordered)

@@ -1,0 +1,21 @@
+use Rattle.vesgrauf.proofs.JoinedLemmas.{joined_stays, stays_known, out_asked}
+use Rattle.vesgrauf.specs.Own.{entry_at}
+use Rattle.vesgrauf.specs.Joined.{Joined}
+use Rattle.vesgrauf.specs.declared.entry.Entry.{Entry}
+use Rattle.std.specs.BTreeMap.{is_at}
+use Rattle.std.specs.Map.{set_value}
+use Rattle.std.specs.Ordering.{nat_cmp}
+use Rattle.std.proofs.Common.{rules, ◌≡◌, sym, subst, Some, ℕ, List, ap, ◌∙◌}
+use Rattle.vesgrauf.proofs.connection.Connection.note_request.Goals as goal
+
+pub invariant_of-self-clause-joined : goal.invariant_of-self-clause-joined
+invariant_of-self-clause-joined c =
+    let e : Entry = c.in-Some.entry.now in
+    let there : entry_at c.args.self.now.streams.entries c.args.id ≡ Some e = search (rules) in
+    let written : (f : Entry) → (c.get_mut.follows.lender f).entries
+    ≡ set_value (is_at (nat_cmp c.args.id)) c.args.self.now.streams.entries f = λ f. search (rules) in
+    subst (λ (x : List (ℕ × Entry)). Joined x c.args.self.now.ids) (sym (written _))
+    (joined_stays c.args.self.now.streams.entries c.args.self.now.ids c.args.id e _ there
+    (stays_known e _ (ap (λ x. x.session) c.know.ensures) (ap (λ x. x.has_session) c.know.ensures)
+    (out_asked e.writing c.know.new.self.writing c.args.asked (ap (λ x. x.writing) c.know.ensures ∙ c.ask.ensures))
+    (ap (λ x. x.told) c.know.ensures) (ap (λ x. x.peer) c.know.ensures) (ap (λ x. x.is_decoder) c.know.ensures) (ap (λ x. x.is_ended) c.know.ensures)) c.args.self.now.joined)

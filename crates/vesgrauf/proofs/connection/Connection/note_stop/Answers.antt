@@ -1,0 +1,34 @@
+use Rattle.vesgrauf.proofs.KeepsLemmas.{keeps_turned}
+use Rattle.vesgrauf.specs.Keeps.{KeepsAll}
+use Rattle.vesgrauf.proofs.JoinedLemmas.{joined_stays, stays_same}
+use Rattle.vesgrauf.specs.Own.{entry_at}
+use Rattle.vesgrauf.specs.Joined.{Joined}
+use Rattle.vesgrauf.specs.declared.entry.Entry.{Entry}
+use Rattle.std.specs.BTreeMap.{is_at}
+use Rattle.std.specs.Map.{set_value}
+use Rattle.std.specs.Ordering.{nat_cmp}
+use Rattle.std.proofs.Common.{rules, ◌≡◌, refl, sym, subst, Some, ℕ, List, None, []}
+use Rattle.vesgrauf.proofs.connection.Connection.note_stop.Goals as goal
+
+pub invariant_of-self-2-clause-joined : goal.invariant_of-self-2-clause-joined
+invariant_of-self-2-clause-joined c =
+    let e : Entry = c.in-Some.entry.now in
+    let there : entry_at c.args.self.now.streams.entries c.args.id ≡ Some e = search (rules) in
+    let written : (f : Entry) → (c.get_mut.follows.lender f).entries
+    ≡ set_value (is_at (nat_cmp c.args.id)) c.args.self.now.streams.entries f = λ f. search (rules) in
+    subst (λ (x : List (ℕ × Entry)). Joined x c.args.self.now.ids) (sym (written _))
+    (joined_stays c.args.self.now.streams.entries c.args.self.now.ids c.args.id e _ there
+    (stays_same e _ refl refl refl refl refl refl refl) c.args.self.now.joined)
+
+pub returns : goal.returns
+returns c =
+    let e : Entry = c.in-Some.entry.now in
+    let there : entry_at c.args.self.now.streams.entries c.args.id ≡ Some e = search (rules) in
+    let written : (f : Entry) → (c.get_mut.follows.lender f).entries
+    ≡ set_value (is_at (nat_cmp c.args.id)) c.args.self.now.streams.entries f = λ f. search (rules) in
+    record {
+      keeps = subst (λ (x : List (ℕ × Entry)). KeepsAll None [] c.args.self.now.streams.entries c.args.self.now.ids c.args.self.now.events.items c.args.self.now.config
+          c.args.self.now.ended x c.args.self.now.ids c.args.self.now.events.items c.args.self.now.config c.args.self.now.ended) (sym (written _))
+          (keeps_turned c.args.self.now.streams.entries c.args.self.now.ids c.args.self.now.events.items c.args.self.now.config c.args.self.now.ended c.args.id e _ there
+          c.stop.ensures.moves c.stop.ensures.rest refl refl refl refl);
+    }

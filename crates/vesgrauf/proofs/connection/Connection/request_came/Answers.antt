@@ -1,0 +1,9 @@
+use Rattle.vesgrauf.proofs.KeepsLemmas.{keeps_then}
+use Rattle.vesgrauf.specs.Keeps.{Keeps}
+use Rattle.std.proofs.Common.{[], arith}
+use Rattle.vesgrauf.proofs.connection.Connection.request_came.Goals as goal
+
+pub returns-in_err-tell_stop-clause-keeps : goal.returns-in_err-tell_stop-clause-keeps
+returns-in_err-tell_stop-clause-keeps c =
+    let h : Keeps [] c.args.self.now c.tell_stop.new.self = keeps_then c.tell_request.ensures.quiet c.tell_stop.ensures.keeps in
+    grind (arith, h)
