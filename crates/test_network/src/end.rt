@@ -1,11 +1,11 @@
 //! One end of a connection: what its QUIC would know of it, and the loops of a program round it.
 use crate::conditions::{Chance, Conditions};
+use crate::connections::Connections;
 use crate::handler::Handler;
 use crate::wire::{Signal, Wire};
 use anyhow::{Result, bail};
 use std::alloc::Global;
 use std::collections::{BTreeMap, BTreeSet};
-use vesgrauf::config::Config;
 use vesgrauf::connection::Connection;
 use vesgrauf::input::Input;
 use vesgrauf::output::{Output, Scope, StreamKind};
@@ -46,7 +46,8 @@ impl Opened {
 /// One end of a connection.
 #[derive(Drop)]
 pub(crate) struct End {
-    pub(crate) connection: Connection,
+    /// The number of the connection at the server.
+    peer: usize,
     pub(crate) conditions: Conditions,
     /// The lowest bit of the IDs of streams that are opened here.
     pub(crate) own: u64,
@@ -67,19 +68,14 @@ pub(crate) struct End {
 
 impl End {
     /// Creates an end that sent nothing. `own` is the lowest bit of the IDs of its streams.
-    pub(crate) fn new(
-        alloc: Global,
-        config: Config,
-        own: u64,
-        conditions: Conditions,
-    ) -> Result<Self> {
+    pub(crate) fn new(alloc: Global, peer: usize, own: u64, conditions: Conditions) -> Self {
         let opened = Opened {
             next: own,
             left: conditions.max_streams,
             is_blocked: false,
         };
-        Ok(End {
-            connection: Connection::new(alloc, config)?,
+        End {
+            peer,
             conditions,
             own,
             bidirectional: opened,
@@ -93,64 +89,74 @@ impl End {
             blocked: BTreeSet::new(alloc),
             stopped: BTreeSet::new(alloc),
             is_closed: false,
-        })
+        }
     }
 
     /// Gives an input to the connection, and its events to the handler. Returns how many bytes may be credited, and
     /// whether there was an event.
     pub(crate) fn hear<H: Handler>(
-        &mut self,
+        &self,
         handler: &mut H,
-        peer: usize,
+        on: &mut Connections,
         mut input: Input<'_>,
     ) -> Result<(usize, bool)> {
         let mut is_heard = false;
         for _event in 0..TURNS {
-            let Some(event) = self.connection.next_event(&mut input)? else {
+            let Some(event) = on.here().next_event(&mut input)? else {
                 return Ok((input.credit(), is_heard));
             };
             is_heard = true;
             let id = event.stream;
-            if let Err(error) = handler.event(peer, &mut self.connection, event) {
+            if let Err(error) = handler.event(on, event) {
                 let side = if self.own == SERVER {
                     "server"
                 } else {
                     "client"
                 };
-                bail!("connection {peer}, {side}, stream {id}: {error}");
+                bail!("connection {}, {side}, stream {id}: {error}", self.peer);
             }
         }
         bail!("the events of an input do not end");
     }
 
     /// Carries what the connection sends to the wire. Returns whether there was something, or something is delayed.
-    pub(crate) fn send(&mut self, wire: &mut Wire, chance: &mut Chance) -> Result<bool> {
-        let outputs = self.send_outputs(wire, chance)?;
-        let bytes = self.send_streams(wire, chance)?;
-        let datagrams = self.send_datagrams(wire, chance)?;
+    pub(crate) fn send(
+        &mut self,
+        on: &mut Connection,
+        wire: &mut Wire,
+        chance: &mut Chance,
+    ) -> Result<bool> {
+        let outputs = self.send_outputs(on, wire, chance)?;
+        let bytes = self.send_streams(on, wire, chance)?;
+        let datagrams = self.send_datagrams(on, wire, chance)?;
         let delayed = self.bidirectional.is_delayed() || self.unidirectional.is_delayed();
         Ok(outputs || bytes || datagrams || delayed)
     }
 
     /// Does what QUIC is to do.
-    fn send_outputs(&mut self, wire: &mut Wire, chance: &mut Chance) -> Result<bool> {
+    fn send_outputs(
+        &mut self,
+        on: &mut Connection,
+        wire: &mut Wire,
+        chance: &mut Chance,
+    ) -> Result<bool> {
         let mut any = false;
         for _output in 0..TURNS {
-            let Some(output) = self.connection.output() else {
+            let Some(output) = on.output() else {
                 return Ok(any);
             };
             if self.is_closed {
                 bail!("an output after the connection was closed");
             }
             if let Output::Open { id, kind } = output {
-                if self.open(id, kind, chance)? {
+                if self.open(on, id, kind, chance)? {
                     any = true;
                 }
                 continue;
             }
             any = true;
             self.send_output(output, wire)?;
-            self.connection.output_taken()?;
+            on.output_taken()?;
         }
         bail!("the outputs do not end");
     }
@@ -172,7 +178,13 @@ impl End {
     }
 
     /// Opens a stream, if one of its kind may be opened now.
-    fn open(&mut self, id: u64, kind: StreamKind, chance: &mut Chance) -> Result<bool> {
+    fn open(
+        &mut self,
+        on: &mut Connection,
+        id: u64,
+        kind: StreamKind,
+        chance: &mut Chance,
+    ) -> Result<bool> {
         let mut opened = self.opened_of(kind);
         let next = opened.next;
         if next != id {
@@ -184,13 +196,13 @@ impl End {
         if opened.left == 0 || chance.delays() {
             opened.is_blocked = true;
             self.set_opened(kind, opened);
-            self.connection.set_blocked(Scope::Kind(kind), true)?;
+            on.set_blocked(Scope::Kind(kind), true)?;
             return Ok(false);
         }
         opened.next = opened.next.saturating_add(4);
         opened.left = opened.left.saturating_sub(1);
         self.set_opened(kind, opened);
-        self.connection.opened(id)?;
+        on.opened(id)?;
         Ok(true)
     }
 
@@ -233,9 +245,14 @@ impl End {
     }
 
     /// Sends bytes of streams, as far as the windows allow.
-    fn send_streams(&mut self, wire: &mut Wire, chance: &mut Chance) -> Result<bool> {
+    fn send_streams(
+        &mut self,
+        on: &mut Connection,
+        wire: &mut Wire,
+        chance: &mut Chance,
+    ) -> Result<bool> {
         for turn in 0..TURNS {
-            if self.is_closed || !self.send_piece(wire, chance)? {
+            if self.is_closed || !self.send_piece(on, wire, chance)? {
                 return Ok(turn > 0);
             }
             if chance.delays() {
@@ -246,8 +263,13 @@ impl End {
     }
 
     /// Sends a piece of a stream, or notes that it is blocked. Returns whether there was one.
-    fn send_piece(&mut self, wire: &mut Wire, chance: &mut Chance) -> Result<bool> {
-        let Some(next) = self.connection.next_send() else {
+    fn send_piece(
+        &mut self,
+        on: &mut Connection,
+        wire: &mut Wire,
+        chance: &mut Chance,
+    ) -> Result<bool> {
+        let Some(next) = on.next_send() else {
             return Ok(false);
         };
         let (id, fin) = (next.id, next.fin);
@@ -262,26 +284,17 @@ impl End {
         };
         let len = all.min(chance.piece()).min(window).min(self.window);
         if len == 0 && all > 0 {
-            return self.block(id, window);
+            return self.block(on, id, window);
         }
-        self.put(id, wire, len, fin && len == all)?;
+        put(on, id, wire, len, fin && len == all)?;
         self.windows.insert(id, window.saturating_sub(len))?;
         self.window = self.window.saturating_sub(len);
         Ok(true)
     }
 
-    /// Sends so many bytes of a stream, and its end after them.
-    fn put(&mut self, id: u64, wire: &mut Wire, len: usize, fin: bool) -> Result<()> {
-        if let Some(next) = self.connection.next_send() {
-            wire.send(id, next.bytes, next.more, len, fin)?;
-        }
-        self.connection.sent(id, len)?;
-        Ok(())
-    }
-
     /// Tells the connection that the window of a stream is closed. If that of all streams is, nothing is sent. Returns
     /// whether other streams may be sent from.
-    fn block(&mut self, id: u64, window: usize) -> Result<bool> {
+    fn block(&mut self, on: &mut Connection, id: u64, window: usize) -> Result<bool> {
         if window > 0 {
             return Ok(false);
         }
@@ -289,18 +302,23 @@ impl End {
             bail!("stream {id} is to be sent though it is blocked");
         }
         self.blocked.insert(id)?;
-        self.connection.set_blocked(Scope::Stream(id), true)?;
+        on.set_blocked(Scope::Stream(id), true)?;
         Ok(true)
     }
 
     /// Sends datagrams, of which some are lost.
-    fn send_datagrams(&mut self, wire: &mut Wire, chance: &mut Chance) -> Result<bool> {
+    fn send_datagrams(
+        &mut self,
+        on: &mut Connection,
+        wire: &mut Wire,
+        chance: &mut Chance,
+    ) -> Result<bool> {
         let mut any = false;
         for _datagram in 0..TURNS {
             if self.is_closed {
                 return Ok(any);
             }
-            let Some(bytes) = self.connection.next_datagram() else {
+            let Some(bytes) = on.next_datagram() else {
                 return Ok(any);
             };
             if chance.delays() {
@@ -312,9 +330,18 @@ impl End {
             if !chance.loses() {
                 wire.take_datagram(bytes)?;
             }
-            self.connection.datagram_sent()?;
+            on.datagram_sent()?;
             any = true;
         }
         bail!("the datagrams to send do not end");
     }
+}
+
+/// Sends so many bytes of a stream, and its end after them.
+fn put(on: &mut Connection, id: u64, wire: &mut Wire, len: usize, fin: bool) -> Result<()> {
+    if let Some(next) = on.next_send() {
+        wire.send(id, next.bytes, next.more, len, fin)?;
+    }
+    on.sent(id, len)?;
+    Ok(())
 }

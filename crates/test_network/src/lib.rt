@@ -3,6 +3,7 @@
 #![tactic(auto)]
 
 pub mod conditions;
+pub mod connections;
 mod end;
 pub mod handler;
 mod link;

@@ -3,6 +3,7 @@ use crate::room::text;
 use anyhow::Result;
 use std::alloc::Global;
 use std::collections::{BTreeMap, VecDeque};
+use test_network::connections::Connections;
 use test_network::handler::Handler;
 use vesgrauf::code::StreamCode;
 use vesgrauf::connection::Connection;
@@ -45,7 +46,7 @@ pub struct Guests {
 }
 
 impl Handler for Guests {
-    fn event(&mut self, _peer: usize, on: &mut Connection, event: Event<'_>) -> Result<()> {
+    fn event(&mut self, on: &mut Connections, event: Event<'_>) -> Result<()> {
         let id = event.stream;
         match event.kind {
             EventKind::Ready(_) => self.get_ready(),
@@ -55,7 +56,7 @@ impl Handler for Guests {
             EventKind::End => self.end(id),
             EventKind::Datagram(bytes) => self.hear_datagram(id, bytes.as_slice()),
             EventKind::Reset(code) => self.hear_refusal(id, code),
-            EventKind::Draining => self.leave(on, id),
+            EventKind::Draining => self.leave(on.here(), id),
             EventKind::GoAway(first) => self.note_all("GOAWAY with ID", first),
             EventKind::Closed(_) => self.forget(id),
             EventKind::ConnectionClosed(code, _) => self.note_all("closed with code", code),
@@ -63,13 +64,13 @@ impl Handler for Guests {
         }
     }
 
-    fn turn(&mut self, _peer: usize, on: &mut Connection) -> Result<()> {
+    fn turn(&mut self, on: &mut Connections) -> Result<()> {
         if !self.is_ready {
             return Ok(());
         }
         for _todo in 0..self.todo.len() {
             if let Some(todo) = self.todo.pop_front() {
-                self.act(on, todo)?;
+                self.act(on.here(), todo)?;
             }
         }
         Ok(())

@@ -41,22 +41,38 @@ fn main(rt: HostRuntime) -> Result<()> {
 /// How many evenings there are.
 const RUNS: u64 = 20;
 
+/// How many connections there are.
+const CONNECTIONS: usize = 3;
+
+/// The tick at which members that did not leave are dismissed, once the room closes.
+const LAST_TICK: u32 = 10;
+
 /// Spends an evening in the room. Returns what happened, in the order of the lines in each part.
 fn evening(alloc: Global, conditions: Conditions, seed: u64) -> Result<Vec<String>> {
     let mut network = Network::new(alloc, conditions, seed, Room::new(alloc));
     let mut lines = Vec::new(alloc);
-    for _connection in 0..3 {
+    for _connection in 0..CONNECTIONS {
         network.connect(Guests::new(alloc))?;
     }
     play(alloc, &mut network, "arriving", &ARRIVING, &mut lines)?;
     play(alloc, &mut network, "one more", &ONE_MORE, &mut lines)?;
     play(alloc, &mut network, "talking", &TALKING, &mut lines)?;
-    network.server.tick();
+    wind_down(&mut network, 0)?;
     play(alloc, &mut network, "leaving", &LEAVING, &mut lines)?;
-    network.server.tick();
+    wind_down(&mut network, 1)?;
     play(alloc, &mut network, "closing", &[], &mut lines)?;
     play(alloc, &mut network, "afterwards", &AFTERWARDS, &mut lines)?;
     Ok(lines)
+}
+
+/// Takes a step to the end of each connection: the room closes.
+fn wind_down(network: &mut Network<Room, Guests>, tick: u32) -> Result<()> {
+    for peer in 0..CONNECTIONS {
+        if let Some(on) = network.server_connection(peer) {
+            on.wind_down(tick, LAST_TICK)?;
+        }
+    }
+    Ok(())
 }
 
 /// Lets the guests do this, each on a connection, and adds what happened until all is quiet.
@@ -76,7 +92,7 @@ fn play(
     network.run_until_quiet()?;
     let mut log = Vec::new(alloc);
     log.append(&mut network.server.log)?;
-    for peer in 0..3 {
+    for peer in 0..CONNECTIONS {
         if let Some(guests) = network.client(peer) {
             log.append(&mut guests.log)?;
         }

@@ -1,17 +1,20 @@
 //! The server: a room whose members hear each other.
 use anyhow::Result;
 use std::alloc::Global;
-use std::collections::{BTreeMap, VecDeque};
+use std::collections::BTreeMap;
+use test_network::connections::Connections;
 use test_network::handler::Handler;
 use vesgrauf::connection::Connection;
 use vesgrauf::event::{Event, EventKind, Tunnel, Why};
 use vesgrauf::output::StreamKind;
+use vesgrauf::refused::Refused;
 use vesgrauf::{FieldList, Priority, Side, StatusCode};
 
-/// The most members, and the most lines that a member has not taken.
+/// The most members, and the most lines that a member has not taken: those of all members are fewer than the
+/// `max_unopened` of a connection.
 const MAX_MEMBERS: usize = 3;
 
-const MAX_PENDING: usize = 50;
+const MAX_PENDING: usize = 30;
 
 /// The longest line, in bytes, and the code with which a longer one is stopped.
 const MAX_LINE: usize = 500;
@@ -20,9 +23,6 @@ pub const TOO_LONG: u32 = 1;
 
 /// The code with which a session is closed whose member does not take its lines.
 const TOO_SLOW: u32 = 2;
-
-/// The tick at which members that did not leave are dismissed, once the room closes.
-const LAST_TICK: u32 = 10;
 
 /// Where the pages come from that may open sessions.
 const ORIGIN: &[u8] = b"https://chat.example";
@@ -46,33 +46,21 @@ struct Member {
     pending: usize,
 }
 
-/// What is to be sent to a member.
-#[derive(Drop)]
-enum Mail {
-    Line(Vec<u8>),
-    Datagram(Vec<u8>),
-}
-
 /// A room.
 #[derive(Drop)]
 pub struct Room {
     alloc: Global,
     /// What happened.
     pub log: Vec<String>,
-    /// How many ticks there were since the room closes, and how many each connection knows of.
-    ticks: u32,
-    told: BTreeMap<usize, u32>,
     members: BTreeMap<Place, Member>,
     /// What came of each line.
     lines: BTreeMap<Place, Vec<u8>>,
     /// How many pieces are left of each large answer.
     downloads: BTreeMap<Place, u32>,
-    /// What is to be sent to members, by their connections.
-    mail: BTreeMap<usize, VecDeque<(u64, Mail)>>,
 }
 
 impl Handler for Room {
-    fn event(&mut self, peer: usize, on: &mut Connection, event: Event<'_>) -> Result<()> {
+    fn event(&mut self, on: &mut Connections, event: Event<'_>) -> Result<()> {
         let is_own = event.is_own(Side::Server);
         let Event {
             stream,
@@ -80,43 +68,27 @@ impl Handler for Room {
             kind,
             ..
         } = event;
+        let peer = on.peer();
         let place = Place { peer, stream };
         match kind {
-            EventKind::Request(list) => self.answer(on, place, &list),
-            EventKind::Connect(Tunnel::Session, list) => self.enter(on, place, &list),
+            EventKind::Request(list) => self.answer(on.here(), place, &list),
+            EventKind::Connect(Tunnel::Session, list) => self.enter(on.here(), place, &list),
             EventKind::Connect(Tunnel::Other, _) => self.respond(
-                on,
+                on.here(),
                 stream,
                 StatusCode::NOT_IMPLEMENTED,
                 true,
             ),
             EventKind::NewStream(_) => self.begin_line(place),
-            EventKind::Data(bytes) => self.hear(on, place, bytes.as_slice()),
+            EventKind::Data(bytes) => self.hear(on.here(), place, bytes.as_slice()),
             EventKind::End => self.end_line(on, place, session),
-            EventKind::Datagram(bytes) => self.hear_datagram(place, bytes.as_slice()),
-            EventKind::Writable => self.download(on, place),
+            EventKind::Datagram(bytes) => self.hear_datagram(on, place, bytes.as_slice()),
+            EventKind::Writable => self.download(on.here(), place),
             EventKind::Stopped(_) => self.stop_download(place),
             EventKind::Closed(why) => self.closed(place, session, is_own, &why),
             EventKind::Idle => self.note("nothing is left on a connection"),
             _ => Ok(()),
         }
-    }
-
-    fn turn(&mut self, peer: usize, on: &mut Connection) -> Result<()> {
-        self.wind_down(peer, on)?;
-        let Some(mut mail) = self.mail.remove(&peer) else {
-            return Ok(());
-        };
-        for _mail in 0..mail.len() {
-            if let Some((session, mail)) = mail.pop_front() {
-                let place = Place {
-                    peer,
-                    stream: session,
-                };
-                self.deliver(on, place, mail)?;
-            }
-        }
-        Ok(())
     }
 }
 
@@ -127,18 +99,10 @@ impl Room {
         Room {
             alloc,
             log: Vec::new(alloc),
-            ticks: 0,
-            told: BTreeMap::new(alloc),
             members: BTreeMap::new(alloc),
             lines: BTreeMap::new(alloc),
             downloads: BTreeMap::new(alloc),
-            mail: BTreeMap::new(alloc),
         }
-    }
-
-    /// Goes on with closing the room. Each connection is told at its next turn.
-    pub fn tick(&mut self) {
-        self.ticks = self.ticks.saturating_add(1);
     }
 
     /// Answers a request for a page.
@@ -250,7 +214,7 @@ impl Room {
     }
 
     /// Passes a line on. On a stream in both directions it is answered.
-    fn end_line(&mut self, on: &mut Connection, place: Place, session: Option<u64>) -> Result<()> {
+    fn end_line(&mut self, on: &mut Connections, place: Place, session: Option<u64>) -> Result<()> {
         let (Some(line), Some(session)) = (self.lines.remove(&place), session) else {
             return Ok(());
         };
@@ -258,64 +222,44 @@ impl Room {
             peer: place.peer,
             stream: session,
         };
-        let heard = self.broadcast(from, line.as_slice(), false)?;
+        let heard = self.broadcast(on, from, line.as_slice(), false)?;
         if StreamKind::of(place.stream) == StreamKind::Bidirectional {
             let answer = format!(in self.alloc; "heard by {heard}")?;
-            on.send(place.stream, answer.as_bytes(), true)?;
+            on.here().send(place.stream, answer.as_bytes(), true)?;
         }
         Ok(())
     }
 
     /// Passes a datagram on.
-    fn hear_datagram(&mut self, from: Place, bytes: &[u8]) -> Result<()> {
-        self.broadcast(from, bytes, true)?;
+    fn hear_datagram(&mut self, on: &mut Connections, from: Place, bytes: &[u8]) -> Result<()> {
+        self.broadcast(on, from, bytes, true)?;
         Ok(())
     }
 
-    /// Posts what a member says to all others. Returns how many there are.
-    fn broadcast(&mut self, from: Place, said: &[u8], is_datagram: bool) -> Result<usize> {
+    /// Passes what a member says to all others. Returns how many there are.
+    fn broadcast(
+        &mut self,
+        on: &mut Connections,
+        from: Place,
+        said: &[u8],
+        is_datagram: bool,
+    ) -> Result<usize> {
         let Some(member) = self.members.get(&from) else {
             return Ok(0);
         };
         let line = format!(in self.alloc; "{}: {}", member.name, text(said))?;
         let mut heard: usize = 0;
-        for (place, _) in &self.members {
+        for (place, member) in self.members.iter_mut() {
             if *place == from {
                 continue;
             }
-            let bytes = Vec::from_slice(self.alloc, line.as_bytes())?;
-            let mail = if is_datagram {
-                Mail::Datagram(bytes)
-            } else {
-                Mail::Line(bytes)
-            };
-            let empty = VecDeque::new(self.alloc);
-            let box_of = self.mail.entry(place.peer)?.or_insert(empty);
-            box_of.push_back((place.stream, mail))?;
+            if let Some(on) = on.of(place.peer) {
+                let told = member.tell(on, place.stream, line.as_bytes(), is_datagram);
+                Refused::unless_gone(told)?;
+            }
             heard = heard.saturating_add(1);
         }
         Ok(heard)
-    }
-
-    /// Sends a member what is posted to it. One that takes nothing is dismissed.
-    fn deliver(&mut self, on: &mut Connection, place: Place, mail: Mail) -> Result<()> {
-        let Some(member) = self.members.get_mut(&place) else {
-            return Ok(());
-        };
-        match mail {
-            Mail::Datagram(bytes) => {
-                on.send_datagram(place.stream, bytes.as_slice())?;
-            }
-            Mail::Line(_) if member.pending >= MAX_PENDING => {
-                on.close_session(place.stream, TOO_SLOW, "you are too slow")?;
-            }
-            Mail::Line(bytes) => {
-                member.pending = member.pending.saturating_add(1);
-                let stream = on.open_stream(place.stream, StreamKind::Unidirectional)?;
-                on.send(stream, bytes.as_slice(), true)?;
-            }
-        }
-        Ok(())
     }
 
     /// Forgets a stream that is over. The own stream of a session is that of a member.
@@ -350,15 +294,25 @@ impl Room {
     }
 }
 
-/// The end.
-impl Room {
-    /// Takes the next step to the end of a connection, if the room closes.
-    fn wind_down(&mut self, peer: usize, on: &mut Connection) -> Result<()> {
-        let told = self.told.get(&peer).copied().unwrap_or(0);
-        if told < self.ticks {
-            on.wind_down(told, LAST_TICK)?;
-            self.told.insert(peer, told.saturating_add(1))?;
+impl Member {
+    /// Sends what another member says. A member that does not take its lines is dismissed.
+    fn tell(
+        &mut self,
+        on: &mut Connection,
+        session: u64,
+        line: &[u8],
+        is_datagram: bool,
+    ) -> Result<(), Refused> {
+        if is_datagram {
+            on.send_datagram(session, line)?;
+            return Ok(());
         }
+        if self.pending >= MAX_PENDING {
+            return on.close_session(session, TOO_SLOW, "you are too slow");
+        }
+        let stream = on.open_stream(session, StreamKind::Unidirectional)?;
+        self.pending = self.pending.saturating_add(1);
+        on.send(stream, line, true)?;
         Ok(())
     }
 }

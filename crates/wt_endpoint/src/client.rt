@@ -2,6 +2,7 @@
 use anyhow::Result;
 use std::alloc::Global;
 use std::collections::BTreeMap;
+use test_network::connections::Connections;
 use test_network::handler::Handler;
 use vesgrauf::connection::Connection;
 use vesgrauf::event::{Event, EventKind};
@@ -30,7 +31,8 @@ pub struct Client {
 }
 
 impl Handler for Client {
-    fn event(&mut self, _peer: usize, on: &mut Connection, event: Event<'_>) -> Result<()> {
+    fn event(&mut self, on: &mut Connections, event: Event<'_>) -> Result<()> {
+        let on = on.here();
         let id = event.stream;
         match event.kind {
             EventKind::Ready(_) => self.begin(on),

@@ -46,6 +46,11 @@ fn runs(arguments: &[String]) -> Result<u64> {
 /// Connects a client to a server, and returns what the client notes, in the order of the lines.
 fn run(alloc: Global, conditions: Conditions, seed: u64) -> Result<Vec<String>> {
     let mut network = Network::new(alloc, conditions, seed, Server { alloc });
+    play(alloc, &mut network)
+}
+
+/// Connects a client, and returns what it notes, in the order of the lines.
+fn play(alloc: Global, network: &mut Network<Server, Client>) -> Result<Vec<String>> {
     let peer = network.connect(Client::new(alloc))?;
     network.run_until_quiet()?;
     let Some(client) = network.client(peer) else {

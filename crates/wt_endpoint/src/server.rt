@@ -1,6 +1,7 @@
 //! An echo server.
 use anyhow::Result;
 use std::alloc::Global;
+use test_network::connections::Connections;
 use test_network::handler::Handler;
 use vesgrauf::connection::Connection;
 use vesgrauf::event::{Event, EventKind, Tunnel};
@@ -14,7 +15,8 @@ pub struct Server {
 }
 
 impl Handler for Server {
-    fn event(&mut self, _peer: usize, on: &mut Connection, event: Event<'_>) -> Result<()> {
+    fn event(&mut self, on: &mut Connections, event: Event<'_>) -> Result<()> {
+        let on = on.here();
         let (id, to) = (event.stream, event.user.unwrap_or(event.stream));
         match event.kind {
             EventKind::Request(list) => answer(self.alloc, on, id, &list),

@@ -4,6 +4,7 @@ use anyhow::{Result, bail};
 use std::alloc::Global;
 use std::collections::{BTreeSet, VecDeque};
 use std::mem;
+use test_network::connections::Connections;
 use test_network::handler::Handler;
 use test_network::random::Random;
 use vesgrauf::connection::Connection;
@@ -50,10 +51,11 @@ pub struct Actor {
 }
 
 impl Handler for Actor {
-    fn event(&mut self, _peer: usize, on: &mut Connection, event: Event<'_>) -> Result<()> {
+    fn event(&mut self, on: &mut Connections, event: Event<'_>) -> Result<()> {
         if self.is_over {
             bail!("an event after the last one");
         }
+        let on = on.here();
         let Event {
             stream,
             session,
@@ -86,8 +88,8 @@ impl Handler for Actor {
         }
     }
 
-    fn turn(&mut self, _peer: usize, on: &mut Connection) -> Result<()> {
-        self.act(on)
+    fn turn(&mut self, on: &mut Connections) -> Result<()> {
+        self.act(on.here())
     }
 }
 

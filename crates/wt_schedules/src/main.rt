@@ -92,11 +92,21 @@ fn run(alloc: Global, seed: u64) -> Result<()> {
         Actor::new(alloc, false, number.wrapping_add(1)),
     );
     let actor = Actor::new(alloc, true, number.wrapping_add(2));
+    play(&mut network, actor, client, server)
+}
+
+/// Connects a client, lets both ends do what they have to do, and then shut down.
+fn play(
+    network: &mut Network<Actor, Actor>,
+    actor: Actor,
+    client: Config,
+    server: Config,
+) -> Result<()> {
     let peer = network.connect_with(actor, client, server)?;
     network.run_until_quiet()?;
-    finish(&mut network, peer)?;
+    finish(network, peer)?;
     network.run_until_quiet()?;
-    check(&mut network, peer)
+    check(network, peer)
 }
 
 /// Lets both ends shut down.
