@@ -14,6 +14,7 @@ mod heard;
 mod ids;
 mod leaving;
 mod looking;
+mod losing;
 mod malformed;
 mod messages;
 mod opening;
