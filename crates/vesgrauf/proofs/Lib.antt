@@ -23,6 +23,7 @@ pub mod PlaceLemmas
 pub mod PlaceSteps
 pub mod ProgressLemmas
 pub mod ReadsLemmas
+pub mod RefusedLemmas
 pub mod RunLemmas
 pub mod StepLemmas
 pub mod TellsLemmas

@@ -18,7 +18,7 @@ ghost use Rattle.vesgrauf.specs.Told.{Says, Fails, Closes, Path, on, knows};
 ghost use Rattle.vesgrauf.specs.declared.event.Event.{Event as EventOf};
 ghost use Rattle.vesgrauf.specs.Halves.{Hears, Holds, NotKnown, Has, OfOwn, OfPeer, OfBoth, after, after_told, after_queued, halves_at, told_by_all};
 ghost use Rattle.vesgrauf.specs.Told.{Sound};
-ghost use Rattle.vesgrauf.specs.Instructions.{Table, Does as SaysBy, Leaves, Counts, Acknowledges, AreSaid, Turn, Turns, all_deeds, all_taken, bytes_of_all};
+ghost use Rattle.vesgrauf.specs.Instructions.{Table, Does as SaysBy, Deed, Deeds, Reads, Leaves, Counts, Acknowledges, AreSaid, Turn, Turns, all_deeds, all_taken, bytes_of_all};
 ghost use Rattle.wtp_dynamic.specs.declared.acknowledgment.Acknowledgment.{Acknowledgment};
 ghost use Rattle.wtp_dynamic.specs.declared.acknowledgment.Acknowledgment.TheVariants as instruction;
 ghost use Rattle.wtp_dynamic.specs.DecoderStream.{acknowledgment_bytes};
@@ -205,6 +205,21 @@ pub fn sections_are_acknowledged_once()
         → a.d.decoder ≡ Some k → a.d.read ≡ Some (just_read required) → 0 < min required (insert_count k.table)
         → (u.bytes ≡ t.bytes ++ acknowledgment_bytes (instruction.Section id)) × (u.read ≡ None) }
     ensures unread { (id : ℕ) (t u : Table) (a : Acknowledges id t u) → a.d.read ≡ None → u.bytes ≡ t.bytes }
+{}
+
+/// The definitions refuse two instructions for one deed, an acknowledgment or a cancellation of another stream, a count of
+/// insertions where a section was read, an instruction where nothing was done, and that the acknowledgment of a section is
+/// forgotten that was read with the own table, and whose Required Insert Count is not 0. Without a deed nothing is said.
+pub fn wrong_instructions_are_refused()
+    ensures said_twice { (x : Deed) (a b : Acknowledgment) → AreSaid (x ∷ []) (a ∷ b ∷ []) → ⊥ }
+    ensures read_elsewhere { (id k : ℕ) → AreSaid (Reads id ∷ []) (instruction.Section k ∷ []) → k ≡ id }
+    ensures left_elsewhere { (id k : ℕ) → AreSaid (Leaves id ∷ []) (instruction.Cancellation k ∷ []) → k ≡ id }
+    ensures counted { (id n : ℕ) → AreSaid (Reads id ∷ []) (instruction.Increment n ∷ []) → ⊥ }
+    ensures made_up { (a : Acknowledgment) → AreSaid [] (a ∷ []) → ⊥ }
+    ensures forgotten { (id : ℕ) (t u : Table) (a : Acknowledges id t u) (k : Decoder) (required : ℕ)
+        → a.d.decoder ≡ Some k → a.d.read ≡ Some (just_read required) → 0 < min required (insert_count k.table)
+        → u.bytes ≡ t.bytes → ⊥ }
+    ensures silent { (t u : Table) → Deeds [] t u → u.bytes ≡ t.bytes }
 {}
 
 /// The decoder stream of RFC 9204, appendix B.2 to B.4: the section of stream 4 is acknowledged, which needs the two entries
