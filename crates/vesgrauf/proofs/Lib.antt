@@ -10,6 +10,7 @@ pub mod InstructionLemmas
 pub mod JoinedLemmas
 pub mod KeepsLemmas
 pub mod KeepsOwnLemmas
+pub mod KeptLemmas
 pub mod LastsLemmas
 pub mod LostLemmas
 pub mod LookLemmas

@@ -13,6 +13,7 @@ pub mod Instructions
 pub mod Items
 pub mod Joined
 pub mod Keeps
+pub mod Kept
 pub mod Leaving
 pub mod Members
 pub mod Messages

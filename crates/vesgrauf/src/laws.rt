@@ -1,6 +1,6 @@
 //! Laws of a connection, of its runs or of the steps that its calls take. Each function does nothing: its contract is the
 //! law.
-ghost use Rattle.std.specs.Prelude.{◌≡◌, ◌++◌, ◌<◌, min, ℕ, Bool, List, [], ◌∷◌, Some, None, Ok, true, false};
+ghost use Rattle.std.specs.Prelude.{◌≡◌, ◌++◌, ◌<◌, length, min, ℕ, Bool, List, [], ◌∷◌, Some, None, Ok, true, false};
 ghost use Rattle.vesgrauf_queue.specs.declared.ending.Ending.TheVariants as ending;
 ghost use Rattle.vesgrauf_stream.specs.Writing.{is_none};
 ghost use Rattle.wtp_qpack.specs.Field.{Field};
@@ -31,6 +31,8 @@ ghost use Rattle.vesgrauf.specs.Joined.{AreSevered, holds_in, is_severed};
 ghost use Rattle.vesgrauf.specs.Members.{Linked};
 ghost use Rattle.vesgrauf.specs.Own.{End, Sends, entry_at, is_sent, own_in};
 ghost use Rattle.vesgrauf.specs.State.{open_session};
+ghost use Rattle.vesgrauf.specs.Bounds.{AllFit, Fits, IsBounded, most_kept};
+ghost use Rattle.vesgrauf.specs.Kept.{AllKeep};
 ghost use Rattle.vesgrauf.specs.Theirs.{theirs_in};
 ghost use Rattle.vesgrauf.specs.declared.entry.Entry.{Entry as EntryOf};
 
@@ -160,6 +162,17 @@ pub fn wrong_severances_are_refused()
     ensures reads { (e : EntryOf) (bytes : List ℕ) (ended : Bool) (at : Stream) → theirs_in (Some e) ≡ Unread bytes ended at
         → e.is_ended ≡ false → is_severed (Some e) ≡ true → ⊥ }
     ensures forgotten { is_severed None ≡ true }
+{}
+
+/// Over calls, of which each keeps the bound: one of `next_event` that returns and leaves the connection open, and those that keep
+/// what is unread of each stream, unless it is read no further. Of each stream no more bytes are kept than the configuration that
+/// the connection began with says, by `receive_buffer` and `max_paused` together. One byte more is refused by the definition.
+#[tactic(auto, using(crate::proofs::KeptLemmas::all_keep, crate::proofs::KeptLemmas::too_many_kept))]
+pub fn kept_bytes_are_bounded()
+    ensures kept { (calls : List Connection) (c : Connection) (d : Connection) → IsBounded c → AllKeep calls c d
+        → AllFit (most_kept c.config) d.streams.entries }
+    ensures refused { (most : ℕ) (bytes : List ℕ) (ended : Bool) (at : Stream) → most < length bytes
+        → Fits most (Unread bytes ended at) → ⊥ }
 {}
 
 /// Over calls of `next_event` that do not end the connection: of a stream that the program knew of before, no own half is
