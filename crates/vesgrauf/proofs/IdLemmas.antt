@@ -15,14 +15,14 @@ use Rattle.vesgrauf.specs.Ids.{was, own_bit, peer_bit, kind_by, kind_of, next_ow
 use Rattle.vesgrauf.specs.declared.config.Config.{Config}
 use Rattle.vesgrauf.specs.declared.connection.Connection.{Connection}
 use Rattle.vesgrauf.specs.declared.connection.Ended.{Ended}
-use Rattle.vesgrauf.specs.Halves.{halves_in, halves_at, Holds}
+use Rattle.vesgrauf.specs.Halves.{halves_in, halves_at, Holds, Lasts}
 use Rattle.vesgrauf.specs.Keeps.{KeepsAll, Kept, Keeps}
 use Rattle.vesgrauf.specs.Members.{is_member, is_noted, session_in}
 use Rattle.vesgrauf.specs.Own.{entry_at, own_in, IsUntouched, UntouchedBut}
 use Rattle.vesgrauf.specs.State.{knows_of, IsStill}
 use Rattle.vesgrauf.specs.Theirs.{theirs_in, IsLeft}
 use Rattle.vesgrauf.proofs.HalvesLemmas.{holds_refl}
-use Rattle.vesgrauf.proofs.LastsLemmas.{lasts_still, not_there}
+use Rattle.vesgrauf.proofs.LastsLemmas.{lasts_still, lasts_sets, not_there}
 use Rattle.vesgrauf.proofs.KeepsLemmas.{keeps_refl}
 use Rattle.vesgrauf.specs.Told.{Sets, AreOthers, IsUndone, AreIds, Sound, Stays, status_by, Goes}
 use Rattle.vesgrauf.proofs.GoesLemmas.{by_none, goes_refl, same_at, stays_refl}
@@ -411,6 +411,14 @@ keeps_undone es fs ids q a b x kd id at u e = Kept
     (record { each = λ k. left_undone (entry_at es k) (entry_at fs k) (undone_is (is_at (nat_cmp id) k) id k es fs refl u) })
     (goes_undone es fs ids q kd id at u) e (λ n. n)
     (λ n s. lasts_still None es fs q (λ k. halves_by (is_at (nat_cmp id) k) es fs ids id k kd refl at s u))
+
+-- an own stream is opened, and no half of another one changes
+pub lasts_opens : (es fs : List (ℕ × Entry)) (ids : Ids) (q : List Event) (k : StreamKind) (id : ℕ)
+    → id ≡ next_own ids k → AreOthers id es fs → Sound es ids → Lasts None [] es q fs q
+lasts_opens es fs ids q k id at others s = lasts_sets None es fs q id (entry_at fs id)
+    (sets_by es fs id (entry_at fs id) refl others)
+    (subst (λ o. Holds (halves_in o) (halves_in (entry_at fs id)))
+    (sym (not_there es ids id s (rw at (own_was ids k s.ids_are)))) tt)
 
 -- nothing that the program or QUIC sees changes
 pub keeps_still : (c d : Connection) → IsStill c d → Keeps [] c d

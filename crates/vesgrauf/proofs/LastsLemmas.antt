@@ -1,5 +1,5 @@
 -- What steps leave of what the program may count on of the halves of its streams.
-use Rattle.std.proofs.Common.{◌≡◌, ◌⊎◌, ◌==◌, ◌++◌, ℕ, List, [], ◌∷◌, Option, Some, None, Bool, true, false, cond, refl, inl, inr, sym, ap, subst, ◌∙◌}
+use Rattle.std.proofs.Common.{◌≡◌, ◌⊎◌, ◌==◌, ◌++◌, ◌||◌, ℕ, List, [], ◌∷◌, Option, Some, None, Bool, true, false, cond, refl, inl, inr, sym, ap, subst, ◌∙◌}
 use Rattle.std.specs.Ordering.{nat_cmp}
 use Rattle.std.specs.Map.{set_value}
 use Rattle.std.specs.BTreeMap.{is_at}
@@ -8,7 +8,7 @@ use Rattle.vesgrauf.specs.declared.entry.Told.{Told}
 use Rattle.vesgrauf.specs.declared.entry.Told.TheVariants as told
 use Rattle.vesgrauf.specs.declared.event.Event.{Event}
 use Rattle.vesgrauf.specs.declared.event.EventKind.{EventKind}
-use Rattle.vesgrauf.specs.Halves.{Halves, NotKnown, Has, is_sending, reads_by, reads_in, halves_if, halves_in, halves_at, Ending, OfOwn, OfPeer, OfBoth, ending_queued, ending_told, after, after_if, after_told, after_queued, Holds, alone, but_for, Lasts, Hears, told_by_all}
+use Rattle.vesgrauf.specs.Halves.{Halves, NotKnown, Has, is_sending, reads_by, reads_in, halves_if, halves_in, halves_at, Ending, OfOwn, OfPeer, OfBoth, ending_queued, ending_told, after, after_if, after_told, after_queued, Holds, alone, but_for, Lasts, Turn, Turns, said_by, ends_on, told_by_all, is_on, may_end}
 use Rattle.vesgrauf.specs.Own.{own_in, own_at, entry_at}
 use Rattle.vesgrauf.specs.State.{knows_of}
 use Rattle.vesgrauf.specs.Own.{Own}
@@ -18,7 +18,7 @@ use Rattle.vesgrauf.specs.declared.entry.Peer.TheVariants as peer
 use Rattle.vesgrauf_stream.specs.declared.reading.Reading.{Reading}
 use Rattle.vesgrauf_stream.specs.Reading.{kept_of}
 use Rattle.vesgrauf.specs.Streams.{is_known, becomes_known}
-use Rattle.std.specs.Prelude.{is_some}
+use Rattle.std.specs.Prelude.{is_some, if◌then◌else◌}
 use Rattle.vesgrauf.specs.declared.connection.Connection.{Connection}
 use Rattle.vesgrauf.specs.declared.connection.ids.Ids.{Ids}
 use Rattle.vesgrauf.specs.Ids.{was}
@@ -430,20 +430,40 @@ queued_less id (e ∷ es) h = holds_trans (after_queued id es (after_if (e.strea
     (queued_less id es (after_if (e.stream == id) (ending_queued e.kind) h))
     (if_less (e.stream == id) (ending_queued e.kind) h)
 
-go_on : (calls : List (List Event)) (c d : Connection) → Sound c.streams.entries c.ids → Hears calls c d → (id : ℕ)
-    → (h : Halves) → Holds (after_queued id c.events.items h) (halves_at c.streams.entries id)
-    → Holds (after_queued id d.events.items (after_told id (told_by_all calls) h)) (halves_at d.streams.entries id)
-go_on [] c d s r id h p = subst (λ e. Holds (after_queued id e.events.items h) (halves_at e.streams.entries id)) (sym r) p
-go_on (said ∷ calls) c d s r id h p =
-    let m : Connection = r.0 in
-    let lasts : Lasts None said c.streams.entries c.events.items m.streams.entries m.events.items
-    = r.1.lasts r.1.remains s in
-    subst (λ x. Holds (after_queued id d.events.items x) (halves_at d.streams.entries id))
-    (sym (told_more id said (told_by_all calls) h))
-    (go_on calls m d (r.1.goes.sound s) r.2 id (after_told id said h) (lasts.holds id h p))
+not_first : (a b : Bool) → (a || b) ≡ false → (a ≡ false) × (b ≡ false)
+not_first true b h = absurd (let bad : true ≡ false = h in cc)
+not_first false b h = (refl, h)
 
-pub halves_go_on : (calls : List (List Event)) (c d : Connection) → Sound c.streams.entries c.ids → Hears calls c d → (id : ℕ)
-    → Holds (after_queued id d.events.items (after_told id (told_by_all calls) (halves_at c.streams.entries id)))
+-- of a stream that the call is not on
+all_of : (but : Option ℕ) (id : ℕ) (h : Halves) → is_on id but ≡ false → but_for but id h ≡ h
+all_of None id h n = refl
+all_of (Some k) id h n = ap (λ b. if b then alone h else h) n
+
+lasts_at : (but : Option ℕ) (said : List Event) (es fs : List (ℕ × Entry)) (q r : List Event) (id : ℕ) (h : Halves)
+    → is_on id but ≡ false → Lasts but said es q fs r → Holds (after_queued id q h) (halves_at es id)
+    → Holds (after_queued id r (after_told id said h)) (halves_at fs id)
+lasts_at but said es fs q r id h n l p =
+    subst (λ x. Holds (after_queued id r (after_told id said h)) x) (all_of but id (halves_at fs id) n)
+    (subst (λ x. Holds (after_queued id r (after_told id said x)) (but_for but id (halves_at fs id))) (all_of but id h n)
+    (l.holds id h (subst (λ x. Holds (after_queued id q (but_for but id h)) x) (sym (all_of but id (halves_at es id) n))
+    (subst (λ x. Holds (after_queued id q x) (halves_at es id)) (sym (all_of but id h n)) p))))
+
+go_on : (turns : List Turn) (c d : Connection) → Sound c.streams.entries c.ids → Turns turns c d → (id : ℕ)
+    → may_end id turns ≡ false → (h : Halves) → Holds (after_queued id c.events.items h) (halves_at c.streams.entries id)
+    → Holds (after_queued id d.events.items (after_told id (told_by_all turns) h)) (halves_at d.streams.entries id)
+go_on [] c d s r id n h p = subst (λ e. Holds (after_queued id e.events.items h) (halves_at e.streams.entries id)) (sym r) p
+go_on (t ∷ turns) c d s r id n h p =
+    let m : Connection = r.0 in
+    let off = not_first (is_on id (ends_on t)) (may_end id turns) n in
+    subst (λ x. Holds (after_queued id d.events.items x) (halves_at d.streams.entries id))
+    (sym (told_more id (said_by t) (told_by_all turns) h))
+    (go_on turns m d (r.1.goes.sound s) r.2 id off.1 (after_told id (said_by t) h)
+    (lasts_at (ends_on t) (said_by t) c.streams.entries m.streams.entries c.events.items m.events.items id h off.0
+    (r.1.lasts s) p))
+
+pub halves_go_on : (turns : List Turn) (c d : Connection) → Sound c.streams.entries c.ids → Turns turns c d → (id : ℕ)
+    → may_end id turns ≡ false
+    → Holds (after_queued id d.events.items (after_told id (told_by_all turns) (halves_at c.streams.entries id)))
     (halves_at d.streams.entries id)
-halves_go_on calls c d s r id = go_on calls c d s r id (halves_at c.streams.entries id)
+halves_go_on turns c d s r id n = go_on turns c d s r id n (halves_at c.streams.entries id)
     (queued_less id c.events.items (halves_at c.streams.entries id))

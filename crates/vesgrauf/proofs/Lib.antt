@@ -12,8 +12,8 @@ pub mod KeepsLemmas
 pub mod KeepsOwnLemmas
 pub mod KeptLemmas
 pub mod LastsLemmas
-pub mod LostLemmas
 pub mod LookLemmas
+pub mod LostLemmas
 pub mod MemberLemmas
 pub mod MessageLemmas
 pub mod NotedLemmas
@@ -26,6 +26,7 @@ pub mod ProgressLemmas
 pub mod ReadsLemmas
 pub mod RefusedLemmas
 pub mod RunLemmas
+pub mod SendsLemmas
 pub mod StepLemmas
 pub mod TellsLemmas
 pub mod TheirsLemmas

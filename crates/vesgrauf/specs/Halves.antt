@@ -1,6 +1,6 @@
 -- What the program may count on of the halves of the streams that it knows of: none is reset, given up or left unread unless
 -- it is told so, or an event is queued that says so.
-use Rattle.std.specs.Prelude.{◌≡◌, ◌==◌, ◌++◌, ℕ, if◌then◌else◌, Bool, true, false, List, [], ◌∷◌, Option, None, Some, not}
+use Rattle.std.specs.Prelude.{◌≡◌, ◌==◌, ◌++◌, ◌||◌, ℕ, if◌then◌else◌, Bool, true, false, List, [], ◌∷◌, Option, None, Some, not}
 use Rattle.std.specs.Ordering.{nat_cmp}
 use Rattle.std.specs.BTreeMap.{is_at}
 use Rattle.vesgrauf.specs.declared.connection.Connection.{Connection}
@@ -124,18 +124,41 @@ LastsBut id c d = is_over d ≡ false → Sound c.streams.entries c.ids
 
 -- ---- runs
 
--- a call of `next_event` that told these events, after which the connection is not over
-pub record Listens (said : List Event) (c d : Connection) : Type 0 where
-  pub remains : is_over d ≡ false
-  pub goes : GoesOn said c d
-  pub lasts : LastsOn said c d
+-- Hears: a call of `next_event` tells these events. Calls: any other call, which may end halves of this stream, or of none.
+pub data Turn : Type 0 where
+  Hears : (said : List Event) → Turn
+  Calls : (on : Option ℕ) → Turn
 
--- such calls, one after the other
-abbrev pub Hears : List (List Event) → Connection → Connection → Type 0
-Hears [] c d = d ≡ c
-Hears (said ∷ calls) c d = (m : Connection) × Listens said c m × Hears calls m d
+abbrev pub said_by : Turn → List Event
+said_by (Hears said) = said
+said_by (Calls on) = []
+
+abbrev pub ends_on : Turn → Option ℕ
+ends_on (Hears said) = None
+ends_on (Calls on) = on
+
+-- a turn after which the connection is not over, as the contract of the call says
+pub record Takes (t : Turn) (c d : Connection) : Type 0 where
+  pub remains : is_over d ≡ false
+  pub goes : GoesOn (said_by t) c d
+  pub lasts : Sound c.streams.entries c.ids
+      → Lasts (ends_on t) (said_by t) c.streams.entries c.events.items d.streams.entries d.events.items
+
+-- such turns, one after the other
+abbrev pub Turns : List Turn → Connection → Connection → Type 0
+Turns [] c d = d ≡ c
+Turns (t ∷ turns) c d = (m : Connection) × Takes t c m × Turns turns m d
 
 -- all that they told
-abbrev pub told_by_all : List (List Event) → List Event
+abbrev pub told_by_all : List Turn → List Event
 told_by_all [] = []
-told_by_all (said ∷ calls) = said ++ told_by_all calls
+told_by_all (t ∷ turns) = said_by t ++ told_by_all turns
+
+abbrev pub is_on : ℕ → Option ℕ → Bool
+is_on id None = false
+is_on id (Some k) = is_at (nat_cmp k) id
+
+-- a call that may end halves of this stream is among them
+abbrev pub may_end : ℕ → List Turn → Bool
+may_end id [] = false
+may_end id (t ∷ turns) = is_on id (ends_on t) || may_end id turns

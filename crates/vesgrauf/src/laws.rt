@@ -16,7 +16,7 @@ ghost use Rattle.vesgrauf.specs.declared.connection.Connection.{Connection};
 ghost use Rattle.vesgrauf.specs.declared.entry.Told.TheVariants as entry;
 ghost use Rattle.vesgrauf.specs.Told.{Says, Fails, Closes, Path, on, knows};
 ghost use Rattle.vesgrauf.specs.declared.event.Event.{Event as EventOf};
-ghost use Rattle.vesgrauf.specs.Halves.{Hears, Holds, NotKnown, Has, OfOwn, OfPeer, OfBoth, after, after_told, after_queued, halves_at, told_by_all};
+ghost use Rattle.vesgrauf.specs.Halves.{Turn as Taken, Turns as Take, Holds, NotKnown, Has, OfOwn, OfPeer, OfBoth, after, after_told, after_queued, halves_at, may_end, told_by_all};
 ghost use Rattle.vesgrauf.specs.Told.{Sound};
 ghost use Rattle.vesgrauf.specs.Instructions.{Table, Does as SaysBy, Deed, Deeds, Reads, Leaves, Counts, Acknowledges, AreSaid, Turn, Turns, all_deeds, all_taken, bytes_of_all};
 ghost use Rattle.wtp_dynamic.specs.declared.acknowledgment.Acknowledgment.{Acknowledgment};
@@ -175,14 +175,16 @@ pub fn kept_bytes_are_bounded()
         → Fits most (Unread bytes ended at) → ⊥ }
 {}
 
-/// Over calls of `next_event` that do not end the connection: of a stream that the program knew of before, no own half is
-/// reset or given up, and no half of the peer is left unread, unless the program is told so, or an event that says so is
-/// queued. For the own half that is `Stopped`, for the peer's `End` or `Reset`, and for both `Closed`.
+/// Over calls that do not end the connection: of a stream that the program knew of before, and on which it and QUIC make no
+/// call that may end a half, no own half is reset or given up, and no half of the peer is left unread, unless the program is
+/// told so, or an event that says so is queued. For the own half that is `Stopped`, for the peer's `End` or `Reset`, and for
+/// both `Closed`. Calls that may end a half of their own stream are `reset`, `stop_sending`, `abort`, `finish`, `respond`,
+/// `close_session`, `sent` and `acked`. Of `wind_down`, which makes such calls on sessions, nothing is said.
 #[tactic(auto, using(crate::proofs::LastsLemmas::halves_go_on))]
 pub fn halves_go_on()
-    ensures { (calls : List (List EventOf)) (c : Connection) (d : Connection) → Sound c.streams.entries c.ids
-        → Hears calls c d → (id : ℕ)
-        → Holds (after_queued id d.events.items (after_told id (told_by_all calls) (halves_at c.streams.entries id)))
+    ensures { (turns : List Taken) (c : Connection) (d : Connection) → Sound c.streams.entries c.ids
+        → Take turns c d → (id : ℕ) → may_end id turns ≡ false
+        → Holds (after_queued id d.events.items (after_told id (told_by_all turns) (halves_at c.streams.entries id)))
         (halves_at d.streams.entries id) }
 {}
 

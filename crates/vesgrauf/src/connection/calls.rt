@@ -1,6 +1,6 @@
 //! Calls on one stream.
 ghost use Rattle.std.specs.Prelude.{◌≡◌, is_some, is_ok, true, false, Some, None, OnOk, OnErr, IfErr, []};
-ghost use Rattle.vesgrauf.specs.Halves.{LastsBut};
+ghost use Rattle.vesgrauf.specs.Halves.{LastsBut, LastsOn};
 ghost use Rattle.vesgrauf.specs.Keeps.{KeepsBut};
 ghost use Rattle.vesgrauf.specs.State.{code_on, named_at, Becomes, Pauses, Prioritizes, IsStill, IsRefusedBy, IsWhyNamed};
 ghost use Rattle.vesgrauf.specs.declared.refused.Refused.TheVariants as refused;
@@ -210,13 +210,14 @@ impl Connection {
     /// # Errors
     ///
     /// Nothing changes. `Closed`; `NoStream`; and `Memory`.
-    #[tactic(auto, using(crate::proofs::KeepsLemmas::kept, std::proofs::lemmas::Map::Steps::set_value_same, crate::proofs::GoesLemmas::goes_set, crate::proofs::PlaceLemmas::ordered, crate::proofs::JoinedLemmas::joined))]
+    #[tactic(auto, using(crate::proofs::KeepsLemmas::kept, std::proofs::lemmas::Map::Steps::set_value_same, crate::proofs::GoesLemmas::goes_set, crate::proofs::PlaceLemmas::ordered, crate::proofs::JoinedLemmas::joined, crate::proofs::SendsLemmas::lasts_as_before, crate::proofs::SendsLemmas::lasting_same, crate::proofs::LastsLemmas::lasts_refl))]
     pub fn pause(&mut self, id: u64, paused: bool) -> Result<(), Refused>
         ensures ok { OnOk result (Pauses id paused self.old self.new) }
         ensures looks { OnOk result (paused ≡ false → LooksAt id self.new) }
         ensures why { IfErr result (λ e. IsWhyNamed self.old id e) }
         ensures kept { OnErr result (IsStill self.old self.new) }
         ensures goes { GoesOn [] self.old self.new }
+        ensures lasts { LastsOn [] self.old self.new }
     {
         if self.ended.is_some() {
             return Err(Refused::Closed);
@@ -252,12 +253,13 @@ impl Connection {
     /// # Errors
     ///
     /// Nothing changes. `Closed`; `NoStream`; and `Memory`.
-    #[tactic(auto, using(crate::proofs::KeepsLemmas::kept, std::proofs::lemmas::Map::Steps::set_value_same, crate::proofs::GoesLemmas::goes_set, crate::proofs::PlaceLemmas::ordered_moved))]
+    #[tactic(auto, using(crate::proofs::KeepsLemmas::kept, std::proofs::lemmas::Map::Steps::set_value_same, crate::proofs::GoesLemmas::goes_set, crate::proofs::PlaceLemmas::ordered_moved, crate::proofs::SendsLemmas::lasts_as_before, crate::proofs::SendsLemmas::lasting_same, crate::proofs::LastsLemmas::lasts_refl))]
     pub fn prioritize(&mut self, id: u64, priority: Priority) -> Result<(), Refused>
         ensures ok { OnOk result (Prioritizes id priority self.old self.new) }
         ensures why { IfErr result (λ e. IsWhyNamed self.old id e) }
         ensures kept { OnErr result (IsStill self.old self.new) }
         ensures goes { GoesOn [] self.old self.new }
+        ensures lasts { LastsOn [] self.old self.new }
     {
         if self.ended.is_some() {
             return Err(Refused::Closed);
@@ -284,12 +286,13 @@ impl Connection {
     /// # Errors
     ///
     /// `NoStream`.
-    #[tactic(auto, using(crate::proofs::KeepsLemmas::kept, std::proofs::lemmas::Map::Steps::set_value_same, crate::proofs::GoesLemmas::goes_set, crate::proofs::PlaceLemmas::ordered, crate::proofs::JoinedLemmas::joined))]
+    #[tactic(auto, using(crate::proofs::KeepsLemmas::kept, std::proofs::lemmas::Map::Steps::set_value_same, crate::proofs::GoesLemmas::goes_set, crate::proofs::PlaceLemmas::ordered, crate::proofs::JoinedLemmas::joined, crate::proofs::SendsLemmas::lasts_as_before, crate::proofs::SendsLemmas::lasting_same, crate::proofs::LastsLemmas::lasts_refl))]
     pub fn set_user(&mut self, id: u64, user: u64) -> Result<(), Refused>
         ensures ok { OnOk result (Becomes id (λ e. record e { user = Some user }) self.old self.new) }
         ensures err { IfErr result (λ e. (e ≡ refused.NoStream) × (named_at self.old id ≡ None)) }
         ensures kept { OnErr result (IsStill self.old self.new) }
         ensures goes { GoesOn [] self.old self.new }
+        ensures lasts { LastsOn [] self.old self.new }
     {
         if !self.is_named(id) {
             return Err(Refused::NoStream);

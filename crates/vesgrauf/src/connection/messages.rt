@@ -4,7 +4,7 @@ ghost use Rattle.vesgrauf_stream.specs.Writing.{Sends};
 ghost use Rattle.vesgrauf_stream.specs.Headers.{response_at, SendsHeaders, SendsTrailers, RefusesTrailers};
 ghost use Rattle.vesgrauf_stream.specs.declared.tools.Tools.{Tools as ToolsOf};
 ghost use Rattle.vesgrauf.specs.Messages.{allowed, IsSameBut, ChangesBy, ChangesThen, ClosesSession};
-ghost use Rattle.vesgrauf.specs.Halves.{LastsBut};
+ghost use Rattle.vesgrauf.specs.Halves.{LastsBut, LastsOn};
 ghost use Rattle.vesgrauf.specs.Keeps.{Keeps, KeepsBut};
 ghost use Rattle.vesgrauf.specs.Own.{UntouchedBut};
 ghost use Rattle.vesgrauf.specs.Theirs.{Left};
@@ -198,13 +198,14 @@ impl Connection {
     ///
     /// Nothing is queued. `Full` if a call returned false, and as many bytes are queued still: the `Writable` is to come.
     /// `Closed`; `NoStream`; `Over`; `Send`; and `Memory`.
-    #[tactic(auto, using(crate::proofs::KeepsLemmas::kept, std::proofs::lemmas::Map::Steps::set_value_same, crate::proofs::GoesLemmas::goes_set))]
+    #[tactic(auto, using(crate::proofs::KeepsLemmas::kept, std::proofs::lemmas::Map::Steps::set_value_same, crate::proofs::GoesLemmas::goes_set, crate::proofs::SendsLemmas::lasts_between, crate::proofs::SendsLemmas::lasts_same))]
     pub fn send(&mut self, id: u64, bytes: &[u8], fin: bool) -> Result<bool, Refused>
         ensures ok { IfOk result (λ room. Changes id (Sends bytes.now fin room) self.old self.new) }
         ensures why { IfErr result (λ e. IsWhy (RefusesBytes (length bytes.now) fin) self.old id e) }
         ensures told { IfErr result (λ e. e ≡ refused.Full → was_told_full self.old id ≡ true) }
         ensures kept { IfErr result (λ e. StaysFor e id self.old self.new) }
         ensures goes { GoesOn [] self.old self.new }
+        ensures lasts { LastsOn [] self.old self.new }
     {
         let was_full = self.full.contains(&id);
         self.begin_send(id)?;
@@ -218,7 +219,7 @@ impl Connection {
 
     // Queues content on the own half of a stream.
     #[inline(always)]
-    #[tactic(auto, using(crate::proofs::KeepsLemmas::kept, std::proofs::lemmas::Map::Steps::set_value_same, crate::proofs::GoesLemmas::goes_set, crate::proofs::PlaceLemmas::ordered, crate::proofs::JoinedLemmas::joined, crate::proofs::PlaceLemmas::ordered_sent))]
+    #[tactic(auto, using(crate::proofs::KeepsLemmas::kept, std::proofs::lemmas::Map::Steps::set_value_same, crate::proofs::GoesLemmas::goes_set, crate::proofs::PlaceLemmas::ordered, crate::proofs::JoinedLemmas::joined, crate::proofs::PlaceLemmas::ordered_sent, crate::proofs::LastsLemmas::lasts_refl))]
     fn send_half(
         &mut self,
         id: u64,
@@ -232,6 +233,7 @@ impl Connection {
         ensures told { IfErr result (λ e. e ≡ refused.Full → was_full ≡ true) }
         ensures kept { IfErr result (λ e. StaysFor e id self.old self.new) }
         ensures goes { GoesOn [] self.old self.new }
+        ensures lasts { LastsOn [] self.old self.new }
     {
         let Some(entry) = self.streams.get_mut(&id) else {
             return Err(Refused::NoStream);
@@ -247,7 +249,7 @@ impl Connection {
     /// # Errors
     ///
     /// Those of [`send`](Self::send), with the bytes.
-    #[tactic(auto, using(crate::proofs::KeepsLemmas::kept, std::proofs::lemmas::Map::Steps::set_value_same, crate::proofs::GoesLemmas::goes_set))]
+    #[tactic(auto, using(crate::proofs::KeepsLemmas::kept, std::proofs::lemmas::Map::Steps::set_value_same, crate::proofs::GoesLemmas::goes_set, crate::proofs::SendsLemmas::lasts_between, crate::proofs::SendsLemmas::lasts_same))]
     pub fn send_owned(&mut self, id: u64, bytes: Vec<u8>, fin: bool) -> Result<bool, NotSent>
         ensures ok { IfOk result (λ room. Changes id (Sends bytes.items fin room) self.old self.new) }
         ensures why { IfErr result (λ e. IsWhy (RefusesBytes (length bytes.items) fin) self.old id e.why) }
@@ -255,6 +257,7 @@ impl Connection {
         ensures kept { IfErr result (λ e. StaysFor e.why id self.old self.new) }
         ensures bytes { IfErr result (λ e. e.bytes ≡ bytes) }
         ensures goes { GoesOn [] self.old self.new }
+        ensures lasts { LastsOn [] self.old self.new }
     {
         let was_full = self.full.contains(&id);
         if let Err(why) = self.begin_send(id) {
@@ -272,7 +275,7 @@ impl Connection {
     }
 
     // Queues content on the own half of a stream, or gives the bytes back.
-    #[tactic(auto, using(crate::proofs::KeepsLemmas::kept, std::proofs::lemmas::Map::Steps::set_value_same, crate::proofs::GoesLemmas::goes_set, crate::proofs::PlaceLemmas::ordered, crate::proofs::JoinedLemmas::joined, crate::proofs::PlaceLemmas::ordered_sent))]
+    #[tactic(auto, using(crate::proofs::KeepsLemmas::kept, std::proofs::lemmas::Map::Steps::set_value_same, crate::proofs::GoesLemmas::goes_set, crate::proofs::PlaceLemmas::ordered, crate::proofs::JoinedLemmas::joined, crate::proofs::PlaceLemmas::ordered_sent, crate::proofs::LastsLemmas::lasts_refl))]
     fn send_half_owned(
         &mut self,
         id: u64,
@@ -287,6 +290,7 @@ impl Connection {
         ensures kept { IfErr result (λ e. StaysFor e.why id self.old self.new) }
         ensures bytes { IfErr result (λ e. e.bytes ≡ bytes) }
         ensures goes { GoesOn [] self.old self.new }
+        ensures lasts { LastsOn [] self.old self.new }
     {
         let Some(entry) = self.streams.get_mut(&id) else {
             return Err(NotSent {
@@ -328,11 +332,12 @@ impl Connection {
     ///
     /// Nothing changes, but QPACK's table and what is queued for it. `Closed`; `NoStream`; `Over`; `Send` if they would be
     /// malformed; and `Memory`.
-    #[tactic(auto, using(crate::proofs::KeepsLemmas::kept))]
+    #[tactic(auto, using(crate::proofs::KeepsLemmas::kept, crate::proofs::SendsLemmas::lasts_between, crate::proofs::SendsLemmas::lasts_same))]
     pub fn send_trailers(&mut self, id: u64, list: &FieldList) -> Result<(), Refused>
         ensures kept { OnErr result (IsStillBut self.old self.new) }
         ensures decoder { SaysOrWaits self.old.told.items self.new.told.items self.old.decoder self.new.decoder }
         ensures goes { GoesOn [] self.old self.new }
+        ensures lasts { LastsOn [] self.old self.new }
         ensures ok { OnOk result (ChangesBy id (SendsTrailers list.now) self.old self.new) }
     {
         self.begin_send(id)?;
@@ -343,7 +348,7 @@ impl Connection {
     }
 
     // Queues trailers and the end on a stream.
-    #[tactic(auto, using(crate::proofs::KeepsLemmas::kept, std::proofs::lemmas::Map::Steps::set_value_same, crate::proofs::GoesLemmas::goes_set, crate::proofs::PlaceLemmas::ordered, crate::proofs::JoinedLemmas::joined, crate::proofs::PlaceLemmas::ordered_sent))]
+    #[tactic(auto, using(crate::proofs::KeepsLemmas::kept, std::proofs::lemmas::Map::Steps::set_value_same, crate::proofs::GoesLemmas::goes_set, crate::proofs::PlaceLemmas::ordered, crate::proofs::JoinedLemmas::joined, crate::proofs::PlaceLemmas::ordered_sent, crate::proofs::LastsLemmas::lasts_refl))]
     fn put_trailers(&mut self, id: u64, list: &FieldList) -> Result<(), Refused>
         ensures ok { OnOk result (Changes id (SendsTrailers list.now self.old.tools self.new.tools)
             self.old self.new) }
@@ -351,6 +356,7 @@ impl Connection {
         ensures why { IfErr result (λ e. (e ≡ refused.Memory) ⊎ IsWhyOf (stream_at self.old id)
             (IsFor (RefusesTrailers list.now self.old.tools self.new.tools)) e) }
         ensures goes { GoesOn [] self.old self.new }
+        ensures lasts { LastsOn [] self.old self.new }
     {
         let Some(entry) = self.streams.get_mut(&id) else {
             return Err(Refused::NoStream);

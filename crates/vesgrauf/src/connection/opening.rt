@@ -248,6 +248,7 @@ impl Connection {
         ensures own { IfOk result (λ id. UntouchedBut id self.old.streams.entries self.new.streams.entries) }
         ensures alone { IfOk result (λ id. AreOthers id self.old.streams.entries self.new.streams.entries) }
         ensures goes { IfOk result (λ id. GoesOn [] self.old self.new × (knows self.new id ≡ true)) }
+        ensures lasts { IfOk result (λ id. LastsOn [] self.old self.new) }
         ensures kept { OnErr result (Keeps [] self.old self.new) }
         ensures begins { IfOk result (λ id. (head : List ℕ) × Of (stream_at self.old session) (IsStreamHead kind head)
             × Of (stream_at self.new id) (IsMember self.old.config session kind head)) }

@@ -1,4 +1,4 @@
-use Rattle.std.proofs.Common.{rules, ◌≡◌, refl, Some}
+use Rattle.std.proofs.Common.{rules, ◌≡◌, ℕ, List, [], None, Some, ap, refl, sym, subst}
 use Rattle.std.specs.Ordering.{nat_cmp}
 use Rattle.std.specs.Map.{set_value}
 use Rattle.std.specs.BTreeMap.{is_at}
@@ -6,6 +6,8 @@ use Rattle.vesgrauf.specs.declared.entry.Entry.{Entry}
 use Rattle.vesgrauf.specs.Own.{entry_at}
 use Rattle.vesgrauf.proofs.JoinedLemmas.{joined_stays, out_drained, stays_half}
 use Rattle.vesgrauf.proofs.PlaceLemmas.{ordered_sent}
+use Rattle.vesgrauf.specs.Halves.{Lasts}
+use Rattle.vesgrauf.proofs.SendsLemmas.{lasting_drained, lasts_as_before}
 use Rattle.vesgrauf.proofs.connection.Connection.drain_session.Goals as goal
 
 pub invariant_of-self-2-clause-ordered : goal.invariant_of-self-2-clause-ordered
@@ -30,3 +32,20 @@ invariant_of-self-2-clause-joined c =
     (stays_half e f refl refl (out_drained c.drain-result.result e.writing c.drain-result.new.self
     c.drain-result.ensures.ok c.drain-result.ensures.kept) refl refl refl refl)
     c.begin_send.new.self.joined)
+
+pub returns-clause-lasts : goal.returns-clause-lasts
+returns-clause-lasts c =
+    let e : Entry = c.in-Some.entry.now in
+    let f : Entry = record e { writing = c.drain-result.new.self } in
+    let there : entry_at c.begin_send.new.self.streams.entries c.args.session ≡ Some e = search (rules) in
+    let written : (c.get_mut.follows.lender f).entries
+    ≡ set_value (is_at (nat_cmp c.args.session)) c.begin_send.new.self.streams.entries f = search (rules) in
+    λ over sound. subst (λ (x : List (ℕ × Entry)). Lasts None [] x c.args.self.now.events.items
+    (c.get_mut.follows.lender f).entries c.begin_send.new.self.events.items)
+    (ap (λ v. v.streams) c.begin_send.ensures.still)
+    (subst (λ x. Lasts None [] c.begin_send.new.self.streams.entries x (c.get_mut.follows.lender f).entries
+    c.begin_send.new.self.events.items) (ap (λ v. v.events) c.begin_send.ensures.still)
+    (subst (λ (x : List (ℕ × Entry)). Lasts None [] c.begin_send.new.self.streams.entries c.begin_send.new.self.events.items x
+    c.begin_send.new.self.events.items) (sym written)
+    (lasts_as_before None c.begin_send.new.self.streams.entries c.begin_send.new.self.events.items c.args.session e f there
+    (lasting_drained c.drain-result.result e c.drain-result.new.self c.drain-result.ensures.ok c.drain-result.ensures.kept))))

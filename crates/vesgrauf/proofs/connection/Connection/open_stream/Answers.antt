@@ -1,16 +1,19 @@
-use Rattle.std.proofs.Common.{◌≡◌, None, true, [], ap, arith, sym, ◌∙◌, refl}
+use Rattle.std.proofs.Common.{◌≡◌, ℕ, List, None, true, [], ap, subst, arith, sym, ◌∙◌, refl}
 use Rattle.vesgrauf.specs.declared.connection.ids.Ids.{Ids}
+use Rattle.vesgrauf.specs.declared.entry.Entry.{Entry}
 use Rattle.vesgrauf.specs.Ids.{next_own, taken}
 use Rattle.vesgrauf.specs.Own.{entry_at}
 use Rattle.vesgrauf.specs.State.{IsStill, View, view_of, knows_of}
 use Rattle.vesgrauf.proofs.CutLemmas.{on_err_is}
 use Rattle.vesgrauf.proofs.GoesLemmas.{goes_still, goes_then}
 use Rattle.vesgrauf.proofs.GoesSteps.{goes_on}
-use Rattle.vesgrauf.proofs.IdLemmas.{goes_opens, keeps_still, knows_here}
+use Rattle.vesgrauf.proofs.IdLemmas.{goes_opens, keeps_still, knows_here, lasts_opens}
 use Rattle.vesgrauf.proofs.JoinedLemmas.{joined_taken}
 use Rattle.vesgrauf.proofs.KeepsLemmas.{keeps_goes}
 use Rattle.vesgrauf.proofs.MemberLemmas.{keeps_noted, member_noted, member_taken, next_as, taken_as}
 use Rattle.vesgrauf.proofs.MessageLemmas.{member_begins}
+use Rattle.vesgrauf.specs.Halves.{Lasts}
+use Rattle.vesgrauf.specs.Told.{AreOthers}
 use Rattle.vesgrauf.proofs.connection.Connection.open_stream.Goals as goal
 
 pub returns-clause-goes : goal.returns-clause-goes
@@ -91,3 +94,17 @@ returns-in_err-head-clause-kept c = on_err_is _ _ (keeps_still c.args.self.now c
 pub returns-in_err-entry-clause-kept : goal.returns-in_err-entry-clause-kept
 returns-in_err-entry-clause-kept c = on_err_is _ _ (keeps_still c.args.self.now c.new_member.new.self
     (ap (λ x. view_of x) c.new_member.ensures.others ∙ c.check_room.ensures.still))
+
+pub returns-clause-lasts : goal.returns-clause-lasts
+returns-clause-lasts c =
+    let still : IsStill c.args.self.now c.new_member.new.self
+    = ap (λ x. view_of x) c.new_member.ensures.others ∙ c.check_room.ensures.still in
+    let others : AreOthers c.in-Some.id c.args.self.now.streams.entries c.add_member.new.self.streams.entries
+    = subst (λ (x : List (ℕ × Entry)). AreOthers c.in-Some.id x c.add_member.new.self.streams.entries)
+    (ap (λ v. v.streams) still) c.in_ok-add_member.ensures.others in
+    λ over sound. subst (λ x. Lasts None [] c.args.self.now.streams.entries c.args.self.now.events.items
+    c.add_member.new.self.streams.entries x)
+    (sym (ap (λ d. d.items) c.in_ok-add_member.ensures.events ∙ ap (λ v. v.events) still))
+    (lasts_opens c.args.self.now.streams.entries c.add_member.new.self.streams.entries c.args.self.now.ids
+    c.args.self.now.events.items c.args.kind c.in-Some.id
+    (c.in-Some.ensures.0 ∙ ap (λ v. next_own v.ids c.args.kind) c.check_room.ensures.still) others sound)

@@ -7,7 +7,10 @@ use Rattle.vesgrauf.specs.declared.entry.Entry.{Entry}
 use Rattle.std.specs.BTreeMap.{is_at}
 use Rattle.std.specs.Map.{set_value}
 use Rattle.std.specs.Ordering.{nat_cmp}
-use Rattle.std.proofs.Common.{rules, ◌≡◌, refl, sym, subst, Some, ℕ, List}
+use Rattle.std.proofs.Common.{rules, ◌≡◌, ap, refl, sym, subst, None, Some, ℕ, List, []}
+use Rattle.vesgrauf.specs.Halves.{Lasts}
+use Rattle.vesgrauf.specs.declared.connection.Connection.{Connection}
+use Rattle.vesgrauf.proofs.SendsLemmas.{lasting_same, lasts_still_as}
 use Rattle.vesgrauf.proofs.connection.Connection.pause.Goals as goal
 
 pub invariant_of-self-2-clause-joined : goal.invariant_of-self-2-clause-joined
@@ -28,3 +31,30 @@ invariant_of-self-2-clause-ordered c =
     ≡ set_value (is_at (nat_cmp c.args.id)) c.reserve.new.self.streams.entries f = λ f. search (rules) in
     subst (λ (x : List (ℕ × Entry)). Ordered x c.reserve.new.self.ready.ranks c.reserve.new.self.unplaced) (sym (written _))
     (ordered_half c.reserve.new.self.streams.entries c.reserve.new.self.ready.ranks c.reserve.new.self.unplaced c.args.id e _ there refl refl refl refl c.reserve.new.self.ordered)
+
+pub returns-then-not-paused-clause-lasts : goal.returns-then-not-paused-clause-lasts
+returns-then-not-paused-clause-lasts c =
+    let e : Entry = c.in-Some.entry.now in
+    let f : Entry = record e { is_paused = c.args.paused } in
+    let there : entry_at c.reserve.new.self.streams.entries c.args.id ≡ Some e = search (rules) in
+    let written : (c.get_mut.follows.lender f).entries
+    ≡ set_value (is_at (nat_cmp c.args.id)) c.reserve.new.self.streams.entries f = search (rules) in
+    λ over sound. subst (λ (x : Connection). Lasts None [] c.args.self.now.streams.entries c.args.self.now.events.items
+    x.streams.entries x.events.items) (sym c.wake.ensures) (lasts_still_as c.args.self.now.streams.entries c.reserve.new.self.streams.entries
+    (c.get_mut.follows.lender f).entries c.args.self.now.events.items
+    c.reserve.new.self.events.items c.args.id e f
+    (ap (λ v. v.streams) c.reserve.ensures.still) (ap (λ v. v.events) c.reserve.ensures.still) there
+    written (lasting_same e f refl refl refl refl))
+
+pub returns-else-not-paused-clause-lasts : goal.returns-else-not-paused-clause-lasts
+returns-else-not-paused-clause-lasts c =
+    let e : Entry = c.in-Some.entry.now in
+    let f : Entry = record e { is_paused = c.args.paused } in
+    let there : entry_at c.reserve.new.self.streams.entries c.args.id ≡ Some e = search (rules) in
+    let written : (c.get_mut.follows.lender f).entries
+    ≡ set_value (is_at (nat_cmp c.args.id)) c.reserve.new.self.streams.entries f = search (rules) in
+    λ over sound. lasts_still_as c.args.self.now.streams.entries c.reserve.new.self.streams.entries
+    (c.get_mut.follows.lender f).entries c.args.self.now.events.items
+    c.reserve.new.self.events.items c.args.id e f
+    (ap (λ v. v.streams) c.reserve.ensures.still) (ap (λ v. v.events) c.reserve.ensures.still) there
+    written (lasting_same e f refl refl refl refl)

@@ -1,4 +1,4 @@
-use Rattle.std.proofs.Common.{rules, ◌≡◌, refl, Some}
+use Rattle.std.proofs.Common.{rules, ◌≡◌, ℕ, List, [], None, Some, refl, sym, subst}
 use Rattle.std.specs.Ordering.{nat_cmp}
 use Rattle.std.specs.Map.{set_value}
 use Rattle.std.specs.BTreeMap.{is_at}
@@ -6,6 +6,8 @@ use Rattle.vesgrauf.specs.declared.entry.Entry.{Entry}
 use Rattle.vesgrauf.specs.Own.{entry_at}
 use Rattle.vesgrauf.proofs.JoinedLemmas.{joined_stays, out_trailers, stays_half}
 use Rattle.vesgrauf.proofs.PlaceLemmas.{ordered_sent}
+use Rattle.vesgrauf.specs.Halves.{Lasts}
+use Rattle.vesgrauf.proofs.SendsLemmas.{lasting_trailers, lasts_as_before}
 use Rattle.vesgrauf.proofs.connection.Connection.put_trailers.Goals as goal
 
 pub invariant_of-self-2-clause-ordered : goal.invariant_of-self-2-clause-ordered
@@ -30,3 +32,16 @@ invariant_of-self-2-clause-joined c =
     (stays_half e f refl refl (out_trailers c.trailers-result.result _ _ _ e.writing c.trailers-result.new.self
     c.trailers-result.ensures.ok c.trailers-result.ensures.kept) refl refl refl refl)
     c.args.self.now.joined)
+
+pub returns-clause-lasts : goal.returns-clause-lasts
+returns-clause-lasts c =
+    let e : Entry = c.in-Some.entry.now in
+    let f : Entry = record e { writing = c.trailers-result.new.self } in
+    let there : entry_at c.args.self.now.streams.entries c.args.id ≡ Some e = search (rules) in
+    let written : (c.get_mut.follows.lender f).entries
+    ≡ set_value (is_at (nat_cmp c.args.id)) c.args.self.now.streams.entries f = search (rules) in
+    λ over sound. subst (λ (x : List (ℕ × Entry)). Lasts None [] c.args.self.now.streams.entries c.args.self.now.events.items x
+    c.args.self.now.events.items) (sym written)
+    (lasts_as_before None c.args.self.now.streams.entries c.args.self.now.events.items c.args.id e f there
+    (lasting_trailers c.trailers-result.result _ _ _ e c.trailers-result.new.self c.trailers-result.ensures.ok
+    c.trailers-result.ensures.kept))

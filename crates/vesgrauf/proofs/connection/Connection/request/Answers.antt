@@ -1,4 +1,4 @@
-use Rattle.std.proofs.Common.{rules, ◌≡◌, true, false, [], refl, ap, sym, ◌∙◌, arith, Bool}
+use Rattle.std.proofs.Common.{rules, ◌≡◌, ℕ, List, None, true, false, [], subst, refl, ap, sym, ◌∙◌, arith, Bool}
 use Rattle.std.specs.Prelude.{if◌then◌else◌, Result, Ok, Err}
 use Rattle.vesgrauf_stream.specs.Headers.{request_at, SendsHeaders}
 use Rattle.vesgrauf.specs.Ids.{next_own}
@@ -12,10 +12,13 @@ use Rattle.vesgrauf.specs.declared.output.StreamKind.TheVariants as kind
 use Rattle.vesgrauf.proofs.CutLemmas.{on_err_is}
 use Rattle.vesgrauf.proofs.GoesLemmas.{goes_still, goes_same}
 use Rattle.vesgrauf.proofs.GoesSteps.{goes_on}
-use Rattle.vesgrauf.proofs.IdLemmas.{goes_opens, keeps_undone, keeps_still, noted_alone}
+use Rattle.vesgrauf.proofs.IdLemmas.{goes_opens, keeps_undone, keeps_still, lasts_opens, noted_alone}
 use Rattle.vesgrauf.proofs.JoinedLemmas.{joined_taken}
 use Rattle.vesgrauf.proofs.KeepsLemmas.{keeps_then}
 use Rattle.vesgrauf.proofs.MessageLemmas.{same_but, requests}
+use Rattle.vesgrauf.specs.Halves.{Lasts}
+use Rattle.vesgrauf.specs.Told.{AreOthers}
+use Rattle.vesgrauf.specs.declared.entry.Entry.{Entry}
 use Rattle.vesgrauf.proofs.connection.Connection.request.Goals as goal
 
 pub returns-clause-goes : goal.returns-clause-goes
@@ -106,3 +109,24 @@ room_by false r h g = let bad : Err refused.Full ≡ Ok tt = sym h ∙ g in cc
 pub returns-clause-room : goal.returns-clause-room
 returns-clause-room c = room_by (may_wait c.args.self.now kind.Bidirectional) c.check_room.result
     c.check_room.ensures.room (search (rules))
+
+pub returns-clause-lasts : goal.returns-clause-lasts
+returns-clause-lasts c =
+    let later : IsStill c.check_room.new.self c.choose_policy.new.self
+    = c.choose_policy.ensures.still ∙ c.reserve.ensures.still in
+    let still : IsStill c.args.self.now c.choose_policy.new.self = later ∙ c.check_room.ensures.still in
+    let after : c.count_session.new.self.streams.entries ≡ c.open_request.new.self.streams.entries
+    = ap (λ m. m.entries) c.count_session.ensures.streams ∙ ap (λ v. v.streams) c.queue_due.ensures.due.others in
+    let events : c.count_session.new.self.events.items ≡ c.args.self.now.events.items
+    = (ap (λ m. m.items) c.count_session.ensures.events ∙ ap (λ v. v.events) c.queue_due.ensures.due.others)
+    ∙ (ap (λ d. d.items) c.open_request.ensures.events ∙ ap (λ v. v.events) still) in
+    let others : AreOthers c.in-Some.id c.args.self.now.streams.entries c.count_session.new.self.streams.entries
+    = subst (λ (x : List (ℕ × Entry)). AreOthers c.in-Some.id x c.count_session.new.self.streams.entries)
+    (ap (λ v. v.streams) still)
+    (subst (λ (x : List (ℕ × Entry)). AreOthers c.in-Some.id c.choose_policy.new.self.streams.entries x) (sym after)
+    c.in_ok-open_request.ensures.others) in
+    λ over sound. subst (λ x. Lasts None [] c.args.self.now.streams.entries c.args.self.now.events.items
+    c.count_session.new.self.streams.entries x) (sym events)
+    (lasts_opens c.args.self.now.streams.entries c.count_session.new.self.streams.entries c.args.self.now.ids
+    c.args.self.now.events.items kind.Bidirectional c.in-Some.id
+    (c.in-Some.ensures.0 ∙ ap (λ v. next_own v.ids kind.Bidirectional) c.check_room.ensures.still) others sound)

@@ -1,6 +1,6 @@
 use Rattle.vesgrauf.proofs.GoesLemmas.{goes_set, standing_in}
 use Rattle.vesgrauf.specs.Told.{Goes}
-use Rattle.std.proofs.Common.{rules, ◌≡◌, Some, sym, subst, ℕ, List, ap, ◌∙◌, []}
+use Rattle.std.proofs.Common.{rules, ◌≡◌, None, Some, sym, subst, ℕ, List, ap, ◌∙◌, []}
 use Rattle.std.specs.Ordering.{nat_cmp}
 use Rattle.std.specs.Map.{set_value}
 use Rattle.std.specs.BTreeMap.{is_at}
@@ -8,6 +8,8 @@ use Rattle.vesgrauf.specs.declared.entry.Entry.{Entry}
 use Rattle.vesgrauf.specs.Own.{entry_at}
 use Rattle.vesgrauf.proofs.JoinedLemmas.{joined_stays, stays_sent_owned, standing_sent_owned}
 use Rattle.vesgrauf.proofs.PlaceLemmas.{ordered_sent}
+use Rattle.vesgrauf.specs.Halves.{Lasts}
+use Rattle.vesgrauf.proofs.SendsLemmas.{lasting_sent_owned, lasts_as_before}
 use Rattle.vesgrauf.proofs.connection.Connection.send_half_owned.Goals as goal
 
 pub invariant_of-self-2-clause-ordered : goal.invariant_of-self-2-clause-ordered
@@ -44,3 +46,16 @@ returns-clause-goes c =
     (goes_set c.args.self.now.streams.entries c.args.self.now.ids c.args.self.now.events.items c.args.id f
     (ap (λ o. standing_in o) there ∙ ap (λ x. Some x)
     (sym (standing_sent_owned c.send_owned-result.result _ _ e f c.send_owned-result.ensures.ok c.send_owned-result.ensures.kept))))
+
+pub returns-clause-lasts : goal.returns-clause-lasts
+returns-clause-lasts c =
+    let e : Entry = c.in-Some.entry.now in
+    let f : Entry = c.send_owned-result.new.self in
+    let there : entry_at c.args.self.now.streams.entries c.args.id ≡ Some e = search (rules) in
+    let written : (c.get_mut.follows.lender f).entries
+    ≡ set_value (is_at (nat_cmp c.args.id)) c.args.self.now.streams.entries f = search (rules) in
+    λ over sound. subst (λ (x : List (ℕ × Entry)). Lasts None [] c.args.self.now.streams.entries c.args.self.now.events.items x
+    c.args.self.now.events.items) (sym written)
+    (lasts_as_before None c.args.self.now.streams.entries c.args.self.now.events.items c.args.id e f there
+    (lasting_sent_owned c.send_owned-result.result _ _ e f c.send_owned-result.ensures.ok
+    c.send_owned-result.ensures.kept))
