@@ -71,6 +71,7 @@ class Row:
         scope = "stream" if self.of_stream or self.code in OF_STREAM else "connection"
         return [(self.code, scope)] if self.code is not None else []
 
+
 def control(*frames):
     return SETTINGS + b"".join(frames)
 

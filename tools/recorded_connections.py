@@ -61,6 +61,7 @@ class Recorded:
     def reset_line(self):
         return f"reset {self.stream}\n"
 
+
 class Wanted:
     """What a stream has to give, from its line of the index."""
 
@@ -179,6 +180,7 @@ class Connection:
     def sessions(self):
         """Returns the sessions to which streams belong."""
         return sorted({stream.session for stream in self.streams} - {None})
+
 
 def connections_in(folder):
     """Returns the connections of a folder of recordings, each direction by itself."""

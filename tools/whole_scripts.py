@@ -42,8 +42,8 @@ class WholeScript(SessionScript):
                     yield stream, event
 
     def can_be_played(self):
-        """Returns whether a client may ask for the sessions that it asks for, the server accepts its
-        sections, and no stream is there twice of which there may be one."""
+        """Returns whether a client may ask for the sessions that it asks for, the server accepts
+        its sections, and no stream is there twice of which there may be one."""
         asks = not self.side.is_server and "session" in self.asked.values()
         return (
             not self.twins
@@ -52,7 +52,7 @@ class WholeScript(SessionScript):
         )
 
     def accepts_requests(self):
-        """Returns whether no request is larger than the server accepts (RFC 9114, section 4.2.2)."""
+        """Returns whether no request is larger than the server accepts (RFC 9114, 4.2.2)."""
         limit = dict(zip(DEFAULTS, self.settings or ())).get(LIMIT, "none")
         sizes = (
             sum(len(name) + len(value) + 32 for name, value in REQUESTS[asked])

@@ -33,7 +33,7 @@ use Rattle.vesgrauf.specs.Streams.{is_told_over}
 use Rattle.vesgrauf.specs.Theirs.{Gone, Unread, theirs_in, theirs_at}
 use Rattle.vesgrauf.specs.Told.{Sets, AreOthers, Sound, status_in, ended_by, ended_at}
 use Rattle.vesgrauf.proofs.GoesLemmas.{same_at, set_sets}
-use Rattle.vesgrauf.proofs.JoinedLemmas.{or_left, or_right, or_by, and_of, and_both, gone_by}
+use Rattle.vesgrauf.proofs.SeveredLemmas.{or_left, or_right, or_by, and_of, and_both, gone_by}
 use Rattle.vesgrauf.proofs.KeepsLemmas.{key_same}
 use Rattle.vesgrauf.proofs.MemberLemmas.{drops_refl, drops_trans}
 

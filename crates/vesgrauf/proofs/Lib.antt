@@ -16,6 +16,7 @@ pub mod LookLemmas
 pub mod LostLemmas
 pub mod MemberLemmas
 pub mod MessageLemmas
+pub mod MovedLemmas
 pub mod NotedLemmas
 pub mod OrderLemmas
 pub mod OwnLemmas
@@ -23,10 +24,12 @@ pub mod PieceLemmas
 pub mod PlaceLemmas
 pub mod PlaceSteps
 pub mod ProgressLemmas
+pub mod QueuedLemmas
 pub mod ReadsLemmas
 pub mod RefusedLemmas
 pub mod RunLemmas
 pub mod SendsLemmas
+pub mod SeveredLemmas
 pub mod StepLemmas
 pub mod TellsLemmas
 pub mod TheirsLemmas

@@ -1,136 +1,20 @@
 -- Places in the order of sending.
-use Rattle.std.proofs.Common.{◌≡◌, ◌↔◌, ◌==◌, ◌++◌, ◌-◌, ◌||◌, ◌&&◌, not, ℕ, suc, take, List, [], ◌∷◌, length, Option, Some, None, Bool, true, false, cond, refl, arith, sym, ap, subst, ◌∙◌}
-use Rattle.std.specs.Prelude.{IsTrue, MatchBool, OnOk, OnErr, Result, Ok, Err}
-use Rattle.vesgrauf_queue.specs.declared.ending.Reset.{Reset}
+use Rattle.std.proofs.Common.{◌≡◌, ◌==◌, ◌-◌, ◌||◌, ◌&&◌, not, ℕ, List, [], Option, Some, None, Bool, true, false, cond, refl, arith, sym, ap, subst, ◌∙◌}
+use Rattle.std.specs.Prelude.{MatchBool}
 use Rattle.std.specs.Ordering.{nat_cmp}
 use Rattle.std.specs.Map.{set_value}
 use Rattle.std.specs.BTreeMap.{is_at}
 use Rattle.std.proofs.lemmas.Map.{lookup-set_value}
 use Rattle.std.proofs.lemmas.Cmp.{eq_by_cmp_equiv, nat_cmp_total}
-use Rattle.vesgrauf_queue.specs.declared.config.QueueConfig.{QueueConfig}
-use Rattle.vesgrauf_queue.specs.declared.ending.Ending.{Ending}
-use Rattle.vesgrauf_queue.specs.declared.ending.Ending.TheVariants as ending
-use Rattle.vesgrauf_queue.specs.State.{State as QueueOf, IsIdle, waiting, is_finishing}
-use Rattle.vesgrauf_queue.specs.Steps.{Does, Acknowledges, Tells, Puts, PutsReset, Resets, IsNew}
 use Rattle.vesgrauf_ready.specs.declared.rank.Kind.{Kind}
-use Rattle.vesgrauf_ready.specs.declared.rank.Priority.{Priority}
 use Rattle.vesgrauf_ready.specs.declared.rank.Rank.{Rank}
 use Rattle.vesgrauf_ready.specs.Ranks.{class_of, rank_of, is_same}
 use Rattle.vesgrauf_ready.specs.Turns.{State, is_ready, Joins, Leaves, after_turn}
-use Rattle.vesgrauf_stream.specs.declared.writing.Writing.{Writing}
 use Rattle.vesgrauf_streams.specs.Streams.{Streams, Updates}
 use Rattle.vesgrauf.specs.declared.entry.Entry.{Entry}
 use Rattle.vesgrauf.specs.Own.{entry_at}
-use Rattle.vesgrauf.specs.Places.{Ordered, EachOrdered, GivesPlace, Gives, TakesPlace, Takes, Waits, KeepsPlace, Keeps, Leaves as Leaving, MovesPlace, IsMoved, has_more, is_later, is_sending, not_later, sends_in}
+use Rattle.vesgrauf.specs.Places.{Ordered, EachOrdered, GivesPlace, Gives, TakesPlace, Takes, Waits, KeepsPlace, Keeps, Leaves as Leaving, has_more, is_later, is_sending, not_later, sends_in}
 use Rattle.vesgrauf.specs.Streams.{kind_of_entry, may_send}
-
--- ---- what waits in a queue
-
-more_as : (xs ys : List ℕ) (e f : Ending) → ys ≡ xs → f ≡ e
-    → (not (length ys == 0) || is_finishing f) ≡ (not (length xs == 0) || is_finishing e)
-more_as xs ys e f w k = rw (w, k) refl
-
--- bytes are acknowledged, or a `Writable` is told or owed
-pub more_acked : (s t : QueueOf) (n : ℕ) → Does (Acknowledges n) s t → has_more t ≡ has_more s
-more_acked s t n d = more_as (waiting s) (waiting t) s.ending t.ending d.waits d.ending
-
-pub more_told : (s t : QueueOf) → Does Tells s t → has_more t ≡ has_more s
-more_told s t d = more_as (waiting s) (waiting t) s.ending t.ending d.waits d.ending
-
-quiet_by : (xs : List ℕ) (e : Ending) → xs ≡ [] → is_finishing e ≡ false
-    → (not (length xs == 0) || is_finishing e) ≡ false
-quiet_by xs e h k = rw (h, k) refl
-
--- QUIC takes the reset, before which nothing waits
-pub more_reset_put : (s t : QueueOf) (code size : ℕ) → Does (PutsReset code size) s t → has_more t ≡ has_more s
-more_reset_put s t code size d =
-    quiet_by (waiting t) t.ending (d.waits ∙ d.none) (rw d.ending refl)
-    ∙ sym (quiet_by (waiting s) s.ending d.none (rw d.from refl))
-
--- nothing waits on a stream that is reset, nor on a new one
-pub more_reset : (s t : QueueOf) (code : ℕ) → Does (Resets code 0) s t → has_more t ≡ false
-more_reset s t code d = quiet_by (waiting t) t.ending (d.waits ∙ nothing s.put (waiting s)) (rw d.ending refl)
-  where
-    nothing : (n : ℕ) (xs : List ℕ) → take (0 - n) xs ≡ []
-    nothing n xs = let none : 0 - n ≡ 0 = omega arith in rw none refl
-
-pub more_new : (s : QueueOf) (config : QueueConfig) → IsNew config s → has_more s ≡ false
-more_new s config n = quiet_by (waiting s) s.ending n.waits (rw n.ending refl)
-
-put_by : (xs ys zs : List ℕ) (e f : Ending) (fin : Bool) → xs ≡ ys ++ zs → f ≡ cond fin ending.Finished e
-    → (not (length zs == 0) || is_finishing f) ≡ true → (not (length xs == 0) || is_finishing e) ≡ true
-put_by xs ys [] e f true w k h = absurd (let bad : false ≡ true = sym (ap (λ x. is_finishing x) k) ∙ h in cc)
-put_by xs ys [] e f false w k h = or_right (not (length xs == 0)) (is_finishing e) (sym (ap (λ x. is_finishing x) k) ∙ h)
-  where
-    or_right : (a b : Bool) → b ≡ true → (a || b) ≡ true
-    or_right true b h = refl
-    or_right false b h = h
-put_by xs ys (z ∷ zs) e f fin w k h = rw w (longer ys)
-  where
-    some : (n : ℕ) → (not (suc n == 0) || is_finishing e) ≡ true
-    some n = let not_zero : (suc n == 0) ≡ false = grind arith in rw not_zero refl
-
-    longer : (front : List ℕ) → (not (length (front ++ (z ∷ zs)) == 0) || is_finishing e) ≡ true
-    longer [] = some (length zs)
-    longer (a ∷ front) = some (length (front ++ (z ∷ zs)))
-
--- the same of calls
-pub reset_quiet : (b : Bool) (A B : Type 0) (s t : QueueOf) (code : ℕ) → MatchBool b (A × Does (Resets code 0) s t) B
-    → b ≡ true → has_more t ≡ false
-reset_quiet true A B s t code m h = more_reset s t code m.1
-reset_quiet false A B s t code m h = absurd (let bad : false ≡ true = h in cc)
-
-pub more_unset : (b : Bool) (A B : Type 0) (v w : Writing) → MatchBool b A ((w ≡ v) × B) → b ≡ false
-    → has_more w.queue ≡ has_more v.queue
-more_unset true A B v w m h = absurd (let bad : true ≡ false = h in cc)
-more_unset false A B v w m h = ap (λ x. has_more x.queue) m.0
-
-pub told_more : (b : Bool) (B : Type 0) (v w : Writing) → MatchBool b (Does Tells v.queue w.queue) ((w ≡ v) × B)
-    → has_more w.queue ≡ has_more v.queue
-told_more true B v w m = more_told v.queue w.queue m
-told_more false B v w m = ap (λ x. has_more x.queue) m.0
-
-pub reset_put_more : {A E : Type 0} (answer : Result A E) (v w : Writing)
-    → OnOk answer ((r : Reset) × Does (PutsReset r.code r.size) v.queue w.queue) → OnErr answer (w ≡ v)
-    → has_more w.queue ≡ has_more v.queue
-reset_put_more (Ok x) v w m n = more_reset_put v.queue w.queue m.0.code m.0.size m.1
-reset_put_more (Err x) v w m n = ap (λ x. has_more x.queue) n
-
--- what waits after QUIC took some did before
-pub more_put : (s t : QueueOf) (bytes : List ℕ) (fin : Bool) → Does (Puts bytes fin) s t
-    → has_more t ≡ true → has_more s ≡ true
-more_put s t bytes fin d h = put_by (waiting s) bytes (waiting t) s.ending t.ending fin d.waits d.ending h
-
--- ---- nothing waits
-
-empty_by : (xs : List ℕ) → not (length xs == 0) ≡ false → xs ≡ []
-empty_by [] h = refl
-empty_by (x ∷ xs) h = absurd (some (length xs) h)
-  where
-    some : (n : ℕ) → not (suc n == 0) ≡ false → ⊥
-    some n e = grind (arith, e)
-
-or_none : (a b : Bool) → (a || b) ≡ false → (a ≡ false) × (b ≡ false)
-or_none true b h = absurd (let bad : true ≡ false = h in cc)
-or_none false b h = (refl, h)
-
-idle_of : (q : QueueOf) → has_more q ≡ false → IsIdle q
-idle_of q h = record {
-  none = empty_by (waiting q) (or_none (not (length (waiting q) == 0)) (is_finishing q.ending) h).0;
-  ended = (or_none (not (length (waiting q) == 0)) (is_finishing q.ending) h).1;
-}
-
-pub more_none : (q : QueueOf) → IsIdle q → has_more q ≡ false
-more_none q h = quiet_by (waiting q) q.ending h.none h.ended
-
-pub more_is : (b : Bool) (q : QueueOf) → (IsTrue b ↔ ¬ (IsIdle q)) → b ≡ has_more q
-more_is b q h = by b (has_more q) (λ m. idle_of q m) (λ i. more_none q i) h
-  where
-    by : (b m : Bool) → (m ≡ false → IsIdle q) → (IsIdle q → m ≡ false) → (IsTrue b ↔ ¬ (IsIdle q)) → b ≡ m
-    by true true i j h = refl
-    by false false i j h = refl
-    by true false i j h = absurd (h.0 refl (i refl))
-    by false true i j h = absurd (let bad : false ≡ true = h.1 (λ k. absurd (let no : true ≡ false = j k in cc)) in cc)
 
 -- ---- the places of one stream
 
@@ -149,7 +33,7 @@ left_of a true n = refl
 left_of true false n = refl
 left_of false false n = refl
 
-and_true : (a : Bool) → (a && true) ≡ a
+pub and_true : (a : Bool) → (a && true) ≡ a
 and_true true = refl
 and_true false = refl
 
@@ -164,19 +48,19 @@ same_here id kind x h = grind (arith, h)
 same_there : (id : ℕ) (kind : Kind) (x : Rank) → is_at (nat_cmp id) x.id ≡ false → is_same (rank_of id kind) x ≡ false
 same_there id kind x h = grind (arith, h)
 
-joins_here : (id : ℕ) (kind : Kind) (r s : State) → Joins (rank_of id kind) r s → (x : Rank)
+pub joins_here : (id : ℕ) (kind : Kind) (r s : State) → Joins (rank_of id kind) r s → (x : Rank)
     → is_at (nat_cmp id) x.id ≡ true → is_ready x s.ranks ≡ (x.class == class_of kind || is_ready x r.ranks)
 joins_here id kind r s j x h = j.1 x ∙ ap (λ b. b || is_ready x r.ranks) (same_here id kind x h)
 
-joins_there : (id : ℕ) (kind : Kind) (r s : State) → Joins (rank_of id kind) r s → (x : Rank)
+pub joins_there : (id : ℕ) (kind : Kind) (r s : State) → Joins (rank_of id kind) r s → (x : Rank)
     → is_at (nat_cmp id) x.id ≡ false → is_ready x s.ranks ≡ is_ready x r.ranks
 joins_there id kind r s j x h = j.1 x ∙ ap (λ b. b || is_ready x r.ranks) (same_there id kind x h)
 
-leaves_here : (id : ℕ) (kind : Kind) (r s : State) → Leaves (rank_of id kind) r s → (x : Rank)
+pub leaves_here : (id : ℕ) (kind : Kind) (r s : State) → Leaves (rank_of id kind) r s → (x : Rank)
     → is_at (nat_cmp id) x.id ≡ true → is_ready x s.ranks ≡ (not (x.class == class_of kind) && is_ready x r.ranks)
 leaves_here id kind r s l x h = l.1 x ∙ ap (λ b. not b && is_ready x r.ranks) (same_here id kind x h)
 
-leaves_there : (id : ℕ) (kind : Kind) (r s : State) → Leaves (rank_of id kind) r s → (x : Rank)
+pub leaves_there : (id : ℕ) (kind : Kind) (r s : State) → Leaves (rank_of id kind) r s → (x : Rank)
     → is_at (nat_cmp id) x.id ≡ false → is_ready x s.ranks ≡ is_ready x r.ranks
 leaves_there id kind r s l x h = l.1 x ∙ ap (λ b. not b && is_ready x r.ranks) (same_there id kind x h)
 
@@ -215,13 +99,13 @@ now_here id k h = grind (arith, h)
 
 -- ---- one stream changes
 
-at_itself : (id : ℕ) → is_at (nat_cmp id) id ≡ true
+pub at_itself : (id : ℕ) → is_at (nat_cmp id) id ≡ true
 at_itself id = grind arith
 
-at_id : (id k : ℕ) → is_at (nat_cmp id) k ≡ true → k ≡ id
+pub at_id : (id k : ℕ) → is_at (nat_cmp id) k ≡ true → k ≡ id
 at_id id k h = grind (arith, h)
 
-set_at : (es : List (ℕ × Entry)) (id : ℕ) (e f : Entry) → entry_at es id ≡ Some e → (k : ℕ)
+pub set_at : (es : List (ℕ × Entry)) (id : ℕ) (e f : Entry) → entry_at es id ≡ Some e → (k : ℕ)
     → entry_at (set_value (is_at (nat_cmp id)) es f) k ≡ cond (is_at (nat_cmp id) k) (Some f) (entry_at es k)
 set_at es id e f h k = lookup-set_value (eq_by_cmp_equiv nat_cmp_total) (is_at (nat_cmp id))
     (λ x y at. rw (at_id id x at) refl) k f es (rw h refl)
@@ -234,7 +118,7 @@ own_at es id k = by (is_at (nat_cmp id) k) (λ h. rw (at_id id k h) refl)
     by false h = refl
 
 -- only this stream changes, and its places
-ordered_at : (es fs : List (ℕ × Entry)) (r s : List Rank) (later next : Option ℕ) (id : ℕ) (w : Option Entry)
+pub ordered_at : (es fs : List (ℕ × Entry)) (r s : List Rank) (later next : Option ℕ) (id : ℕ) (w : Option Entry)
     → ((k : ℕ) → entry_at fs k ≡ cond (is_at (nat_cmp id) k) w (entry_at es k))
     → ((x : Rank) → is_at (nat_cmp id) x.id ≡ false → is_ready x s ≡ is_ready x r)
     → ((k : ℕ) → is_at (nat_cmp id) k ≡ false → is_later k next ≡ is_later k later)
@@ -252,7 +136,7 @@ ordered_at es fs r s later next id w sets there other here (EachOrdered g) =
         ∙ ap (λ b. sends_in x (entry_at fs x.id) && not b) (sym (other x.id h))))
 
 -- the places that a stream had
-was_here : (es : List (ℕ × Entry)) (r : List Rank) (later : Option ℕ) (id : ℕ) (e : Entry) → entry_at es id ≡ Some e
+pub was_here : (es : List (ℕ × Entry)) (r : List Rank) (later : Option ℕ) (id : ℕ) (e : Entry) → entry_at es id ≡ Some e
     → Ordered es r later → (x : Rank) → is_at (nat_cmp id) x.id ≡ true
     → is_ready x r ≡ ((is_sending e && x.class == class_of (kind_of_entry e)) && not (is_later x.id later))
 was_here es r later id e at (EachOrdered g) x h =
@@ -570,91 +454,6 @@ pub ordered_off_now : (es : List (ℕ × Entry)) (r : List Rank) (later : Option
     → entry_at es id ≡ Some e → is_sending e ≡ false → later ≡ Some id → Ordered es r later → Ordered es r None
 ordered_off_now es r later id e at none is g =
     off_now es r later id (λ x. ap (λ o. sends_in x o) at ∙ no_sends e none x) is g
-
--- ---- its priority changes
-
-differs_by : (id a b : ℕ) → (a == b && id == id) ≡ false → (a == b) ≡ false
-differs_by id a b h = sym (and_true (a == b)) ∙ (ap (λ c. a == b && c) (sym (itself id)) ∙ h)
-  where
-    itself : (n : ℕ) → (n == n) ≡ true
-    itself n = grind arith
-
-two_by : (id c a b : ℕ) → (a == b && id == id) ≡ false → (c == a) ≡ true → (c == b) ≡ false
-two_by id c a b h k = let apart : (a == b) ≡ false = differs_by id a b h in grind (arith, apart, k)
-
-moved_by : (es : List (ℕ × Entry)) (r s : State) (later : Option ℕ) (id : ℕ) (e f : Entry) (a b : Bool)
-    → entry_at es id ≡ Some e → is_ready (rank_of id (kind_of_entry e)) r.ranks ≡ a
-    → is_same (rank_of id (kind_of_entry e)) (rank_of id (kind_of_entry f)) ≡ b → is_sending f ≡ is_sending e
-    → MatchBool (a && not b) ((u : State) × Joins (rank_of id (kind_of_entry f)) r u × Leaves (rank_of id (kind_of_entry e)) u s) (s ≡ r)
-    → Ordered es r.ranks later → Ordered (set_value (is_at (nat_cmp id)) es f) s.ranks later
-moved_by es r s later id e f true false at ready other sends (u, j, l) g =
-    ordered_at es (set_value (is_at (nat_cmp id)) es f) r.ranks s.ranks later later id (Some f) (set_at es id e f at)
-    (λ x h. leaves_there id (kind_of_entry e) u s l x h ∙ joins_there id (kind_of_entry f) r u j x h) (λ k h. refl)
-    (λ x h. leaves_here id (kind_of_entry e) u s l x h
-    ∙ (ap (λ b. not (x.class == class_of (kind_of_entry e)) && b) (joins_here id (kind_of_entry f) r u j x h
-    ∙ ap (λ b. x.class == class_of (kind_of_entry f) || b) (was_here es r.ranks later id e at g x h))
-    ∙ (moves (x.class == class_of (kind_of_entry e)) (x.class == class_of (kind_of_entry f)) (is_sending e)
-    (not (is_later x.id later)) (two x) (is.0) (ap (λ k. not (is_later k later)) (at_id id x.id h) ∙ is.1)
-    ∙ sym (ap (λ b. (b && x.class == class_of (kind_of_entry f)) && not (is_later x.id later)) sends)))) g
-  where
-    both : (p q n : Bool) → ((p && q) && n) ≡ true → (p ≡ true) × (n ≡ true)
-    both true true n h = (refl, h)
-    both true false n h = absurd (let bad : false ≡ true = h in cc)
-    both false q n h = absurd (let bad : false ≡ true = h in cc)
-
-    is : (is_sending e ≡ true) × (not (is_later id later) ≡ true)
-    is = both (is_sending e) (class_of (kind_of_entry e) == class_of (kind_of_entry e)) (not (is_later id later))
-        (sym (was_here es r.ranks later id e at g (rank_of id (kind_of_entry e)) (at_itself id)) ∙ ready)
-
-    two : (x : Rank) → (x.class == class_of (kind_of_entry e)) ≡ true → (x.class == class_of (kind_of_entry f)) ≡ false
-    two x h = two_by id x.class (class_of (kind_of_entry e)) (class_of (kind_of_entry f)) other h
-
-    moves : (c d p n : Bool) → (c ≡ true → d ≡ false) → p ≡ true → n ≡ true
-        → (not c && (d || ((p && c) && n))) ≡ ((p && d) && n)
-    moves true d true true apart h k = sym (ap (λ b. b && true) (apart refl))
-    moves false true true true apart h k = refl
-    moves false false true true apart h k = refl
-    moves c d false n apart h k = absurd (let bad : false ≡ true = h in cc)
-    moves c d true false apart h k = absurd (let bad : false ≡ true = k in cc)
-moved_by es r s later id e f true true at ready same sends still g = rw still
-    (ordered_at es (set_value (is_at (nat_cmp id)) es f) r.ranks r.ranks later later id (Some f) (set_at es id e f at)
-    (λ x h. refl) (λ k h. refl)
-    (λ x h. was_here es r.ranks later id e at g x h
-    ∙ (ap (λ b. (b && x.class == class_of (kind_of_entry e)) && not (is_later x.id later)) (sym sends)
-    ∙ ap (λ b. (is_sending f && b) && not (is_later x.id later)) (one x))) g)
-  where
-    one : (x : Rank) → (x.class == class_of (kind_of_entry e)) ≡ (x.class == class_of (kind_of_entry f))
-    one x = grind (arith, same)
-moved_by es r s later id e f false b at ready same sends still g = rw still
-    (ordered_at es (set_value (is_at (nat_cmp id)) es f) r.ranks r.ranks later later id (Some f) (set_at es id e f at)
-    (λ x h. refl) (λ k h. refl)
-    (λ x h. was_here es r.ranks later id e at g x h
-    ∙ (none (is_sending e) (x.class == class_of (kind_of_entry e)) (not (is_later x.id later))
-    (ap (λ k. is_sending e && not (is_later k later)) (at_id id x.id h) ∙ off)
-    ∙ sym (ap (λ b. (b && x.class == class_of (kind_of_entry f)) && not (is_later x.id later)) sends
-    ∙ none (is_sending e) (x.class == class_of (kind_of_entry f)) (not (is_later x.id later))
-    (ap (λ k. is_sending e && not (is_later k later)) (at_id id x.id h) ∙ off)))) g)
-  where
-    itself : (n : ℕ) → (n == n) ≡ true
-    itself n = grind arith
-
-    off : (is_sending e && not (is_later id later)) ≡ false
-    off = ap (λ b. b && not (is_later id later)) (sym (and_true (is_sending e)))
-        ∙ (ap (λ b. (is_sending e && b) && not (is_later id later)) (sym (itself (class_of (kind_of_entry e))))
-        ∙ (sym (was_here es r.ranks later id e at g (rank_of id (kind_of_entry e)) (at_itself id)) ∙ ready))
-
-    none : (p c n : Bool) → (p && n) ≡ false → ((p && c) && n) ≡ false
-    none true true n h = h
-    none true false n h = refl
-    none false c n h = refl
-
-pub ordered_moved : (es : List (ℕ × Entry)) (r s : State) (later : Option ℕ) (id : ℕ) (e f : Entry) (p : Priority)
-    → entry_at es id ≡ Some e → MovesPlace id e p r s → f ≡ record e { priority = p }
-    → Ordered es r.ranks later → Ordered (set_value (is_at (nat_cmp id)) es f) s.ranks later
-ordered_moved es r s later id e f p at (IsMoved moves) same g = rw same
-    (moved_by es r s later id e (record e { priority = p }) (is_ready (rank_of id (kind_of_entry e)) r.ranks)
-    (is_same (rank_of id (kind_of_entry e)) (rank_of id (kind_of_entry (record e { priority = p })))) at refl refl
-    refl moves g)
 
 -- ---- all streams
 

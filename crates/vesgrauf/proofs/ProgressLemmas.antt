@@ -15,7 +15,7 @@ use Rattle.vesgrauf.specs.Own.{entry_at}
 use Rattle.vesgrauf.specs.Places.{Ordered, EachOrdered, has_more, is_later, is_sending, sends_in}
 use Rattle.vesgrauf.specs.Progress.{IsQuiet, IsStill, IsSettled, IsSettledBy, IsTurnOf, Turns, NoneIsSending, AllAreSent, IsSent}
 use Rattle.vesgrauf.specs.Streams.{IsNotDue, kind_of_entry, may_send}
-use Rattle.vesgrauf.proofs.PlaceLemmas.{more_none}
+use Rattle.vesgrauf.proofs.QueuedLemmas.{more_none}
 
 pub quiet_settled : (c : Connection) (i : Input) → i.report ≡ report.Nothing → IsQuiet c → IsStill c → IsSettled c i
 quiet_settled c i t q s = record {

@@ -177,7 +177,7 @@ impl Entry {
     }
 
     // Returns whether QUIC is to take bytes of it, or its end.
-    #[tactic(auto, using(crate::proofs::PlaceLemmas::more_is))]
+    #[tactic(auto, using(crate::proofs::QueuedLemmas::more_is))]
     pub(crate) fn has_more(&self) -> bool
         ensures idle { IsTrue result ↔ ¬ (IsIdle self.now.writing.queue) }
         ensures more { result ≡ has_more self.now.writing.queue }
@@ -281,7 +281,7 @@ impl Entry {
     }
 
     // QUIC took the first `len` bytes that wait.
-    #[tactic(auto, using(crate::proofs::PlaceLemmas::more_put, crate::proofs::JoinedLemmas::out_put))]
+    #[tactic(auto, using(crate::proofs::QueuedLemmas::more_put, crate::proofs::SeveredLemmas::out_put))]
     pub(crate) fn sent(&mut self, spares: &mut Spares, len: usize) -> Result<(), NotShown>
         ensures took { OnOk result (Took len (own_of self.old.writing) (own_of self.new.writing)) }
         ensures kept { OnErr result (self.new ≡ self.old) }

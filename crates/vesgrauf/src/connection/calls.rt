@@ -253,7 +253,7 @@ impl Connection {
     /// # Errors
     ///
     /// Nothing changes. `Closed`; `NoStream`; and `Memory`.
-    #[tactic(auto, using(crate::proofs::KeepsLemmas::kept, std::proofs::lemmas::Map::Steps::set_value_same, crate::proofs::GoesLemmas::goes_set, crate::proofs::PlaceLemmas::ordered_moved, crate::proofs::SendsLemmas::lasts_as_before, crate::proofs::SendsLemmas::lasting_same, crate::proofs::LastsLemmas::lasts_refl))]
+    #[tactic(auto, using(crate::proofs::KeepsLemmas::kept, std::proofs::lemmas::Map::Steps::set_value_same, crate::proofs::GoesLemmas::goes_set, crate::proofs::MovedLemmas::ordered_moved, crate::proofs::SendsLemmas::lasts_as_before, crate::proofs::SendsLemmas::lasting_same, crate::proofs::LastsLemmas::lasts_refl))]
     pub fn prioritize(&mut self, id: u64, priority: Priority) -> Result<(), Refused>
         ensures ok { OnOk result (Prioritizes id priority self.old self.new) }
         ensures why { IfErr result (λ e. IsWhyNamed self.old id e) }

@@ -142,7 +142,7 @@ impl Connection {
     }
 
     // Resets the own half, if it may be.
-    #[tactic(auto, using(crate::proofs::KeepsLemmas::keep, crate::proofs::KeepsLemmas::keeps_but_set, crate::proofs::CutLemmas::alone, crate::proofs::CutLemmas::alone_over, crate::proofs::CutLemmas::asks, crate::proofs::CutLemmas::asks_reset, crate::proofs::OwnLemmas::own_set, std::proofs::lemmas::Map::Steps::set_value_same, crate::proofs::PlaceLemmas::ordered, crate::proofs::JoinedLemmas::joined, crate::proofs::PlaceLemmas::ordered_over, crate::proofs::PlaceLemmas::reset_quiet, crate::proofs::JoinedLemmas::stays_half, crate::proofs::JoinedLemmas::out_reset))]
+    #[tactic(auto, using(crate::proofs::KeepsLemmas::keep, crate::proofs::KeepsLemmas::keeps_but_set, crate::proofs::CutLemmas::alone, crate::proofs::CutLemmas::alone_over, crate::proofs::CutLemmas::asks, crate::proofs::CutLemmas::asks_reset, crate::proofs::OwnLemmas::own_set, std::proofs::lemmas::Map::Steps::set_value_same, crate::proofs::PlaceLemmas::ordered, crate::proofs::JoinedLemmas::joined, crate::proofs::PlaceLemmas::ordered_over, crate::proofs::QueuedLemmas::reset_quiet, crate::proofs::SeveredLemmas::stays_half, crate::proofs::SeveredLemmas::out_reset))]
     fn reset_writing(&mut self, id: u64, code: u64) -> Result<(), AllocError>
         ensures keeps { KeepsBut id self.old self.new }
         ensures alone { Alone id self.old self.new }
@@ -224,7 +224,7 @@ impl Connection {
     }
 
     // Resets the own half, and tells the program so, if it knows of the stream.
-    #[tactic(auto, using(crate::proofs::KeepsLemmas::keep, crate::proofs::KeepsLemmas::keeps_stopped, crate::proofs::CutLemmas::alone, crate::proofs::CutLemmas::alone_over, crate::proofs::CutLemmas::asks, crate::proofs::CutLemmas::asks_reset, crate::proofs::CutLemmas::asks_popped, crate::proofs::CutLemmas::read_set, crate::proofs::OwnLemmas::own_set, crate::proofs::PlaceLemmas::ordered, crate::proofs::JoinedLemmas::joined, crate::proofs::PlaceLemmas::ordered_over, crate::proofs::PlaceLemmas::reset_quiet, crate::proofs::JoinedLemmas::stays_half, crate::proofs::JoinedLemmas::out_reset))]
+    #[tactic(auto, using(crate::proofs::KeepsLemmas::keep, crate::proofs::KeepsLemmas::keeps_stopped, crate::proofs::CutLemmas::alone, crate::proofs::CutLemmas::alone_over, crate::proofs::CutLemmas::asks, crate::proofs::CutLemmas::asks_reset, crate::proofs::CutLemmas::asks_popped, crate::proofs::CutLemmas::read_set, crate::proofs::OwnLemmas::own_set, crate::proofs::PlaceLemmas::ordered, crate::proofs::JoinedLemmas::joined, crate::proofs::PlaceLemmas::ordered_over, crate::proofs::QueuedLemmas::reset_quiet, crate::proofs::SeveredLemmas::stays_half, crate::proofs::SeveredLemmas::out_reset))]
     pub(super) fn tell_stopped(
         &mut self,
         id: u64,
@@ -269,7 +269,7 @@ impl Connection {
 
     // Ends the own half of a CONNECT after what is queued, if the message may end there. Without memory it has its place in the
     // order of sending from the next step on.
-    #[tactic(auto, using(crate::proofs::KeepsLemmas::keep, crate::proofs::KeepsLemmas::keeps_tried, crate::proofs::PlaceLemmas::ordered, crate::proofs::JoinedLemmas::joined, crate::proofs::PlaceLemmas::ordered_kept, crate::proofs::JoinedLemmas::stays_half, crate::proofs::JoinedLemmas::out_finished))]
+    #[tactic(auto, using(crate::proofs::KeepsLemmas::keep, crate::proofs::KeepsLemmas::keeps_tried, crate::proofs::PlaceLemmas::ordered, crate::proofs::JoinedLemmas::joined, crate::proofs::PlaceLemmas::ordered_kept, crate::proofs::SeveredLemmas::stays_half, crate::proofs::SeveredLemmas::out_finished))]
     pub(super) fn end_own(&mut self, id: u64)
         ensures keeps { Keeps [] self.old self.new }
     {
@@ -294,7 +294,7 @@ impl Connection {
 
     // Ends the own half of a CONNECT on which nothing waits, and which has its place in the order of sending later. (A step
     // first gives its place to the one before it.)
-    #[tactic(auto, using(crate::proofs::KeepsLemmas::keep, crate::proofs::KeepsLemmas::keeps_tried, crate::proofs::PlaceLemmas::ordered, crate::proofs::JoinedLemmas::joined, crate::proofs::PlaceLemmas::ordered_later, crate::proofs::JoinedLemmas::stays_half, crate::proofs::JoinedLemmas::out_finished))]
+    #[tactic(auto, using(crate::proofs::KeepsLemmas::keep, crate::proofs::KeepsLemmas::keeps_tried, crate::proofs::PlaceLemmas::ordered, crate::proofs::JoinedLemmas::joined, crate::proofs::PlaceLemmas::ordered_later, crate::proofs::SeveredLemmas::stays_half, crate::proofs::SeveredLemmas::out_finished))]
     fn end_later(&mut self, id: u64)
         ensures keeps { Keeps [] self.old self.new }
     {
@@ -362,7 +362,7 @@ impl Connection {
     }
 
     // The last event of a stream is told, or queued.
-    #[tactic(auto, using(crate::proofs::KeepsLemmas::keep, crate::proofs::PlaceLemmas::ordered, crate::proofs::JoinedLemmas::joined, crate::proofs::JoinedLemmas::stays_over))]
+    #[tactic(auto, using(crate::proofs::KeepsLemmas::keep, crate::proofs::PlaceLemmas::ordered, crate::proofs::JoinedLemmas::joined, crate::proofs::SeveredLemmas::stays_over))]
     pub(super) fn end_told(&mut self, id: u64)
         ensures ends { self.new.streams.entries ≡ ended_at self.old.streams.entries id }
         ensures ids { self.new.ids ≡ self.old.ids }

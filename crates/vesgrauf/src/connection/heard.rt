@@ -258,7 +258,7 @@ impl Connection {
     }
 
     // The bytes of the stream are instructions for the own encoder.
-    #[tactic(auto, using(crate::proofs::KeepsLemmas::keep, crate::proofs::PlaceLemmas::ordered, crate::proofs::JoinedLemmas::joined, crate::proofs::JoinedLemmas::stays_decoder))]
+    #[tactic(auto, using(crate::proofs::KeepsLemmas::keep, crate::proofs::PlaceLemmas::ordered, crate::proofs::JoinedLemmas::joined, crate::proofs::SeveredLemmas::stays_decoder))]
     fn note_decoder(&mut self, id: u64)
         ensures keeps { Keeps [] self.old self.new }
     {
@@ -376,7 +376,7 @@ impl Connection {
     }
 
     // A request came that asks for this.
-    #[tactic(auto, using(crate::proofs::KeepsLemmas::keep, crate::proofs::KeepsLemmas::keeps_known, crate::proofs::OwnLemmas::own_asked, crate::proofs::PlaceLemmas::ordered, crate::proofs::JoinedLemmas::joined, crate::proofs::JoinedLemmas::stays_known, crate::proofs::JoinedLemmas::out_asked))]
+    #[tactic(auto, using(crate::proofs::KeepsLemmas::keep, crate::proofs::KeepsLemmas::keeps_known, crate::proofs::OwnLemmas::own_asked, crate::proofs::PlaceLemmas::ordered, crate::proofs::JoinedLemmas::joined, crate::proofs::SeveredLemmas::stays_known, crate::proofs::SeveredLemmas::out_asked))]
     pub(super) fn note_request(&mut self, id: u64, asked: Asked)
         ensures keeps { Keeps [] self.old self.new }
     {
@@ -418,7 +418,7 @@ impl Connection {
     }
 
     // A request to a tunnel was granted.
-    #[tactic(auto, using(crate::proofs::KeepsLemmas::keep, crate::proofs::OwnLemmas::own_connected, crate::proofs::PlaceLemmas::ordered, crate::proofs::JoinedLemmas::joined, crate::proofs::JoinedLemmas::stays_half, crate::proofs::JoinedLemmas::out_connected))]
+    #[tactic(auto, using(crate::proofs::KeepsLemmas::keep, crate::proofs::OwnLemmas::own_connected, crate::proofs::PlaceLemmas::ordered, crate::proofs::JoinedLemmas::joined, crate::proofs::SeveredLemmas::stays_half, crate::proofs::SeveredLemmas::out_connected))]
     pub(super) fn connect(&mut self, id: u64)
         ensures keeps { Keeps [] self.old self.new }
     {

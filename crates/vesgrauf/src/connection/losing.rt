@@ -34,7 +34,7 @@ impl Connection {
     }
 
     // Frees what is kept of the own half of a stream that QUIC has closed.
-    #[tactic(auto, using(crate::proofs::KeepsLemmas::keep, crate::proofs::PlaceLemmas::ordered, crate::proofs::PlaceLemmas::ordered_step, crate::proofs::PlaceLemmas::more_acked))]
+    #[tactic(auto, using(crate::proofs::KeepsLemmas::keep, crate::proofs::PlaceLemmas::ordered, crate::proofs::PlaceLemmas::ordered_step, crate::proofs::QueuedLemmas::more_acked))]
     fn free_half(&mut self, id: u64)
         ensures keeps { Keeps [] self.old self.new }
     {
@@ -73,7 +73,7 @@ impl Connection {
     }
 
     // There is no own half of a stream any more.
-    #[tactic(auto, using(crate::proofs::KeepsLemmas::keep, crate::proofs::PlaceLemmas::ordered_over, crate::proofs::PlaceLemmas::more_new))]
+    #[tactic(auto, using(crate::proofs::KeepsLemmas::keep, crate::proofs::PlaceLemmas::ordered_over, crate::proofs::QueuedLemmas::more_new))]
     fn drop_own(&mut self, id: u64, is_lost: bool)
         ensures keeps { (own_at self.old.streams.entries id ≡ Over) ⊎ (knows_of (stream_at self.old id) ≡ false)
             → Keeps [] self.old self.new }
@@ -89,7 +89,7 @@ impl Connection {
     }
 
     // The own half of a stream that the program knows of is lost: the program is told so.
-    #[tactic(auto, using(crate::proofs::KeepsLemmas::keep, crate::proofs::KeepsLemmas::keeps_stopped, crate::proofs::PlaceLemmas::ordered_over, crate::proofs::PlaceLemmas::more_new))]
+    #[tactic(auto, using(crate::proofs::KeepsLemmas::keep, crate::proofs::KeepsLemmas::keeps_stopped, crate::proofs::PlaceLemmas::ordered_over, crate::proofs::QueuedLemmas::more_new))]
     fn lose_told(&mut self, id: u64) -> Result<(), AllocError>
         ensures keeps { Keeps [] self.old self.new }
     {

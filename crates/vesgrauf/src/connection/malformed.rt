@@ -109,7 +109,7 @@ impl Connection {
     }
 
     // The answer on a stream is that to a request for nothing else.
-    #[tactic(auto, using(crate::proofs::KeepsLemmas::keep, crate::proofs::OwnLemmas::own_asked, crate::proofs::PlaceLemmas::ordered, crate::proofs::JoinedLemmas::joined, crate::proofs::JoinedLemmas::stays_half, crate::proofs::JoinedLemmas::out_asked))]
+    #[tactic(auto, using(crate::proofs::KeepsLemmas::keep, crate::proofs::OwnLemmas::own_asked, crate::proofs::PlaceLemmas::ordered, crate::proofs::JoinedLemmas::joined, crate::proofs::SeveredLemmas::stays_half, crate::proofs::SeveredLemmas::out_asked))]
     fn note_other(&mut self, id: u64)
         ensures keeps { Keeps [] self.old self.new }
     {

@@ -44,7 +44,7 @@ impl Connection {
     }
 
     // Tells that the peer's half ended, which is read no further.
-    #[tactic(auto, using(crate::proofs::KeepsLemmas::keep, crate::proofs::KeepsLemmas::keeps_end, crate::proofs::TellsLemmas::gone_set, crate::proofs::PlaceLemmas::ordered, crate::proofs::JoinedLemmas::joined, crate::proofs::JoinedLemmas::stays_gone))]
+    #[tactic(auto, using(crate::proofs::KeepsLemmas::keep, crate::proofs::KeepsLemmas::keeps_end, crate::proofs::TellsLemmas::gone_set, crate::proofs::PlaceLemmas::ordered, crate::proofs::JoinedLemmas::joined, crate::proofs::SeveredLemmas::stays_gone))]
     fn tell_end(&mut self, id: u64) -> Step<'static>
         ensures keeps { Keeps (said_in result) self.old self.new }
         ensures is { IsOf id (Ends ∷ []) result }
@@ -223,7 +223,7 @@ impl Connection {
 
     // Drops what is kept of the peer's half, which is read no further. Returns by how many bytes QUIC's windows are to be
     // extended for it.
-    #[tactic(auto, using(crate::proofs::KeepsLemmas::keep, crate::proofs::KeepsLemmas::keeps_but_set, crate::proofs::KeepsLemmas::keeps_gone_set, crate::proofs::CutLemmas::alone, crate::proofs::TellsLemmas::gone_set, crate::proofs::PlaceLemmas::ordered, crate::proofs::JoinedLemmas::joined, crate::proofs::JoinedLemmas::stays_gone))]
+    #[tactic(auto, using(crate::proofs::KeepsLemmas::keep, crate::proofs::KeepsLemmas::keeps_but_set, crate::proofs::KeepsLemmas::keeps_gone_set, crate::proofs::CutLemmas::alone, crate::proofs::TellsLemmas::gone_set, crate::proofs::PlaceLemmas::ordered, crate::proofs::JoinedLemmas::joined, crate::proofs::SeveredLemmas::stays_gone))]
     fn drop_half(&mut self, id: u64, is_over: bool) -> usize
         ensures keeps { KeepsBut id self.old self.new }
         ensures alone { Alone id self.old self.new }

@@ -78,7 +78,7 @@ impl Connection {
     }
 
     // Notes whether the end of the peer's half of a stream came.
-    #[tactic(auto, using(crate::proofs::KeepsLemmas::keep, crate::proofs::PlaceLemmas::ordered, crate::proofs::JoinedLemmas::joined, crate::proofs::JoinedLemmas::stays_ended))]
+    #[tactic(auto, using(crate::proofs::KeepsLemmas::keep, crate::proofs::PlaceLemmas::ordered, crate::proofs::JoinedLemmas::joined, crate::proofs::SeveredLemmas::stays_ended))]
     fn note_end(&mut self, id: u64, is_last: bool)
         ensures keeps { Keeps [] self.old self.new }
     {

@@ -17,7 +17,7 @@ ghost use Rattle.vesgrauf.specs.declared.output.StreamKind.TheVariants as kinds;
 ghost use Rattle.vesgrauf.specs.declared.refused.Refused.TheVariants as refused;
 
 use crate::connection::Connection;
-use crate::connection::messages::{asked_of, is_extended, session_id};
+use crate::connection::heads::{asked_of, is_extended, session_id};
 use crate::entry::{Entry, Peer, SHARED, Told};
 use crate::output::StreamKind;
 use crate::refused::Refused;

@@ -224,7 +224,7 @@ impl Connection {
     // QUIC took bytes of a stream that is not critical, whose turn it was. Returns whether nothing is to be done for its own
     // half any more.
     #[inline(always)]
-    #[tactic(auto, using(crate::proofs::KeepsLemmas::kept, crate::proofs::OwnLemmas::took_set, crate::proofs::TheirsLemmas::left_set, crate::proofs::GoesLemmas::goes_set, std::proofs::lemmas::Map::Steps::set_value_same, crate::proofs::PlaceLemmas::ordered_turned, crate::proofs::JoinedLemmas::joined_stays, crate::proofs::JoinedLemmas::stays_put, crate::proofs::LastsLemmas::lasts_refl, crate::proofs::LastsLemmas::lasts_but_set))]
+    #[tactic(auto, using(crate::proofs::KeepsLemmas::kept, crate::proofs::OwnLemmas::took_set, crate::proofs::TheirsLemmas::left_set, crate::proofs::GoesLemmas::goes_set, std::proofs::lemmas::Map::Steps::set_value_same, crate::proofs::PlaceLemmas::ordered_turned, crate::proofs::JoinedLemmas::joined_stays, crate::proofs::SeveredLemmas::stays_put, crate::proofs::LastsLemmas::lasts_refl, crate::proofs::LastsLemmas::lasts_but_set))]
     fn message_sent(&mut self, id: u64, len: usize) -> Result<bool, Refused>
         ensures refused { OnErr result (IsStill self.old self.new) }
         ensures own { UntouchedBut id self.old.streams.entries self.new.streams.entries }
@@ -279,7 +279,7 @@ impl Connection {
     }
 
     // Returns whether a `Writable` is owed on a stream, which is then told.
-    #[tactic(auto, using(crate::proofs::KeepsLemmas::keep, crate::proofs::PlaceLemmas::ordered_step, crate::proofs::PlaceLemmas::told_more, crate::proofs::JoinedLemmas::joined_half, crate::proofs::JoinedLemmas::out_told))]
+    #[tactic(auto, using(crate::proofs::KeepsLemmas::keep, crate::proofs::PlaceLemmas::ordered_step, crate::proofs::QueuedLemmas::told_more, crate::proofs::JoinedLemmas::joined_half, crate::proofs::SeveredLemmas::out_told))]
     fn take_writable(&mut self, id: u64) -> bool
         ensures keeps { Keeps [] self.old self.new }
     {
@@ -347,7 +347,7 @@ impl Connection {
 
     // The peer has more of the bytes of a stream that is not critical. Returns whether nothing is to be done for its own half
     // any more.
-    #[tactic(auto, using(crate::proofs::KeepsLemmas::keep, std::proofs::lemmas::Map::Steps::set_value_same, crate::proofs::PlaceLemmas::ordered_step, crate::proofs::PlaceLemmas::more_acked, crate::proofs::JoinedLemmas::joined_half, crate::proofs::JoinedLemmas::out_acked, crate::proofs::JoinedLemmas::out_same))]
+    #[tactic(auto, using(crate::proofs::KeepsLemmas::keep, std::proofs::lemmas::Map::Steps::set_value_same, crate::proofs::PlaceLemmas::ordered_step, crate::proofs::QueuedLemmas::more_acked, crate::proofs::JoinedLemmas::joined_half, crate::proofs::SeveredLemmas::out_acked, crate::proofs::SeveredLemmas::out_same))]
     fn acked_on(&mut self, id: u64, len: u64) -> Result<bool, Refused>
         ensures refused { IfErr result (λ e. IsRefused e self.old self.new) }
         ensures acks { OnOk result (is_some (stream_at self.old id) ≡ true
@@ -372,7 +372,7 @@ impl Connection {
     }
 
     // QUIC took the reset of a stream.
-    #[tactic(auto, using(crate::proofs::KeepsLemmas::keep, crate::proofs::PlaceLemmas::ordered_step, crate::proofs::PlaceLemmas::reset_put_more, crate::proofs::JoinedLemmas::joined_half, crate::proofs::JoinedLemmas::out_reset_put))]
+    #[tactic(auto, using(crate::proofs::KeepsLemmas::keep, crate::proofs::PlaceLemmas::ordered_step, crate::proofs::QueuedLemmas::reset_put_more, crate::proofs::JoinedLemmas::joined_half, crate::proofs::SeveredLemmas::out_reset_put))]
     fn note_reset_sent(&mut self, id: u64)
         ensures keeps { Keeps [] self.old self.new }
         ensures outputs { self.new.outputs ≡ self.old.outputs }

@@ -6,7 +6,8 @@ use Rattle.vesgrauf.specs.Own.{entry_at}
 use Rattle.vesgrauf.proofs.LastsLemmas.{lasts_insert}
 use Rattle.vesgrauf.proofs.IdLemmas.{goes_accepts}
 use Rattle.vesgrauf.proofs.OwnLemmas.{new_insert}
-use Rattle.vesgrauf.proofs.JoinedLemmas.{joined_new, joined_seen, not_there}
+use Rattle.vesgrauf.proofs.JoinedLemmas.{joined_new, joined_seen}
+use Rattle.vesgrauf.proofs.SeveredLemmas.{not_there}
 use Rattle.vesgrauf.proofs.PlaceLemmas.{ordered_new_quiet}
 use Rattle.vesgrauf.proofs.TellsLemmas.{accepts_insert}
 use Rattle.vesgrauf.proofs.connection.Connection.accept_next.Goals as goal

@@ -6,7 +6,8 @@ use Rattle.std.specs.Map.{set_value}
 use Rattle.std.specs.BTreeMap.{is_at}
 use Rattle.vesgrauf.specs.declared.entry.Entry.{Entry}
 use Rattle.vesgrauf.specs.Own.{entry_at}
-use Rattle.vesgrauf.proofs.JoinedLemmas.{joined_stays, stays_same}
+use Rattle.vesgrauf.proofs.JoinedLemmas.{joined_stays}
+use Rattle.vesgrauf.proofs.SeveredLemmas.{stays_same}
 use Rattle.vesgrauf.proofs.PlaceLemmas.{ordered_given, ordered_blocked, ordered_quiet}
 use Rattle.vesgrauf.proofs.connection.Connection.block_stream.Goals as goal
 

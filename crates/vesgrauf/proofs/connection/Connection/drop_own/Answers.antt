@@ -1,8 +1,10 @@
 use Rattle.vesgrauf.proofs.LostLemmas.{drop_keeps, own_none}
 use Rattle.vesgrauf.specs.Keeps.{KeepsAll}
-use Rattle.vesgrauf.proofs.PlaceLemmas.{ordered_over, more_new}
+use Rattle.vesgrauf.proofs.PlaceLemmas.{ordered_over}
+use Rattle.vesgrauf.proofs.QueuedLemmas.{more_new}
 use Rattle.vesgrauf.specs.Places.{Ordered}
-use Rattle.vesgrauf.proofs.JoinedLemmas.{joined_stays, stays_half, out_none}
+use Rattle.vesgrauf.proofs.JoinedLemmas.{joined_stays}
+use Rattle.vesgrauf.proofs.SeveredLemmas.{stays_half, out_none}
 use Rattle.vesgrauf.specs.Own.{entry_at}
 use Rattle.vesgrauf.specs.Joined.{Joined}
 use Rattle.vesgrauf.specs.declared.entry.Entry.{Entry}

@@ -1,6 +1,7 @@
 use Rattle.vesgrauf.proofs.PlaceLemmas.{ordered_half, ordered_later}
 use Rattle.vesgrauf.specs.Places.{Ordered}
-use Rattle.vesgrauf.proofs.JoinedLemmas.{joined_stays, stays_same, stays_half, out_finished, not_there}
+use Rattle.vesgrauf.proofs.JoinedLemmas.{joined_stays}
+use Rattle.vesgrauf.proofs.SeveredLemmas.{stays_same, stays_half, out_finished, not_there}
 use Rattle.vesgrauf.specs.Joined.{Joined}
 use Rattle.std.proofs.Common.{rules, ◌≡◌, true, refl, Some, sym, subst, ℕ, List, ◌∙◌}
 use Rattle.std.specs.Ordering.{nat_cmp}

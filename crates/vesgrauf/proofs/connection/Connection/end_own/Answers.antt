@@ -9,7 +9,8 @@ use Rattle.std.proofs.lemmas.Map.Steps.{set_value_same}
 use Rattle.vesgrauf.specs.Own.{entry_at}
 use Rattle.vesgrauf.proofs.KeepsLemmas.{keeps_tried}
 use Rattle.vesgrauf.specs.Joined.{Joined}
-use Rattle.vesgrauf.proofs.JoinedLemmas.{joined_stays, out_finished, stays_half, stays_same}
+use Rattle.vesgrauf.proofs.JoinedLemmas.{joined_stays}
+use Rattle.vesgrauf.proofs.SeveredLemmas.{out_finished, stays_half, stays_same}
 use Rattle.vesgrauf.proofs.PlaceLemmas.{ordered_sent, ordered_half}
 use Rattle.vesgrauf.proofs.connection.Connection.end_own.Goals as goal
 

@@ -5,7 +5,8 @@ use Rattle.std.specs.BTreeMap.{is_at}
 use Rattle.vesgrauf.specs.declared.entry.Entry.{Entry}
 use Rattle.vesgrauf.specs.Joined.{Joined}
 use Rattle.vesgrauf.specs.Own.{entry_at}
-use Rattle.vesgrauf.proofs.JoinedLemmas.{joined_stays, stays_same}
+use Rattle.vesgrauf.proofs.JoinedLemmas.{joined_stays}
+use Rattle.vesgrauf.proofs.SeveredLemmas.{stays_same}
 use Rattle.vesgrauf.proofs.connection.Connection.leave_order.Goals as goal
 
 pub invariant_of-self-2-clause-joined : goal.invariant_of-self-2-clause-joined

@@ -1,6 +1,8 @@
-use Rattle.vesgrauf.proofs.PlaceLemmas.{ordered_over, more_new, ordered_half}
+use Rattle.vesgrauf.proofs.PlaceLemmas.{ordered_over, ordered_half}
+use Rattle.vesgrauf.proofs.QueuedLemmas.{more_new}
 use Rattle.vesgrauf.specs.Places.{Ordered}
-use Rattle.vesgrauf.proofs.JoinedLemmas.{joined_stays, stays_half, out_none, stays_same}
+use Rattle.vesgrauf.proofs.JoinedLemmas.{joined_stays}
+use Rattle.vesgrauf.proofs.SeveredLemmas.{stays_half, out_none, stays_same}
 use Rattle.vesgrauf.specs.Own.{entry_at}
 use Rattle.vesgrauf.specs.Joined.{Joined}
 use Rattle.vesgrauf.specs.declared.entry.Entry.{Entry}

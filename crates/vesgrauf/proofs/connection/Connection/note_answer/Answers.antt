@@ -1,6 +1,7 @@
 use Rattle.vesgrauf.proofs.KeepsLemmas.{keeps_turned}
 use Rattle.vesgrauf.specs.Keeps.{KeepsAll}
-use Rattle.vesgrauf.proofs.JoinedLemmas.{joined_stays, stays_same}
+use Rattle.vesgrauf.proofs.JoinedLemmas.{joined_stays}
+use Rattle.vesgrauf.proofs.SeveredLemmas.{stays_same}
 use Rattle.vesgrauf.specs.Own.{entry_at}
 use Rattle.vesgrauf.specs.Joined.{Joined}
 use Rattle.vesgrauf.specs.declared.entry.Entry.{Entry}

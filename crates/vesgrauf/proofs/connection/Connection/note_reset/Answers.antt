@@ -1,4 +1,5 @@
-use Rattle.vesgrauf.proofs.JoinedLemmas.{joined_stays, stays_ended}
+use Rattle.vesgrauf.proofs.JoinedLemmas.{joined_stays}
+use Rattle.vesgrauf.proofs.SeveredLemmas.{stays_ended}
 use Rattle.vesgrauf.specs.Own.{entry_at}
 use Rattle.vesgrauf.specs.Joined.{Joined}
 use Rattle.vesgrauf.specs.declared.entry.Entry.{Entry}

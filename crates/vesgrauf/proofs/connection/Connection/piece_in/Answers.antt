@@ -1,7 +1,8 @@
 use Rattle.vesgrauf.specs.Items.{content}
 use Rattle.vesgrauf.proofs.LookLemmas.{reads_set}
 use Rattle.vesgrauf.specs.Theirs.{ReadsOn}
-use Rattle.vesgrauf.proofs.JoinedLemmas.{joined_stays, stays_same}
+use Rattle.vesgrauf.proofs.JoinedLemmas.{joined_stays}
+use Rattle.vesgrauf.proofs.SeveredLemmas.{stays_same}
 use Rattle.vesgrauf.specs.Own.{entry_at}
 use Rattle.vesgrauf.specs.Joined.{Joined}
 use Rattle.vesgrauf.specs.declared.entry.Entry.{Entry}

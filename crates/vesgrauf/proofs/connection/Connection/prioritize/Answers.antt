@@ -4,8 +4,9 @@ use Rattle.std.specs.Map.{set_value}
 use Rattle.std.specs.BTreeMap.{is_at}
 use Rattle.vesgrauf.specs.declared.entry.Entry.{Entry}
 use Rattle.vesgrauf.specs.Own.{entry_at}
-use Rattle.vesgrauf.proofs.JoinedLemmas.{joined_stays, stays_same}
-use Rattle.vesgrauf.proofs.PlaceLemmas.{ordered_moved}
+use Rattle.vesgrauf.proofs.JoinedLemmas.{joined_stays}
+use Rattle.vesgrauf.proofs.SeveredLemmas.{stays_same}
+use Rattle.vesgrauf.proofs.MovedLemmas.{ordered_moved}
 use Rattle.vesgrauf.specs.Halves.{Lasts}
 use Rattle.vesgrauf.proofs.SendsLemmas.{lasting_same, lasts_as_before}
 use Rattle.vesgrauf.proofs.connection.Connection.prioritize.Goals as goal

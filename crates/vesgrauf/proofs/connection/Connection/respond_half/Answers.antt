@@ -5,7 +5,8 @@ use Rattle.std.specs.Map.{set_value}
 use Rattle.std.specs.BTreeMap.{is_at}
 use Rattle.vesgrauf.specs.declared.entry.Entry.{Entry}
 use Rattle.vesgrauf.specs.Own.{entry_at}
-use Rattle.vesgrauf.proofs.JoinedLemmas.{joined_stays, out_responded, stays_half, stays_same}
+use Rattle.vesgrauf.proofs.JoinedLemmas.{joined_stays}
+use Rattle.vesgrauf.proofs.SeveredLemmas.{out_responded, stays_half, stays_same}
 use Rattle.vesgrauf.proofs.PlaceLemmas.{ordered, ordered_sent}
 use Rattle.vesgrauf.proofs.connection.Connection.respond_half.Goals as goal
 

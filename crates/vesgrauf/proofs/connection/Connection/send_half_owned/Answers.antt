@@ -6,7 +6,8 @@ use Rattle.std.specs.Map.{set_value}
 use Rattle.std.specs.BTreeMap.{is_at}
 use Rattle.vesgrauf.specs.declared.entry.Entry.{Entry}
 use Rattle.vesgrauf.specs.Own.{entry_at}
-use Rattle.vesgrauf.proofs.JoinedLemmas.{joined_stays, stays_sent_owned, standing_sent_owned}
+use Rattle.vesgrauf.proofs.JoinedLemmas.{joined_stays}
+use Rattle.vesgrauf.proofs.SeveredLemmas.{stays_sent_owned, standing_sent_owned}
 use Rattle.vesgrauf.proofs.PlaceLemmas.{ordered_sent}
 use Rattle.vesgrauf.specs.Halves.{Lasts}
 use Rattle.vesgrauf.proofs.SendsLemmas.{lasting_sent_owned, lasts_as_before}

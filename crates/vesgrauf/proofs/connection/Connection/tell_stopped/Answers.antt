@@ -6,8 +6,10 @@ use Rattle.vesgrauf.specs.declared.entry.Entry.{Entry}
 use Rattle.vesgrauf.specs.Own.{entry_at}
 use Rattle.vesgrauf.specs.Joined.{Joined}
 use Rattle.vesgrauf.specs.Places.{Ordered}
-use Rattle.vesgrauf.proofs.JoinedLemmas.{joined_stays, out_reset, stays_half, stays_same}
-use Rattle.vesgrauf.proofs.PlaceLemmas.{more_unset, ordered_half, ordered_over, ordered_step, reset_quiet}
+use Rattle.vesgrauf.proofs.JoinedLemmas.{joined_stays}
+use Rattle.vesgrauf.proofs.SeveredLemmas.{out_reset, stays_half, stays_same}
+use Rattle.vesgrauf.proofs.PlaceLemmas.{ordered_half, ordered_over, ordered_step}
+use Rattle.vesgrauf.proofs.QueuedLemmas.{more_unset, reset_quiet}
 use Rattle.vesgrauf.proofs.connection.Connection.tell_stopped.Goals as goal
 
 pub invariant_of-self-then-is_told-2-clause-ordered : goal.invariant_of-self-then-is_told-2-clause-ordered
