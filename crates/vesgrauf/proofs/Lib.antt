@@ -1,6 +1,7 @@
 pub mod BoundLemmas
 pub mod CallLemmas
 pub mod CutLemmas
+pub mod DeedLemmas
 pub mod EndLemmas
 pub mod GoesLemmas
 pub mod GoesSteps

@@ -26,3 +26,4 @@ pub mod State
 pub mod Streams
 pub mod Theirs
 pub mod Told
+pub mod Works

@@ -1,6 +1,6 @@
 //! Laws of a connection, of its runs or of the steps that its calls take. Each function does nothing: its contract is the
 //! law.
-ghost use Rattle.std.specs.Prelude.{◌≡◌, ◌++◌, ◌<◌, length, min, ℕ, Bool, List, [], ◌∷◌, Some, None, Ok, true, false};
+ghost use Rattle.std.specs.Prelude.{◌≡◌, ◌++◌, ◌<◌, ◌≤◌, length, min, ℕ, Bool, List, [], ◌∷◌, Some, None, Ok, true, false};
 ghost use Rattle.vesgrauf_queue.specs.declared.ending.Ending.TheVariants as ending;
 ghost use Rattle.vesgrauf_stream.specs.Writing.{is_none};
 ghost use Rattle.wtp_qpack.specs.Field.{Field};
@@ -18,7 +18,8 @@ ghost use Rattle.vesgrauf.specs.Told.{Says, Fails, Closes, Path, on, knows};
 ghost use Rattle.vesgrauf.specs.declared.event.Event.{Event as EventOf};
 ghost use Rattle.vesgrauf.specs.Halves.{Turn as Taken, Turns as Take, Holds, NotKnown, Has, OfOwn, OfPeer, OfBoth, after, after_told, after_queued, halves_at, may_end, told_by_all};
 ghost use Rattle.vesgrauf.specs.Told.{Sound};
-ghost use Rattle.vesgrauf.specs.Instructions.{Table, Does as SaysBy, Deed, Deeds, Reads, Leaves, Counts, Acknowledges, AreSaid, Turn, Turns, all_deeds, all_taken, bytes_of_all};
+ghost use Rattle.vesgrauf.specs.Works.{Book, Calls, Leads as LeadsBook, WorksBy, book_of, count_left, may_leave};
+ghost use Rattle.vesgrauf.specs.Instructions.{Table, table_of, Does as SaysBy, Deed, Deeds, Reads, Leaves, Counts, Acknowledges, AreSaid, Turn, Turns, all_deeds, all_taken, bytes_of_all};
 ghost use Rattle.wtp_dynamic.specs.declared.acknowledgment.Acknowledgment.{Acknowledgment};
 ghost use Rattle.wtp_dynamic.specs.declared.acknowledgment.Acknowledgment.TheVariants as instruction;
 ghost use Rattle.wtp_dynamic.specs.DecoderStream.{acknowledgment_bytes};
@@ -222,9 +223,25 @@ pub fn sections_are_acknowledged_once()
     ensures unread { (id : ℕ) (t u : Table) (a : Acknowledges id t u) → a.d.read ≡ None → u.bytes ≡ t.bytes }
 {}
 
+/// Over calls, while the connection lasts, of which each does some deeds for the own decoder stream, one after the other, and
+/// nothing else, or lets QUIC take bytes of it: bytes of a stream are looked at in the state in which the calls before left the
+/// stream, and the section that is read with the own table is acknowledged at once, on this stream; a stream that may be
+/// cancelled is left, and may not be cancelled again; insertions are counted. Each stream is cancelled at most once. What QUIC
+/// takes, and then what waits, is what waited at first and then the instructions of these deeds, whole and in their order. No
+/// contract of a call says yet that it is one of these.
+#[tactic(auto, using(crate::proofs::DeedLemmas::calls_say))]
+pub fn decoder_streams_go_by_deeds()
+    ensures { (n : ℕ) (c d : Connection) → Sound c.streams.entries c.ids → Calls n c d
+        → (turns : List Turn) × LeadsBook turns (book_of c) (book_of d)
+        × ((id : ℕ) → count_left (all_deeds turns) id ≤ 1)
+        × ((said : List Acknowledgment) × AreSaid (all_deeds turns) said
+        × (all_taken turns ++ (table_of d).bytes ≡ (table_of c).bytes ++ bytes_of_all said)) }
+{}
+
 /// The definitions refuse two instructions for one deed, an acknowledgment or a cancellation of another stream, a count of
 /// insertions where a section was read, an instruction where nothing was done, and that the acknowledgment of a section is
-/// forgotten that was read with the own table, and whose Required Insert Count is not 0. Without a deed nothing is said.
+/// forgotten that was read with the own table, and whose Required Insert Count is not 0; that a stream is cancelled twice; and
+/// one that may not be cancelled. Without a deed nothing is said.
 pub fn wrong_instructions_are_refused()
     ensures said_twice { (x : Deed) (a b : Acknowledgment) → AreSaid (x ∷ []) (a ∷ b ∷ []) → ⊥ }
     ensures read_elsewhere { (id k : ℕ) → AreSaid (Reads id ∷ []) (instruction.Section k ∷ []) → k ≡ id }
@@ -235,6 +252,8 @@ pub fn wrong_instructions_are_refused()
         → a.d.decoder ≡ Some k → a.d.read ≡ Some (just_read required) → 0 < min required (insert_count k.table)
         → u.bytes ≡ t.bytes → ⊥ }
     ensures silent { (t u : Table) → Deeds [] t u → u.bytes ≡ t.bytes }
+    ensures cancelled_twice { (id : ℕ) (b c : Book) → WorksBy (Leaves id ∷ Leaves id ∷ []) b c → ⊥ }
+    ensures cancelled_again { (id : ℕ) (b c : Book) → may_leave b id ≡ false → WorksBy (Leaves id ∷ []) b c → ⊥ }
 {}
 
 /// The decoder stream of RFC 9204, appendix B.2 to B.4: the section of stream 4 is acknowledged, which needs the two entries

@@ -1,4 +1,5 @@
 use Rattle.vesgrauf.proofs.RefusedLemmas.{forgotten, left_here, none_said, not_counted, one_alone, read_here, silent}
+use Rattle.vesgrauf.proofs.DeedLemmas.{not_again, not_twice}
 use Rattle.vesgrauf.proofs.laws.wrong_instructions_are_refused.Goals as goal
 
 pub returns-clause-said_twice : goal.returns-clause-said_twice
@@ -21,3 +22,9 @@ returns-clause-forgotten c = forgotten
 
 pub returns-clause-silent : goal.returns-clause-silent
 returns-clause-silent c = silent
+
+pub returns-clause-cancelled_twice : goal.returns-clause-cancelled_twice
+returns-clause-cancelled_twice c = not_twice
+
+pub returns-clause-cancelled_again : goal.returns-clause-cancelled_again
+returns-clause-cancelled_again c = not_again
