@@ -19,6 +19,7 @@ use Rattle.vesgrauf.specs.Theirs.{Theirs, Gone, Unread, IsTurned, theirs_by, the
 use Rattle.vesgrauf.specs.Bounds.{most_kept, Fits, AllFit, KeepsFit, StillFits, KeepsBoundAll, StillBounded, KeepsBound}
 use Rattle.vesgrauf.specs.declared.event.Event.{Event}
 use Rattle.vesgrauf.specs.declared.connection.Ended.{Ended}
+use Rattle.vesgrauf.specs.Instructions.{Table}
 use Rattle.vesgrauf.specs.Keeps.{KeepsAll, Keeps, KeepsOwnAll}
 use Rattle.vesgrauf.specs.State.{IsStill}
 use Rattle.vesgrauf.proofs.KeepsLemmas.{keeps_left, keeps_config}
@@ -192,9 +193,9 @@ pub bound_left : (a : Config) (es : List (ℕ × Entry)) (b : Config) (fs : List
 bound_left a es b fs l e = StillBounded (λ p. subst (λ x. AllFit (most_kept x) fs) (sym e)
     (left_all (most_kept a) es fs l p))
 
-pub bound_keeps : {but : Option ℕ} {said : List Event} {es fs : List (ℕ × Entry)} {ids jds : Ids} {q r : List Event}
-    {a b : Config} {x y : Option Ended} → KeepsAll but said es ids q a x fs jds r b y → KeepsBoundAll a es b fs
-bound_keeps {but} {said} {es} {fs} {ids} {jds} {q} {r} {a} {b} k = bound_left a es b fs (keeps_left k) (keeps_config k)
+pub bound_keeps : {but : Option ℕ} {said : List Event} {es fs : List (ℕ × Entry)} {ids jds : Ids} {ta tb : Table} {q r : List Event}
+    {a b : Config} {x y : Option Ended} → KeepsAll but said es ids ta q a x fs jds tb r b y → KeepsBoundAll a es b fs
+bound_keeps {but} {said} {es} {fs} {ids} {jds} {ta} {tb} {q} {r} {a} {b} k = bound_left a es b fs (keeps_left k) (keeps_config k)
 
 pub bound_holds : {but : Option ℕ} {said : List Event} {es fs : List (ℕ × Entry)} {ids jds : Ids} {q r : List Event}
     {a b : Config} {x y : Option Ended} → Left es fs → KeepsOwnAll but said es ids q a x fs jds r b y

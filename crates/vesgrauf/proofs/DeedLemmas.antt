@@ -5,6 +5,7 @@ use Rattle.wtp_dynamic.specs.declared.acknowledgment.Acknowledgment.{Acknowledgm
 use Rattle.vesgrauf.specs.Ids.{was}
 use Rattle.vesgrauf.specs.Instructions.{Table, table_of, Deed, Reads, Leaves, Counts, Does, Deeds, AreSaid, bytes_of_all, Turn, Works, Takes, Turns, all_deeds, all_taken}
 use Rattle.vesgrauf.specs.Own.{entry_at}
+use Rattle.vesgrauf.specs.State.{is_over}
 use Rattle.vesgrauf.specs.Told.{Sound}
 use Rattle.vesgrauf.specs.Works.{Book, book_of, may_in, may_leave, Stays, Step, DoesBy, WorksBy, Worked, Unless, TakesOn, IsCall, IsWork, IsTake, Leads, Calls, one_if, leaves_of, count_left}
 use Rattle.vesgrauf.proofs.InstructionLemmas.{turns_in_order}
@@ -124,26 +125,26 @@ not_again id b c n (m, k, r, s, w) =
 
 -- ---- runs
 
-call_leads : (b c d : Book) (ts : List Turn) → Sound b.streams b.ids → IsCall false b c
-    → Leads ts c d → (us : List Turn) × Leads us b d
-call_leads b c d ts s (IsWork (Unless h)) l =
-    let w : Worked b c = (h refl s).1 in (Works w.deeds ∷ ts, (c, w.works, l))
-call_leads b c d ts s (IsTake bytes t) l = (Takes bytes ∷ ts, (c, t, l))
+call_leads : (c m : Connection) (d : Book) (ts : List Turn) → Sound c.streams.entries c.ids → is_over m ≡ false → IsCall c m
+    → Leads ts (book_of m) d → (us : List Turn) × Leads us (book_of c) d
+call_leads c m d ts s lasts (IsWork (Unless ends h)) l =
+    let w : Worked (book_of c) (book_of m) = (h lasts s).1 in (Works w.deeds ∷ ts, (book_of m, w.works, l))
+call_leads c m d ts s lasts (IsTake bytes t) l = (Takes bytes ∷ ts, (book_of m, t, l))
 
 sound_as : (b c : Book) → c.streams ≡ b.streams → c.ids ≡ b.ids → Sound b.streams b.ids → Sound c.streams c.ids
 sound_as b c h g s = subst (λ k. Sound c.streams k) (sym g) (subst (λ k. Sound k b.ids) (sym h) s)
 
-call_sound : (b c : Book) → IsCall false b c → Sound b.streams b.ids → Sound c.streams c.ids
-call_sound b c (IsWork (Unless h)) s = (h refl s).0
-call_sound b c (IsTake bytes t) s = sound_as b c t.streams t.ids s
+call_sound : (c m : Connection) → is_over m ≡ false → IsCall c m → Sound c.streams.entries c.ids
+    → Sound m.streams.entries m.ids
+call_sound c m lasts (IsWork (Unless ends h)) s = (h lasts s).0
+call_sound c m lasts (IsTake bytes t) s = sound_as (book_of c) (book_of m) t.streams t.ids s
 
 pub calls_lead : (n : ℕ) (c d : Connection) → Sound c.streams.entries c.ids → Calls n c d
     → (ts : List Turn) × Leads ts (book_of c) (book_of d)
 calls_lead zero c d s h = ([], ap (λ x. book_of x) h)
 calls_lead (suc n) c d s (m, lasts, call, rest) =
-    let does : IsCall false (book_of c) (book_of m) = subst (λ x. IsCall x (book_of c) (book_of m)) lasts call in
-    let more = calls_lead n m d (call_sound (book_of c) (book_of m) does s) rest in
-    call_leads (book_of c) (book_of m) (book_of d) more.0 s does more.1
+    let more = calls_lead n m d (call_sound c m lasts call s) rest in
+    call_leads c m (book_of d) more.0 s lasts call more.1
 
 pub calls_say : (n : ℕ) (c d : Connection) → Sound c.streams.entries c.ids → Calls n c d
     → (ts : List Turn) × Leads ts (book_of c) (book_of d)

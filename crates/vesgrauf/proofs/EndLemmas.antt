@@ -8,15 +8,16 @@ use Rattle.vesgrauf.specs.declared.connection.ids.Ids.{Ids}
 use Rattle.vesgrauf.specs.declared.entry.Entry.{Entry}
 use Rattle.vesgrauf.specs.declared.event.Event.{Event}
 use Rattle.vesgrauf.specs.Halves.{Lasts, LastsBut}
+use Rattle.vesgrauf.specs.Instructions.{Table}
 use Rattle.vesgrauf.specs.Keeps.{KeepsAll, Kept, KeepsBut}
 use Rattle.vesgrauf.specs.State.{IsStill, IsStillBut}
 use Rattle.vesgrauf.specs.Told.{GoesOn, Sound}
 use Rattle.vesgrauf.proofs.KeepsLemmas.{keeps_lasts, was_not}
 use Rattle.vesgrauf.proofs.LastsLemmas.{lasts_trans}
 
-keeps_over : {but : Option ℕ} {said : List Event} {es fs : List (ℕ × Entry)} {ids jds : Ids} {q r : List Event}
-    {a b : Config} {x y : Option Ended} → KeepsAll but said es ids q a x fs jds r b y → is_some x ≡ true → is_some y ≡ true
-keeps_over (Kept o l g e n h) = n
+keeps_over : {but : Option ℕ} {said : List Event} {es fs : List (ℕ × Entry)} {ids jds : Ids} {ta tb : Table} {q r : List Event}
+    {a b : Config} {x y : Option Ended} → KeepsAll but said es ids ta q a x fs jds tb r b y → is_some x ≡ true → is_some y ≡ true
+keeps_over (Kept o l g e n h w) = n
 
 -- the own half of a stream changes, and then what follows from it is done
 pub lasts_then : (id : ℕ) (c m d : Connection) → LastsBut id c m → GoesOn [] c m → KeepsBut id m d → LastsBut id c d

@@ -187,13 +187,14 @@ some_at : (ids : Ids) (id k : ℕ) (w : Option Entry) → (is_some w ≡ true �
     → is_at (nat_cmp id) k ≡ true → is_some w ≡ true → was ids k ≡ true
 some_at ids id k w h at s = rw (same_at id k at) (h s)
 
--- what the program knows of a stream, and its session
+-- what the program knows of a stream, its session, and whether it may be cancelled
 pub record Standing : Type 0 where
   pub told : Told
   pub session : Option ℕ
+  pub may_cancel : Bool
 
 abbrev pub standing_of : Entry → Standing
-standing_of e = record { told = e.told; session = e.session }
+standing_of e = record { told = e.told; session = e.session; may_cancel = e.may_cancel }
 
 abbrev pub standing_in : Option Entry → Option Standing
 standing_in None = None
@@ -243,8 +244,12 @@ goes_at es fs ids q id e w sets there links stays =
 standing_same : (a b : Standing) → Some a ≡ Some b → a ≡ b
 standing_same a b h = cc
 
-pub standing_by : (e f : Entry) → f.told ≡ e.told → f.session ≡ e.session → standing_of f ≡ standing_of e
-standing_by e f h g = ap (λ t. record { told = t; session = f.session }) h ∙ ap (λ s. record { told = e.told; session = s }) g
+pub standing_by : (e f : Entry) → f.told ≡ e.told → f.session ≡ e.session → f.may_cancel ≡ e.may_cancel
+    → standing_of f ≡ standing_of e
+standing_by e f h g m =
+    ap (λ t. record { told = t; session = f.session; may_cancel = f.may_cancel }) h
+    ∙ (ap (λ s. record { told = e.told; session = s; may_cancel = f.may_cancel }) g
+    ∙ ap (λ b. record { told = e.told; session = e.session; may_cancel = b }) m)
 
 told_same : (e f : Entry) → Some (standing_of e) ≡ Some (standing_of f) → e.told ≡ f.told
 told_same e f h = ap (λ p. p.told) (standing_same (standing_of e) (standing_of f) h)
@@ -252,22 +257,27 @@ told_same e f h = ap (λ p. p.told) (standing_same (standing_of e) (standing_of 
 session_same : (e f : Entry) → Some (standing_of e) ≡ Some (standing_of f) → e.session ≡ f.session
 session_same e f h = ap (λ p. p.session) (standing_same (standing_of e) (standing_of f) h)
 
+pub may_same : (e f : Entry) → Some (standing_of e) ≡ Some (standing_of f) → e.may_cancel ≡ f.may_cancel
+may_same e f h = ap (λ p. p.may_cancel) (standing_same (standing_of e) (standing_of f) h)
+
 -- it has a status
 pub status_of_standing : (o : Option Entry) (f : Entry) → standing_in o ≡ Some (standing_of f) → status_in o ≡ Some f.told
 status_of_standing None f h = absurd (let bad : None ≡ Some (standing_of f) = h in cc)
 status_of_standing (Some e) f h = ap Some (told_same e f h)
 
+-- a stream changes of which the program knows what it knew, and of the same session
+pub goes_as_known : (es : List (ℕ × Entry)) (ids : Ids) (q : List Event) (id : ℕ) (e f : Entry) → entry_at es id ≡ Some e
+    → f.told ≡ e.told → f.session ≡ e.session → Goes [] es ids q (set_value (is_at (nat_cmp id)) es f) ids q
+goes_as_known es ids q id e f h told session =
+    goes_at es (set_value (is_at (nat_cmp id)) es f) ids q id e (Some f) (set_sets es id e f h) h
+    (λ s n. inl (sym session ∙ n)) (λ w. rw told (stays_refl e.told))
+
 set_by : (es : List (ℕ × Entry)) (ids : Ids) (q : List Event) (id : ℕ) (f : Entry) (o : Option Entry)
     → entry_at es id ≡ o → standing_in o ≡ Some (standing_of f)
     → Goes [] es ids q (set_value (is_at (nat_cmp id)) es f) ids q
 set_by es ids q id f None h g = absurd (let bad : None ≡ Some (standing_of f) = g in cc)
-set_by es ids q id f (Some e) h g =
-    let told : e.told ≡ f.told = told_same e f g in
-    let session : e.session ≡ f.session = session_same e f g in
-    goes_at es (set_value (is_at (nat_cmp id)) es f) ids q id e (Some f) (set_sets es id e f h) h
-    (λ s n. inl (session ∙ n)) (λ w. rw told (stays_refl f.told))
+set_by es ids q id f (Some e) h g = goes_as_known es ids q id e f h (sym (told_same e f g)) (sym (session_same e f g))
 
--- a stream changes of which the program knows what it knew, and of the same session
 pub goes_set : (es : List (ℕ × Entry)) (ids : Ids) (q : List Event) (id : ℕ) (f : Entry)
     → standing_in (entry_at es id) ≡ Some (standing_of f) → Goes [] es ids q (set_value (is_at (nat_cmp id)) es f) ids q
 goes_set es ids q id f h = set_by es ids q id f (entry_at es id) refl h

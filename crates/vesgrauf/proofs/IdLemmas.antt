@@ -16,6 +16,7 @@ use Rattle.vesgrauf.specs.declared.config.Config.{Config}
 use Rattle.vesgrauf.specs.declared.connection.Connection.{Connection}
 use Rattle.vesgrauf.specs.declared.connection.Ended.{Ended}
 use Rattle.vesgrauf.specs.Halves.{halves_in, halves_at, Holds, Lasts}
+use Rattle.vesgrauf.specs.Instructions.{Table, table_of}
 use Rattle.vesgrauf.specs.Keeps.{KeepsAll, Kept, Keeps}
 use Rattle.vesgrauf.specs.Members.{is_member, is_noted, session_in}
 use Rattle.vesgrauf.specs.Own.{entry_at, own_in, IsUntouched, UntouchedBut}
@@ -24,6 +25,7 @@ use Rattle.vesgrauf.specs.Theirs.{theirs_in, IsLeft}
 use Rattle.vesgrauf.proofs.HalvesLemmas.{holds_refl}
 use Rattle.vesgrauf.proofs.LastsLemmas.{lasts_still, lasts_sets, not_there}
 use Rattle.vesgrauf.proofs.KeepsLemmas.{keeps_refl}
+use Rattle.vesgrauf.proofs.WorksLemmas.{worked_new}
 use Rattle.vesgrauf.specs.Told.{Sets, AreOthers, IsUndone, AreIds, Sound, Stays, status_by, Goes}
 use Rattle.vesgrauf.proofs.GoesLemmas.{by_none, goes_refl, same_at, stays_refl}
 
@@ -246,7 +248,7 @@ peer_next ids kind.Unidirectional side.Server h a =
 itself : (n : ℕ) → (n == n) ≡ true
 itself n = grind arith
 
-own_was : (ids : Ids) (k : StreamKind) → AreIds ids → was ids (next_own ids k) ≡ false
+pub own_was : (ids : Ids) (k : StreamKind) → AreIds ids → was ids (next_own ids k) ≡ false
 own_was ids k a = let x = own_next ids k ids.side refl a in
     rw (x.0, itself (own_bit ids.side), x.1) (not_below (next_own ids k))
 
@@ -403,14 +405,16 @@ halves_by false es fs ids id k kd t at s u = subst (λ o. Holds (halves_at es k)
     (holds_refl (halves_at es k))
 
 -- and no byte of another stream is added or lost
-pub keeps_undone : (es fs : List (ℕ × Entry)) (ids : Ids) (q : List Event) (a b : Config) (x : Option Ended)
+pub keeps_undone : (es fs : List (ℕ × Entry)) (ids : Ids) (ta : Table) (q : List Event) (a b : Config) (x : Option Ended)
     (k : StreamKind) (id : ℕ)
-    → id ≡ next_own ids k → IsUndone id es fs → b ≡ a → KeepsAll None [] es ids q a x fs ids q b x
-keeps_undone es fs ids q a b x kd id at u e = Kept
+    → id ≡ next_own ids k → IsUndone id es fs → b ≡ a → KeepsAll None [] es ids ta q a x fs ids ta q b x
+keeps_undone es fs ids ta q a b x kd id at u e = Kept
     (record { each = λ k. own_undone (entry_at es k) (entry_at fs k) (undone_is (is_at (nat_cmp id) k) id k es fs refl u) })
     (record { each = λ k. left_undone (entry_at es k) (entry_at fs k) (undone_is (is_at (nat_cmp id) k) id k es fs refl u) })
     (goes_undone es fs ids q kd id at u) e (λ n. n)
     (λ n s. lasts_still None es fs q (λ k. halves_by (is_at (nat_cmp id) k) es fs ids id k kd refl at s u))
+    (λ n s. worked_new es fs ids ta id (rw at (own_was ids kd s.ids_are))
+    (not_there es ids id s (rw at (own_was ids kd s.ids_are))) u.0)
 
 -- an own stream is opened, and no half of another one changes
 pub lasts_opens : (es fs : List (ℕ × Entry)) (ids : Ids) (q : List Event) (k : StreamKind) (id : ℕ)
@@ -425,11 +429,14 @@ pub keeps_still : (c d : Connection) → IsStill c d → Keeps [] c d
 keeps_still c d h = rw (
   ap (λ v. v.streams) h,
   ap (λ v. v.ids) h,
+  ap (λ v. v.shared) h,
+  ap (λ v. v.decoder) h,
+  ap (λ v. v.told) h,
   ap (λ v. v.events) h,
   ap (λ v. v.config) h,
   ap (λ v. v.ended) h,
 )
-    (keeps_refl None c.streams.entries c.ids c.events.items c.config c.ended)
+    (keeps_refl None c.streams.entries c.ids (table_of c) c.events.items c.config c.ended)
 
 -- the program knows of a stream that it opened
 pub knows_here : (fs : List (ℕ × Entry)) (id : ℕ) (e : Entry) → entry_at fs id ≡ Some e → e.told ≡ told.Known

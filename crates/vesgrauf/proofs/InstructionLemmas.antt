@@ -8,6 +8,7 @@ use Rattle.wtp_qpack.specs.Integer.{shortest_int}
 use Rattle.wtp_dynamic.specs.Table.{insert_count}
 use Rattle.wtp_dynamic_decoder.specs.Decoder.{Decoder, told as with_told}
 use Rattle.wtp_webtransport.specs.declared.connection.Connection.{Connection as Shared}
+use Rattle.wtp_webtransport.specs.declared.stream.Stream.{Stream}
 use Rattle.wtp_webtransport.specs.declared.unacknowledged.Unacknowledged.{Unacknowledged}
 use Rattle.wtp_webtransport.specs.Events.{Told as Say}
 use Rattle.wtp_webtransport.specs.Events as say
@@ -32,7 +33,7 @@ use Rattle.vesgrauf.specs.Items.{items_found}
 use Rattle.vesgrauf.specs.State.{SaysAll, SaysBy}
 use Rattle.vesgrauf.specs.Streams.{Says}
 use Rattle.vesgrauf.specs.Theirs.{IsRead, theirs_of, with_chunk}
-use Rattle.vesgrauf.specs.Instructions.{Table, table_by, Deed, Reads, Leaves, Counts, Acknowledges, MayAcknowledge, Looked, Rested, left, counted, Does, Deeds, IsSaidBy, AreSaid, bytes_of_all, Turn, Works, Takes, Turns, all_deeds, all_taken, is_piece, is_found_piece, HearsAndSays}
+use Rattle.vesgrauf.specs.Instructions.{Table, table_by, Deed, Reads, Leaves, Counts, Acknowledges, left, counted, Does, Deeds, IsSaidBy, AreSaid, bytes_of_all, Turn, Works, Takes, Turns, all_deeds, all_taken, is_piece, is_found_piece, HearsAndSays}
 use Rattle.vesgrauf.proofs.LookLemmas.{looked, looked_plain}
 use Rattle.vesgrauf.proofs.UnreadLemmas.{over_is_silent, pieces_unread}
 
@@ -114,66 +115,81 @@ hears_piece {limit} {c} {d} {r} {s} {i} {j} {found} id before h p =
       bytes = sym (ap (λ (o : Option Acknowledgment). with_told before o) (unread_due id d none));
     }
 
-pub acknowledges : {limit : ℕ} {c e : Shared} {r s : Reading} {i j : Chunk} {found : Found} {id : ℕ}
+-- The bytes are looked at in the state in which the stream is, and it is in that one then.
+pub record SaysAt (id : ℕ) (r s : Stream) (t u : Table) : Type 0 where
+  pub says : Acknowledges id t u
+  pub from : says.s ≡ r
+  pub to : says.n ≡ s
+
+pub acknowledged : {limit : ℕ} {c e : Shared} {r s : Reading} {i j : Chunk} {found : Found} {id : ℕ}
     {before after : List ℕ} → HearsAndSays id limit c r i before found e s j after
-    → MayAcknowledge id (table_by c before) (table_by e after)
-acknowledges {limit} {c} {e} {r} {s} {i} {j} {found} {id} {before} {after} h =
+    → SaysAt id r.stream s.stream (table_by c before) (table_by e after)
+acknowledged {limit} {c} {e} {r} {s} {i} {j} {found} {id} {before} {after} h =
     let x : Hears limit c r i found h.d s j = h.hears in
-    Looked (record {
-      limit = limit;
-      c = c;
-      d = h.d;
-      s = r.stream;
-      n = s.stream;
-      bytes = _;
-      fin = _;
-      consumed = x.consumed;
-      say = x.say;
+    record {
+      says = record {
+        limit = limit;
+        c = c;
+        d = h.d;
+        s = r.stream;
+        n = s.stream;
+        bytes = _;
+        fin = _;
+        consumed = x.consumed;
+        say = x.say;
+        from = refl;
+        gives = x.gives;
+        to = ap (λ (o : Shared). table_by o after) h.shared
+            ∙ ap (λ (b : List ℕ). table_by (after_read h.d.decoder h.d.read id h.d) b) h.bytes;
+      };
       from = refl;
-      gives = x.gives;
-      to = ap (λ (o : Shared). table_by o after) h.shared
-          ∙ ap (λ (b : List ℕ). table_by (after_read h.d.decoder h.d.read id h.d) b) h.bytes;
-    })
+      to = refl;
+    }
 
 -- a piece that is told at once
 pub heard_piece_is : (p : Part) (b : Bytes) → is_found_piece (found.Heard (heard_piece p b)) ≡ true
 heard_piece_is part.OfSession b = refl
 heard_piece_is other b = refl
 
-pub piece_acknowledges : (b : Bytes) (c d : Shared) (r s : Reading) (i j : Chunk) (id : ℕ) (bytes : List ℕ)
-    → HearsPiece b c r i d s j → MayAcknowledge id (table_by c bytes) (table_by d bytes)
-piece_acknowledges b c d r s i j id bytes h =
-    acknowledges (hears_piece id bytes (h 0) (heard_piece_is r.stream.part b))
+pub piece_acknowledged : (b : Bytes) (c d : Shared) (r s : Reading) (i j : Chunk) (id : ℕ) (bytes : List ℕ)
+    → HearsPiece b c r i d s j → SaysAt id r.stream s.stream (table_by c bytes) (table_by d bytes)
+piece_acknowledged b c d r s i j id bytes h =
+    acknowledged (hears_piece id bytes (h 0) (heard_piece_is r.stream.part b))
 
 -- other bytes wait before
 told_after : (xs ys : List ℕ) (due : Option Acknowledgment) → with_told (xs ++ ys) due ≡ xs ++ with_told ys due
 told_after xs ys None = refl
 told_after xs ys (Some a) = append_assoc xs ys (acknowledgment_bytes a)
 
-pub may_after : {id : ℕ} (c e : Shared) (queue before after : List ℕ)
-    → MayAcknowledge id (table_by c before) (table_by e after)
-    → MayAcknowledge id (table_by c (queue ++ before)) (table_by e (queue ++ after))
-may_after {id} c e queue before after (Looked a) = Looked (record {
-  limit = a.limit;
-  c = a.c;
-  d = a.d;
-  s = a.s;
-  n = a.n;
-  bytes = a.bytes;
-  fin = a.fin;
-  consumed = a.consumed;
-  say = a.say;
-  from = a.from;
-  gives = a.gives;
-  to = ap (λ (o : Table). table_at o.decoder o.read (queue ++ o.bytes)) a.to
-      ∙ sym (ap (λ (l : List ℕ). table_by (after_read a.d.decoder a.d.read id a.d) l)
-      (told_after queue before (due_read a.d.decoder a.d.read id)));
-})
-may_after {id} c e queue before after (Rested h) =
-    Rested (ap (λ (o : Table). table_at o.decoder o.read (queue ++ o.bytes)) h)
+pub said_after : (id : ℕ) (r s : Stream) (c e : Shared) (queue before after : List ℕ)
+    → SaysAt id r s (table_by c before) (table_by e after)
+    → SaysAt id r s (table_by c (queue ++ before)) (table_by e (queue ++ after))
+said_after id r s c e queue before after h =
+    let a : Acknowledges id (table_by c before) (table_by e after) = h.says in
+    record {
+      says = record {
+        limit = a.limit;
+        c = a.c;
+        d = a.d;
+        s = a.s;
+        n = a.n;
+        bytes = a.bytes;
+        fin = a.fin;
+        consumed = a.consumed;
+        say = a.say;
+        from = a.from;
+        gives = a.gives;
+        to = ap (λ (o : Table). table_at o.decoder o.read (queue ++ o.bytes)) a.to
+            ∙ sym (ap (λ (l : List ℕ). table_by (after_read a.d.decoder a.d.read id a.d) l)
+            (told_after queue before (due_read a.d.decoder a.d.read id)));
+      };
+      from = h.from;
+      to = h.to;
+    }
 
-pub may_rest : (id : ℕ) (t : Table) → MayAcknowledge id t t
-may_rest id t = Rested refl
+pub rests_after : (c e : Shared) (queue before after : List ℕ) → table_by e after ≡ table_by c before
+    → table_by e (queue ++ after) ≡ table_by c (queue ++ before)
+rests_after c e queue before after h = ap (λ (o : Table). table_at o.decoder o.read (queue ++ o.bytes)) h
 
 -- what an entry finds
 pub looked_and_said : (e f : Entry) {limit : ℕ} {c d : Shared} {i j : Chunk} {found : Found} (told : Found) {id : ℕ}

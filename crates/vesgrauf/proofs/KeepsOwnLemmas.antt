@@ -16,6 +16,7 @@ use Rattle.vesgrauf.specs.declared.entry.Peer.{Peer}
 use Rattle.vesgrauf.specs.Own.{own_of, own_in, own_at, entry_at, IsUntouched, Untouched, UntouchedOrNew}
 use Rattle.vesgrauf.specs.Told.{Goes, Sound}
 use Rattle.vesgrauf.specs.Halves.{reads_by, reads_in, Lasts}
+use Rattle.vesgrauf.specs.Instructions.{Table}
 use Rattle.vesgrauf.specs.Keeps.{KeepsAll, Kept, Keeps, KeepsOwnAll, KeptOwn, KeepsOwn}
 use Rattle.vesgrauf.proofs.OwnLemmas.{untouched_refl, untouched_set, new_of, new_trans}
 use Rattle.vesgrauf.proofs.GoesLemmas.{standing_of, standing_in, status_of_standing, goes_then, goes_after, goes_set, goes_still, standing_by}
@@ -32,14 +33,15 @@ pub holds_of : (but : Option ℕ) (said : List Event) (es fs : List (ℕ × Entr
     → KeepsOwnAll but said es ids q a x fs jds r b y
 holds_of but said es fs ids jds q r a b x y o g e n h = KeptOwn o g e n h
 
-pub keeps_holds : {but : Option ℕ} {said : List Event} {es fs : List (ℕ × Entry)} {ids jds : Ids} {q r : List Event}
-    {a b : Config} {x y : Option Ended} → KeepsAll but said es ids q a x fs jds r b y
+pub keeps_holds : {but : Option ℕ} {said : List Event} {es fs : List (ℕ × Entry)} {ids jds : Ids} {ta tb : Table} {q r : List Event}
+    {a b : Config} {x y : Option Ended} → KeepsAll but said es ids ta q a x fs jds tb r b y
     → KeepsOwnAll but said es ids q a x fs jds r b y
-keeps_holds {but} {said} {es} {fs} {ids} (Kept o l g e n h) = KeptOwn (λ m. new_of ids o) g e n (λ m. h)
+keeps_holds {but} {said} {es} {fs} {ids} (Kept o l g e n h w) = KeptOwn (λ m. new_of ids o) g e n (λ m. h)
 
 pub holds_refl : (but : Option ℕ) (es : List (ℕ × Entry)) (ids : Ids) (q : List Event) (a : Config) (x : Option Ended)
     → KeepsOwnAll but [] es ids q a x es ids q a x
-holds_refl but es ids q a x = keeps_holds (keeps_refl but es ids q a x)
+holds_refl but es ids q a x =
+    keeps_holds (keeps_refl but es ids (record { decoder = None; read = None; bytes = [] }) q a x)
 
 pub holds_trans : (but : Option ℕ) (said : List Event) (es fs gs : List (ℕ × Entry)) (ids jds kds : Ids)
     (q r s : List Event) (a b c : Config) (x y z : Option Ended) → KeepsOwnAll but [] es ids q a x fs jds r b y
@@ -71,12 +73,12 @@ reads_same p r b c h g = rw (h, g) refl
 
 -- bytes of one stream are read
 pub holds_looked : (but : Option ℕ) (es : List (ℕ × Entry)) (ids : Ids) (q : List Event) (a : Config) (x : Option Ended)
-    (id : ℕ) (e f : Entry) → entry_at es id ≡ Some e → f.told ≡ e.told → f.session ≡ e.session → f.writing ≡ e.writing
-    → f.peer ≡ e.peer → f.is_decoder ≡ e.is_decoder
+    (id : ℕ) (e f : Entry) → entry_at es id ≡ Some e → f.told ≡ e.told → f.session ≡ e.session
+    → f.may_cancel ≡ e.may_cancel → f.writing ≡ e.writing → f.peer ≡ e.peer → f.is_decoder ≡ e.is_decoder
     → KeepsOwnAll but [] es ids q a x (set_value (is_at (nat_cmp id)) es f) ids q a x
-holds_looked but es ids q a x id e f there told session own peer decoder = holds_set but es ids q a x id f
+holds_looked but es ids q a x id e f there told session may own peer decoder = holds_set but es ids q a x id f
     (inl (ap own_of own ∙ sym (ap own_in there)))
-    (ap standing_in there ∙ ap Some (sym (standing_by e f told session)))
+    (ap standing_in there ∙ ap Some (sym (standing_by e f told session may)))
     (inr (
       ap own_of own ∙ sym (ap own_in there),
       reads_same e.peer f.peer e.is_decoder f.is_decoder peer decoder ∙ sym (ap reads_in there),

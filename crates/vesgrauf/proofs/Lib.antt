@@ -1,5 +1,8 @@
+pub mod ActLemmas
+pub mod ActSteps
 pub mod BoundLemmas
 pub mod CallLemmas
+pub mod CancelLemmas
 pub mod CutLemmas
 pub mod DeedLemmas
 pub mod EndLemmas
@@ -20,6 +23,7 @@ pub mod MessageLemmas
 pub mod MovedLemmas
 pub mod NotedLemmas
 pub mod OrderLemmas
+pub mod OverLemmas
 pub mod OwnLemmas
 pub mod PieceLemmas
 pub mod PlaceLemmas
@@ -32,7 +36,10 @@ pub mod RunLemmas
 pub mod SendsLemmas
 pub mod SeveredLemmas
 pub mod StepLemmas
+pub mod TableLemmas
+pub mod TableSteps
 pub mod TellsLemmas
 pub mod TheirsLemmas
 pub mod ToldLemmas
 pub mod UnreadLemmas
+pub mod WorksLemmas

@@ -16,6 +16,7 @@ use Rattle.vesgrauf.specs.declared.connection.ids.Ids.{Ids}
 use Rattle.vesgrauf.specs.declared.entry.Entry.{Entry}
 use Rattle.vesgrauf.specs.declared.event.Event.{Event}
 use Rattle.vesgrauf.specs.Halves.{reads_in}
+use Rattle.vesgrauf.specs.Instructions.{Table}
 use Rattle.vesgrauf.specs.Keeps.{KeepsAll}
 use Rattle.vesgrauf.specs.Own.{Own, Over, own_of, own_in, own_at, entry_at}
 use Rattle.vesgrauf.specs.State.{knows_of}
@@ -59,14 +60,14 @@ pub own_out : (es : List (ℕ × Entry)) (id : ℕ) → entry_at es id ≡ None 
 own_out es id h = ap own_in h
 
 -- there is none any more of a stream whose own half was over, or that the program does not know of
-pub drop_keeps : (es : List (ℕ × Entry)) (ids : Ids) (q : List Event) (a : Config) (x : Option Ended) (id : ℕ) (e f : Entry)
+pub drop_keeps : (es : List (ℕ × Entry)) (ids : Ids) (ta : Table) (q : List Event) (a : Config) (x : Option Ended) (id : ℕ) (e f : Entry)
     → entry_at es id ≡ Some e → own_in (Some f) ≡ Over → theirs_in (Some f) ≡ theirs_in (Some e)
     → standing_of f ≡ standing_of e → reads_in (Some f) ≡ reads_in (Some e)
     → (own_at es id ≡ Over) ⊎ (knows_of (entry_at es id) ≡ false)
-    → KeepsAll None [] es ids q a x (set_value (is_at (nat_cmp id)) es f) ids q a x
-drop_keeps es ids q a x id e f there own l t r (inl over) = keeps_set None es ids q a x id f (inr (inl own))
+    → KeepsAll None [] es ids ta q a x (set_value (is_at (nat_cmp id)) es f) ids ta q a x
+drop_keeps es ids ta q a x id e f there own l t r (inl over) = keeps_set None es ids ta q a x id f (inr (inl own))
     (inl (l ∙ sym (ap (λ o. theirs_in o) there))) (ap (λ o. standing_in o) there ∙ ap (λ y. Some y) (sym t))
     (inr (own ∙ sym over, r ∙ sym (ap (λ o. reads_in o) there)))
-drop_keeps es ids q a x id e f there own l t r (inr unknown) = keeps_set None es ids q a x id f (inr (inl own))
+drop_keeps es ids ta q a x id e f there own l t r (inr unknown) = keeps_set None es ids ta q a x id f (inr (inl own))
     (inl (l ∙ sym (ap (λ o. theirs_in o) there))) (ap (λ o. standing_in o) there ∙ ap (λ y. Some y) (sym t))
     (inl unknown)

@@ -15,18 +15,20 @@ use Rattle.vesgrauf.specs.declared.output.StreamKind.{StreamKind}
 use Rattle.vesgrauf.specs.declared.output.StreamKind.TheVariants as kind
 use Rattle.vesgrauf.specs.Halves.{reads_in}
 use Rattle.vesgrauf.specs.Ids.{was, next_own, taken}
+use Rattle.vesgrauf.specs.Instructions.{Table}
 use Rattle.vesgrauf.specs.Keeps.{KeepsAll, Kept}
 use Rattle.vesgrauf.specs.Members.{is_member, is_noted, is_same_stream, session_in, Linked, Notes, Drops, DropsAt}
 use Rattle.vesgrauf.specs.Own.{own_in, entry_at}
 use Rattle.vesgrauf.specs.Streams.{becomes_known}
 use Rattle.vesgrauf.specs.Theirs.{theirs_in}
 use Rattle.vesgrauf.specs.Told.{AreIds, Goes, status_at}
-use Rattle.vesgrauf.proofs.GoesLemmas.{by_none, same_at, at_test, goes_known, stays_refl}
+use Rattle.vesgrauf.proofs.GoesLemmas.{by_none, same_at, at_test, goes_known, stays_refl, set_sets}
 use Rattle.vesgrauf.proofs.IdLemmas.{IsNoted}
 use Rattle.vesgrauf.proofs.KeepsLemmas.{keeps_by_goes}
 use Rattle.vesgrauf.proofs.LastsLemmas.{adds_none, lasts_known}
 use Rattle.vesgrauf.proofs.OwnLemmas.{untouched_set}
 use Rattle.vesgrauf.proofs.TheirsLemmas.{left_set}
+use Rattle.vesgrauf.proofs.WorksLemmas.{worked_sets}
 
 -- ---- what is noted changes
 
@@ -68,9 +70,9 @@ notes_itself session id ids jds n = n.members session id
     ∙ or_left (session == session && id == id) (is_member ids session id) (itself session id)
 
 -- a stream is noted as one of a session
-pub keeps_noted : (but : Option ℕ) (es : List (ℕ × Entry)) (ids jds : Ids) (q : List Event) (a : Config) (x : Option Ended)
-    (session id : ℕ) → Notes session id ids jds → KeepsAll but [] es ids q a x es jds q a x
-keeps_noted but es ids jds q a x session id n = keeps_by_goes but [] es ids jds q q a x
+pub keeps_noted : (but : Option ℕ) (es : List (ℕ × Entry)) (ids jds : Ids) (ta : Table) (q : List Event) (a : Config) (x : Option Ended)
+    (session id : ℕ) → Notes session id ids jds → KeepsAll but [] es ids ta q a x es jds ta q a x
+keeps_noted but es ids jds ta q a x session id n = keeps_by_goes but [] es ids jds ta q q a x
     (goes_as es ids jds q n.others
     (λ l k s h. n.members s k ∙ or_right (is_same_stream session id s k) (is_member ids s k) (l k s h)))
     (adds_none q q refl)
@@ -84,22 +86,24 @@ dropped_linked true es ids jds id k s at none d l h =
 dropped_linked false es ids jds id k s at none d l h = d.members s k at ∙ l k s h
 
 -- of a stream of which there is no entry it need not be noted
-pub keeps_unnoted : (but : Option ℕ) (es : List (ℕ × Entry)) (ids jds : Ids) (q : List Event) (a : Config)
-    (x : Option Ended) (id : ℕ) → entry_at es id ≡ None → DropsAt id ids jds → KeepsAll but [] es ids q a x es jds q a x
-keeps_unnoted but es ids jds q a x id none d = keeps_by_goes but [] es ids jds q q a x
+pub keeps_unnoted : (but : Option ℕ) (es : List (ℕ × Entry)) (ids jds : Ids) (ta : Table) (q : List Event) (a : Config)
+    (x : Option Ended) (id : ℕ) → entry_at es id ≡ None → DropsAt id ids jds → KeepsAll but [] es ids ta q a x es jds ta q a x
+keeps_unnoted but es ids jds ta q a x id none d = keeps_by_goes but [] es ids jds ta q q a x
     (goes_as es ids jds q d.others (λ l k s h. dropped_linked (is_at (nat_cmp id) k) es ids jds id k s refl none d l h))
     (adds_none q q refl)
 
 -- a stream that is noted as one of its session
-pub keeps_joined : (but : Option ℕ) (es : List (ℕ × Entry)) (ids : Ids) (q : List Event) (a : Config) (x : Option Ended)
+pub keeps_joined : (but : Option ℕ) (es : List (ℕ × Entry)) (ids : Ids) (ta : Table) (q : List Event) (a : Config) (x : Option Ended)
     (id s : ℕ) (e f : Entry) → entry_at es id ≡ Some e → f.told ≡ becomes_known e.told → f.session ≡ Some s
-    → is_member ids s id ≡ true → own_in (Some f) ≡ own_in (Some e) → theirs_in (Some f) ≡ theirs_in (Some e)
-    → reads_in (Some f) ≡ reads_in (Some e)
-    → KeepsAll but [] es ids q a x (set_value (is_at (nat_cmp id)) es f) ids q a x
-keeps_joined but es ids q a x id s e f h t of noted o l r = Kept
+    → is_member ids s id ≡ true → f.may_cancel ≡ false → own_in (Some f) ≡ own_in (Some e)
+    → theirs_in (Some f) ≡ theirs_in (Some e) → reads_in (Some f) ≡ reads_in (Some e)
+    → KeepsAll but [] es ids ta q a x (set_value (is_at (nat_cmp id)) es f) ids ta q a x
+keeps_joined but es ids ta q a x id s e f h t of noted m o l r = Kept
     (untouched_set es id f (inl (o ∙ sym (ap own_in h)))) (left_set es id f (inl (l ∙ sym (ap theirs_in h))))
     (goes_known es ids q id e f h t (λ n g. inr (noted_as n (sym of ∙ g)))) refl (λ n. n)
     (λ n g. lasts_known but es q id e f h t o r)
+    (λ n g. worked_sets es (set_value (is_at (nat_cmp id)) es f) ids ta id (Some f) (set_sets es id e f h)
+    (λ may. absurd (let bad : true ≡ false = sym may ∙ m in cc)) (inl (l ∙ sym (ap theirs_in h))))
   where
     noted_as : (n : ℕ) → Some s ≡ Some n → is_member ids n id ≡ true
     noted_as n same = subst (λ m. is_member ids m id ≡ true) (let eq : s ≡ n = cc in eq) noted

@@ -86,11 +86,11 @@ piece_tells id stream items c d i j l same h g p t n =
 -- an event of its stream is told with it
 pub piece_keeps : (es : List (ℕ × Entry)) (ids : Ids) (q : List Event) (a : Config) (x : Option Ended) (id : ℕ)
     (e f : Entry) (ev : Event)
-    → entry_at es id ≡ Some e → is_known e.told ≡ true → f.told ≡ e.told → f.session ≡ e.session → f.writing ≡ e.writing
-    → reads_in (Some f) ≡ reads_in (Some e) → ev.stream ≡ id → ends (word_of ev.kind) ≡ false
+    → entry_at es id ≡ Some e → is_known e.told ≡ true → f.told ≡ e.told → f.session ≡ e.session
+    → f.may_cancel ≡ e.may_cancel → f.writing ≡ e.writing → reads_in (Some f) ≡ reads_in (Some e) → ev.stream ≡ id → ends (word_of ev.kind) ≡ false
     → KeepsOwnAll None (ev ∷ []) es ids q a x (set_value (is_at (nat_cmp id)) es f) ids q a x
-piece_keeps es ids q a x id e f ev there known told session own reads at n =
-    let same : standing_of f ≡ standing_of e = standing_by e f told session in
+piece_keeps es ids q a x id e f ev there known told session may own reads at n =
+    let same : standing_of f ≡ standing_of e = standing_by e f told session may in
     KeptOwn
     (λ m. new_of ids (untouched_set es id f (rw (there, own) (inl refl))))
     (goes_after (ev ∷ []) es es (set_value (is_at (nat_cmp id)) es f) ids ids ids q q q

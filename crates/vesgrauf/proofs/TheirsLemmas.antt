@@ -61,7 +61,12 @@ turned_by peer.Reads false r s m q = inr (inr (
 ))
 turned_by other b r s m q = inl refl
 
+pub left_at : (es : List (ℕ × Entry)) (id : ℕ) (e f : Entry) → entry_at es id ≡ Some e
+    → Moves e.reading.stream f.reading.stream → IsStill e.reading f.reading → f.peer ≡ e.peer → f.is_decoder ≡ e.is_decoder
+    → IsLeft (theirs_at es id) (theirs_in (Some f))
+left_at es id e f there m q p d = rw (there, p, d) (turned_by e.peer e.is_decoder e.reading f.reading m q)
+
 pub left_turned : (es : List (ℕ × Entry)) (id : ℕ) (e f : Entry) → entry_at es id ≡ Some e
     → Moves e.reading.stream f.reading.stream → IsStill e.reading f.reading → f.peer ≡ e.peer → f.is_decoder ≡ e.is_decoder
     → Left es (set_value (is_at (nat_cmp id)) es f)
-left_turned es id e f there m q p d = left_set es id f (rw (there, p, d) (turned_by e.peer e.is_decoder e.reading f.reading m q))
+left_turned es id e f there m q p d = left_set es id f (left_at es id e f there m q p d)

@@ -1,6 +1,6 @@
 -- What the peer's encoder is told on the own decoder stream: that a field section was read, that a stream is left, and
 -- how many entries were inserted (RFC 9204, sections 2.2.2 and 4.4).
-use Rattle.std.specs.Prelude.{◌≡◌, ◌⊎◌, ◌++◌, ℕ, Bool, true, false, List, [], ◌∷◌, Option, None, Some, option_map}
+use Rattle.std.specs.Prelude.{◌≡◌, ◌⊎◌, ◌==◌, ◌++◌, ℕ, if◌then◌else◌, Bool, true, false, List, [], ◌∷◌, Option, None, Some, option_map}
 use Rattle.wtp_dynamic.specs.declared.acknowledgment.Acknowledgment.{Acknowledgment}
 use Rattle.wtp_dynamic.specs.declared.acknowledgment.Acknowledgment.TheVariants as instruction
 use Rattle.wtp_dynamic.specs.DecoderStream.{acknowledgment_bytes}
@@ -19,6 +19,7 @@ use Rattle.vesgrauf_stream.specs.declared.reading.Found.{Found}
 use Rattle.vesgrauf_stream.specs.declared.reading.Found.TheVariants as found
 use Rattle.vesgrauf_stream.specs.declared.reading.Reading.{Reading}
 use Rattle.vesgrauf_stream.specs.Reading.{Hears}
+use Rattle.vesgrauf.specs.declared.config.Config.{Config}
 use Rattle.vesgrauf.specs.declared.connection.Connection.{Connection}
 use Rattle.vesgrauf.specs.declared.entry.Entry.{Entry}
 use Rattle.vesgrauf.specs.State.{stream_at, view_of, with_stream, IsStill}
@@ -35,6 +36,10 @@ table_by c bytes = record { decoder = c.decoder; read = c.read; bytes = bytes }
 
 abbrev pub table_of : Connection → Table
 table_of c = table_by c.shared (waiting c.decoder.queue ++ c.told.items)
+
+-- the first bytes of the own decoder stream: its type (section 4.2), if the peer may use a dynamic table
+abbrev pub first_bytes : Config → List ℕ
+first_bytes c = if c.qpack_max_table_capacity == 0 then [] else 0x03 ∷ []
 
 -- nothing is to be acknowledged: there is no table, or no section that was read with it
 abbrev pub IsPaid : Option Decoder → Option Unacknowledged → Type 0
@@ -65,11 +70,6 @@ pub record Acknowledges (id : ℕ) (t u : Table) : Type 0 where
   pub from : c.decoder ≡ t.decoder
   pub gives : Call limit c s bytes fin (consumed, say, d, n)
   pub to : u ≡ table_by (after_read d.decoder d.read id d) (with_told t.bytes (due_read d.decoder d.read id))
-
--- that, or nothing is looked at
-pub data MayAcknowledge : (id : ℕ) → (t u : Table) → Type 0 where
-  Looked : {id : ℕ} {t u : Table} → Acknowledges id t u → MayAcknowledge id t u
-  Rested : {id : ℕ} {t u : Table} → u ≡ t → MayAcknowledge id t u
 
 -- the section that is to be acknowledged once a stream is left
 abbrev pub read_after_leaving : Option Decoder → ℕ → Option Unacknowledged → Option Unacknowledged

@@ -53,6 +53,12 @@ abbrev pub IsAt : Theirs → Stream → Type 0
 IsAt Gone s = Unit {0}
 IsAt (Unread bytes ended x) s = s ≡ x
 
+-- bytes of a stream in this state are looked at, and it is in that state then; or nothing is
+pub data MayRead : (id : ℕ) → (x y : Theirs) → (t u : Table) → Type 0 where
+  LookedAt : {id : ℕ} {x y : Theirs} {t u : Table} → (says : Acknowledges id t u) → (from : IsAt x says.s)
+      → (to : IsAt y says.n) → MayRead id x y t u
+  RestedAt : {id : ℕ} {x y : Theirs} {t u : Table} → (moved : Continues x y) → (table : u ≡ t) → MayRead id x y t u
+
 -- ---- steps
 
 -- What stays so at each step: an ID that was seen was seen, and a stream that may not be cancelled may not be.
@@ -106,10 +112,13 @@ pub record Worked (b c : Book) : Type 0 where
   pub deeds : List Deed
   pub works : WorksBy deeds b c
 
--- unless this is so: then the connection is over, or is going to be
-pub data WorksUnless : Bool → Book → Book → Type 0 where
-  Unless : {x : Bool} {b c : Book}
-      → (x ≡ false → Sound b.streams b.ids → Sound c.streams c.ids × Worked b c) → WorksUnless x b c
+-- unless the connection is over then, which it is if it was
+pub data WorksUnless : (was over : Bool) → Book → Book → Type 0 where
+  Unless : {x y : Bool} {b c : Book} → (ends : x ≡ true → y ≡ true)
+      → (works : y ≡ false → Sound b.streams b.ids → Sound c.streams c.ids × Worked b c) → WorksUnless x y b c
+
+abbrev pub WorksOn : Connection → Connection → Type 0
+WorksOn c d = WorksUnless (is_over c) (is_over d) (book_of c) (book_of d)
 
 -- ---- runs
 
@@ -120,9 +129,9 @@ pub record TakesOn (bytes : List ℕ) (b c : Book) : Type 0 where
   pub ids : c.ids ≡ b.ids
 
 -- a call: it does that, or QUIC takes bytes
-pub data IsCall : Bool → Book → Book → Type 0 where
-  IsWork : {x : Bool} {b c : Book} → WorksUnless x b c → IsCall x b c
-  IsTake : {x : Bool} {b c : Book} → (bytes : List ℕ) → TakesOn bytes b c → IsCall x b c
+pub data IsCall : Connection → Connection → Type 0 where
+  IsWork : {c d : Connection} → WorksOn c d → IsCall c d
+  IsTake : {c d : Connection} → (bytes : List ℕ) → TakesOn bytes (book_of c) (book_of d) → IsCall c d
 
 -- what calls do, one after the other, while the connection lasts
 abbrev pub Leads : List Turn → Book → Book → Type 0
@@ -134,7 +143,7 @@ Leads (Takes bytes ∷ turns) b c = (m : Book) × TakesOn bytes b m × Leads tur
 abbrev pub Calls : ℕ → Connection → Connection → Type 0
 Calls zero c d = d ≡ c
 Calls (suc n) c d =
-    (m : Connection) × (is_over m ≡ false) × IsCall (is_over m) (book_of c) (book_of m) × Calls n m d
+    (m : Connection) × (is_over m ≡ false) × IsCall c m × Calls n m d
 
 -- how often a stream is cancelled
 abbrev pub one_if : Bool → ℕ

@@ -243,6 +243,7 @@ enum Step<'a> {
 impl Connection {
     ghost use Rattle.vesgrauf.specs.Keeps.{Keeps, KeepsOwn};
     ghost use Rattle.vesgrauf.specs.Halves.{LastsOn};
+    ghost use Rattle.vesgrauf.specs.Instructions.{first_bytes, table_of};
     ghost use Rattle.vesgrauf.specs.Bounds.{InstructionsFit, IsBounded, KeepsBound};
     ghost use Rattle.vesgrauf.specs.Progress.{IsSettled};
     ghost use Rattle.vesgrauf.specs.Own.{UntouchedOrNew};
@@ -251,6 +252,7 @@ impl Connection {
     ghost use Rattle.vesgrauf_queue.specs.State.{waiting};
     ghost use Rattle.vesgrauf.specs.Config.{announced};
     ghost use Rattle.wtp_sending.specs.Control.{settings_bytes};
+    ghost use Rattle.vesgrauf.specs.Works.{WorksOn};
     ghost use Rattle.vesgrauf.specs.Theirs.{Tells, TellsAll, IsSilent, told_in, told_by};
     ghost use Rattle.vesgrauf.specs.declared.config.OnMalformed.TheVariants as chosen;
     ghost use Rattle.std.specs.Prelude.{◌≡◌, if◌then◌else◌, true, false, Ok, Some, None, [], IfOk, OnOk};
@@ -269,6 +271,7 @@ impl Connection {
         ensures open { IfOk result (λ c. (c.sessions ≡ 0) × (c.ended ≡ None) × (c.closes ≡ None)) }
         ensures sound { IfOk result (λ c. Sound c.streams.entries c.ids) }
         ensures starts { IfOk result (λ c. waiting c.control.queue ≡ settings_bytes (announced config)) }
+        ensures instructions { IfOk result (λ c. (table_of c).bytes ≡ first_bytes config) }
         ensures bounded { IfOk result (λ c. IsBounded c) }
     {
         let mut connection = Connection::idle(alloc, config);
@@ -285,6 +288,7 @@ impl Connection {
         ensures datagrams { result.datagrams.queue.items ≡ [] }
         ensures open { (result.sessions ≡ 0) × (result.ended ≡ None) × (result.closes ≡ None) }
         ensures starts { waiting result.control.queue ≡ [] }
+        ensures instructions { (table_of result).bytes ≡ [] }
         ensures sound { Sound result.streams.entries result.ids }
     {
         let queue = config.queue();
@@ -331,7 +335,7 @@ impl Connection {
     /// # Errors
     ///
     /// If memory is refused: nothing is lost, the input has what was not taken in, and the call is to be made again.
-    #[tactic(auto, using(crate::proofs::KeepsOwnLemmas::held, crate::proofs::ProgressLemmas::quiet_settled, crate::proofs::BoundLemmas::bounded))]
+    #[tactic(auto, using(crate::proofs::ActLemmas::act, crate::proofs::KeepsOwnLemmas::held, crate::proofs::ProgressLemmas::quiet_settled, crate::proofs::BoundLemmas::bounded))]
     #[inline(always)]
     pub fn next_event<'a>(&mut self, input: &mut Input<'a>) -> Result<Option<Event<'a>>, AllocError>
         ensures last { IsAfterEnd self.old → IsSomeOk result (λ e. is_last e.kind ≡ true) }
@@ -346,6 +350,7 @@ impl Connection {
         ensures lasts { self.old.config.on_malformed ≡ chosen.Reset → LastsOn (told_by_call result) self.old self.new }
         ensures settled { result ≡ Ok None → IsSettled self.new input.new }
         ensures bounded { IsBounded self.old → is_over self.new ≡ false → OnOk result (IsBounded self.new) }
+        ensures works { OnOk result (WorksOn self.old self.new) }
     {
         if self.has_nothing_due(input) {
             return Ok(None);
@@ -354,9 +359,10 @@ impl Connection {
     }
 
     // Takes one step.
-    #[tactic(auto, using(crate::proofs::KeepsOwnLemmas::hold, crate::proofs::StepLemmas::left_then_tells, crate::proofs::BoundLemmas::bound))]
+    #[tactic(auto, using(crate::proofs::ActLemmas::act, crate::proofs::KeepsOwnLemmas::hold, crate::proofs::StepLemmas::left_then_tells, crate::proofs::BoundLemmas::bound))]
     fn step<'a>(&mut self, input: &mut Input<'a>) -> Result<Step<'a>, Stop>
         ensures keeps { KeepsOwn (said_by result) self.old self.new }
+        ensures works { OnOk result (WorksOn self.old self.new) }
         ensures tells { IfOk result (λ s. Tells (told_in s)
             self.old.streams.entries input.old self.new.streams.entries input.new) }
         ensures bounded { OnOk result (KeepsBound self.old self.new) }
@@ -366,9 +372,10 @@ impl Connection {
     }
 
     // Takes a step for a session that opened, or another.
-    #[tactic(auto, using(crate::proofs::KeepsOwnLemmas::hold, crate::proofs::BoundLemmas::bound))]
+    #[tactic(auto, using(crate::proofs::ActLemmas::act, crate::proofs::KeepsOwnLemmas::hold, crate::proofs::BoundLemmas::bound))]
     fn step_due<'a>(&mut self, input: &mut Input<'a>) -> Result<Step<'a>, Stop>
         ensures keeps { KeepsOwn (said_by result) self.old self.new }
+        ensures works { OnOk result (WorksOn self.old self.new) }
         ensures tells { IfOk result (λ s. Tells (told_in s)
             self.old.streams.entries input.old self.new.streams.entries input.new) }
         ensures bounded { OnOk result (KeepsBound self.old self.new) }
@@ -380,9 +387,10 @@ impl Connection {
     }
 
     // Takes a step by what is kept of a stream that is read again, or by what the input reports.
-    #[tactic(auto, using(crate::proofs::KeepsOwnLemmas::hold, crate::proofs::BoundLemmas::bound, crate::proofs::BoundLemmas::bound_kept))]
+    #[tactic(auto, using(crate::proofs::ActLemmas::act, crate::proofs::KeepsOwnLemmas::hold, crate::proofs::BoundLemmas::bound, crate::proofs::BoundLemmas::bound_kept))]
     fn step_read<'a>(&mut self, input: &mut Input<'a>) -> Result<Step<'a>, Stop>
         ensures keeps { KeepsOwn (said_by result) self.old self.new }
+        ensures works { OnOk result (WorksOn self.old self.new) }
         ensures tells { IfOk result (λ s. Tells (told_in s)
             self.old.streams.entries input.old self.new.streams.entries input.new) }
         ensures bounded { OnOk result (KeepsBound self.old self.new) }
@@ -394,9 +402,10 @@ impl Connection {
     }
 
     // Takes a step by what the input reports.
-    #[tactic(auto, using(crate::proofs::KeepsOwnLemmas::hold, crate::proofs::TellsLemmas::reported_tells, crate::proofs::BoundLemmas::bound))]
+    #[tactic(auto, using(crate::proofs::ActLemmas::act, crate::proofs::KeepsOwnLemmas::hold, crate::proofs::TellsLemmas::reported_tells, crate::proofs::BoundLemmas::bound))]
     fn take_input<'a>(&mut self, input: &mut Input<'a>) -> Result<Step<'a>, Stop>
         ensures keeps { KeepsOwn (said_by result) self.old self.new }
+        ensures works { OnOk result (WorksOn self.old self.new) }
         ensures tells { IfOk result (λ s. Tells (told_in s)
             self.old.streams.entries input.old self.new.streams.entries input.new) }
         ensures bounded { OnOk result (KeepsBound self.old self.new) }

@@ -14,11 +14,11 @@ ghost use Rattle.vesgrauf.specs.Theirs.{Theirs, Unread, Piece, IsCall};
 ghost use Rattle.vesgrauf.specs.Runs.{Step, Tells, Does, Leads, IsToldOf, came, ends, told};
 ghost use Rattle.vesgrauf.specs.declared.connection.Connection.{Connection};
 ghost use Rattle.vesgrauf.specs.declared.entry.Told.TheVariants as entry;
-ghost use Rattle.vesgrauf.specs.Told.{Says, Fails, Closes, Path, on, knows};
+ghost use Rattle.vesgrauf.specs.Told.{AreOthers, GoesOn, Says, Fails, Closes, Path, on, knows};
 ghost use Rattle.vesgrauf.specs.declared.event.Event.{Event as EventOf};
 ghost use Rattle.vesgrauf.specs.Halves.{Turn as Taken, Turns as Take, Holds, NotKnown, Has, OfOwn, OfPeer, OfBoth, after, after_told, after_queued, halves_at, may_end, told_by_all};
 ghost use Rattle.vesgrauf.specs.Told.{Sound};
-ghost use Rattle.vesgrauf.specs.Works.{Book, Calls, Leads as LeadsBook, WorksBy, book_of, count_left, may_leave};
+ghost use Rattle.vesgrauf.specs.Works.{Book, Calls, IsCall as IsOfConnection, Leads as LeadsBook, WorksBy, book_of, count_left, may_leave};
 ghost use Rattle.vesgrauf.specs.Instructions.{Table, table_of, Does as SaysBy, Deed, Deeds, Reads, Leaves, Counts, Acknowledges, AreSaid, Turn, Turns, all_deeds, all_taken, bytes_of_all};
 ghost use Rattle.wtp_dynamic.specs.declared.acknowledgment.Acknowledgment.{Acknowledgment};
 ghost use Rattle.wtp_dynamic.specs.declared.acknowledgment.Acknowledgment.TheVariants as instruction;
@@ -31,7 +31,10 @@ ghost use Rattle.vesgrauf.specs.Cuts.{IsCut, is_read_out};
 ghost use Rattle.vesgrauf.specs.Joined.{AreSevered, holds_in, is_severed};
 ghost use Rattle.vesgrauf.specs.Members.{Linked};
 ghost use Rattle.vesgrauf.specs.Own.{End, Sends, entry_at, is_sent, own_in};
-ghost use Rattle.vesgrauf.specs.State.{open_session};
+ghost use Rattle.vesgrauf.specs.Ids.{next_own};
+ghost use Rattle.vesgrauf.specs.Keeps.{Keeps};
+ghost use Rattle.vesgrauf.specs.State.{is_over, open_session};
+ghost use Rattle.vesgrauf.specs.declared.output.StreamKind.{StreamKind};
 ghost use Rattle.vesgrauf.specs.Bounds.{AllFit, Fits, IsBounded, most_kept};
 ghost use Rattle.vesgrauf.specs.Kept.{AllKeep};
 ghost use Rattle.vesgrauf.specs.Theirs.{theirs_in};
@@ -227,8 +230,9 @@ pub fn sections_are_acknowledged_once()
 /// nothing else, or lets QUIC take bytes of it: bytes of a stream are looked at in the state in which the calls before left the
 /// stream, and the section that is read with the own table is acknowledged at once, on this stream; a stream that may be
 /// cancelled is left, and may not be cancelled again; insertions are counted. Each stream is cancelled at most once. What QUIC
-/// takes, and then what waits, is what waited at first and then the instructions of these deeds, whole and in their order. No
-/// contract of a call says yet that it is one of these.
+/// takes, and then what waits, is what waited at first, as after `new` the type of the stream, and then the instructions of
+/// these deeds, whole and in their order. Each call says that it is one of these, but one of `next_event` that memory was
+/// refused for.
 #[tactic(auto, using(crate::proofs::DeedLemmas::calls_say))]
 pub fn decoder_streams_go_by_deeds()
     ensures { (n : ℕ) (c d : Connection) → Sound c.streams.entries c.ids → Calls n c d
@@ -236,6 +240,15 @@ pub fn decoder_streams_go_by_deeds()
         × ((id : ℕ) → count_left (all_deeds turns) id ≤ 1)
         × ((said : List Acknowledgment) × AreSaid (all_deeds turns) said
         × (all_taken turns ++ (table_of d).bytes ≡ (table_of c).bytes ++ bytes_of_all said)) }
+{}
+
+/// `request` and `open_stream` are such calls, too: by what they ensure of the stream that they open, or where they are refused.
+#[tactic(auto, using(crate::proofs::ActSteps::opening_works, crate::proofs::ActSteps::keeping_works, crate::proofs::ActSteps::call_works))]
+pub fn calls_that_open_streams_say_nothing()
+    ensures opens { (c d : Connection) (kind : StreamKind) (id : ℕ) → id ≡ next_own c.ids kind
+        → AreOthers id c.streams.entries d.streams.entries → GoesOn [] c d → table_of d ≡ table_of c
+        → is_over d ≡ is_over c → IsOfConnection c d }
+    ensures refused { (c d : Connection) → Keeps [] c d → IsOfConnection c d }
 {}
 
 /// The definitions refuse two instructions for one deed, an acknowledgment or a cancellation of another stream, a count of

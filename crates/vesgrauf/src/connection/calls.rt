@@ -8,6 +8,7 @@ ghost use Rattle.vesgrauf.specs.Own.{EndsOwn, Untouched};
 ghost use Rattle.vesgrauf.specs.Theirs.{Left, Gone, theirs_at};
 ghost use Rattle.vesgrauf.specs.Order.{LooksAt};
 ghost use Rattle.vesgrauf.specs.Told.{GoesOn};
+ghost use Rattle.vesgrauf.specs.Works.{WorksOn};
 
 use crate::code::StreamCode;
 use crate::connection::Connection;
@@ -26,7 +27,7 @@ impl Connection {
     /// # Errors
     ///
     /// Nothing changes. `Closed`; `NoStream`; `WrongCode`; and `Memory`.
-    #[tactic(auto, using(crate::proofs::KeepsLemmas::kept, crate::proofs::LastsLemmas::lasts_refl))]
+    #[tactic(auto, using(crate::proofs::ActLemmas::act, crate::proofs::ActLemmas::act_still, crate::proofs::ActLemmas::act_kept, crate::proofs::KeepsLemmas::kept, crate::proofs::LastsLemmas::lasts_refl))]
     pub fn reset(&mut self, id: u64, code: StreamCode) -> Result<(), Refused>
         ensures ends { OnOk result (EndsOwn id self.old.streams.entries self.new.streams.entries) }
         ensures fits { OnOk result (is_ok (code_on self.old id code) ≡ true) }
@@ -36,6 +37,7 @@ impl Connection {
         ensures config { self.new.config ≡ self.old.config }
         ensures goes { GoesOn [] self.old self.new }
         ensures lasts { LastsBut id self.old self.new }
+        ensures works { WorksOn self.old self.new }
     {
         let code = self.code_for(id, code)?;
         self.reserve()?;
@@ -70,7 +72,7 @@ impl Connection {
     /// # Errors
     ///
     /// As of [`reset`](Self::reset).
-    #[tactic(auto, using(crate::proofs::KeepsLemmas::kept, crate::proofs::LastsLemmas::lasts_refl))]
+    #[tactic(auto, using(crate::proofs::ActLemmas::act, crate::proofs::ActLemmas::act_still, crate::proofs::ActLemmas::act_kept, crate::proofs::KeepsLemmas::kept, crate::proofs::LastsLemmas::lasts_refl))]
     pub fn stop_sending(&mut self, id: u64, code: StreamCode) -> Result<(), Refused>
         ensures gone { OnOk result (theirs_at self.new.streams.entries id ≡ Gone) }
         ensures fits { OnOk result (is_ok (code_on self.old id code) ≡ true) }
@@ -80,6 +82,7 @@ impl Connection {
         ensures config { self.new.config ≡ self.old.config }
         ensures goes { GoesOn [] self.old self.new }
         ensures lasts { LastsBut id self.old self.new }
+        ensures works { WorksOn self.old self.new }
     {
         let code = self.code_for(id, code)?;
         self.reserve()?;
@@ -114,7 +117,7 @@ impl Connection {
     /// # Errors
     ///
     /// As of [`reset`](Self::reset).
-    #[tactic(auto, using(crate::proofs::KeepsLemmas::kept, crate::proofs::LastsLemmas::lasts_refl))]
+    #[tactic(auto, using(crate::proofs::ActLemmas::act, crate::proofs::ActLemmas::act_still, crate::proofs::ActLemmas::act_kept, crate::proofs::KeepsLemmas::kept, crate::proofs::LastsLemmas::lasts_refl))]
     pub fn abort(&mut self, id: u64, code: StreamCode) -> Result<(), Refused>
         ensures ends { OnOk result (EndsOwn id self.old.streams.entries self.new.streams.entries) }
         ensures gone { OnOk result (theirs_at self.new.streams.entries id ≡ Gone) }
@@ -125,6 +128,7 @@ impl Connection {
         ensures config { self.new.config ≡ self.old.config }
         ensures goes { GoesOn [] self.old self.new }
         ensures lasts { LastsBut id self.old self.new }
+        ensures works { WorksOn self.old self.new }
     {
         let code = self.code_for(id, code)?;
         self.reserve()?;
@@ -210,7 +214,7 @@ impl Connection {
     /// # Errors
     ///
     /// Nothing changes. `Closed`; `NoStream`; and `Memory`.
-    #[tactic(auto, using(crate::proofs::KeepsLemmas::kept, std::proofs::lemmas::Map::Steps::set_value_same, crate::proofs::GoesLemmas::goes_set, crate::proofs::PlaceLemmas::ordered, crate::proofs::JoinedLemmas::joined, crate::proofs::SendsLemmas::lasts_as_before, crate::proofs::SendsLemmas::lasting_same, crate::proofs::LastsLemmas::lasts_refl))]
+    #[tactic(auto, using(crate::proofs::ActLemmas::act, crate::proofs::ActLemmas::act_still, crate::proofs::ActLemmas::act_kept, crate::proofs::KeepsLemmas::kept, std::proofs::lemmas::Map::Steps::set_value_same, crate::proofs::GoesLemmas::goes_set, crate::proofs::PlaceLemmas::ordered, crate::proofs::JoinedLemmas::joined, crate::proofs::SendsLemmas::lasts_as_before, crate::proofs::SendsLemmas::lasting_same, crate::proofs::LastsLemmas::lasts_refl))]
     pub fn pause(&mut self, id: u64, paused: bool) -> Result<(), Refused>
         ensures ok { OnOk result (Pauses id paused self.old self.new) }
         ensures looks { OnOk result (paused ≡ false → LooksAt id self.new) }
@@ -218,6 +222,7 @@ impl Connection {
         ensures kept { OnErr result (IsStill self.old self.new) }
         ensures goes { GoesOn [] self.old self.new }
         ensures lasts { LastsOn [] self.old self.new }
+        ensures works { WorksOn self.old self.new }
     {
         if self.ended.is_some() {
             return Err(Refused::Closed);
@@ -253,13 +258,14 @@ impl Connection {
     /// # Errors
     ///
     /// Nothing changes. `Closed`; `NoStream`; and `Memory`.
-    #[tactic(auto, using(crate::proofs::KeepsLemmas::kept, std::proofs::lemmas::Map::Steps::set_value_same, crate::proofs::GoesLemmas::goes_set, crate::proofs::MovedLemmas::ordered_moved, crate::proofs::SendsLemmas::lasts_as_before, crate::proofs::SendsLemmas::lasting_same, crate::proofs::LastsLemmas::lasts_refl))]
+    #[tactic(auto, using(crate::proofs::ActLemmas::act, crate::proofs::ActLemmas::act_still, crate::proofs::ActLemmas::act_kept, crate::proofs::KeepsLemmas::kept, std::proofs::lemmas::Map::Steps::set_value_same, crate::proofs::GoesLemmas::goes_set, crate::proofs::MovedLemmas::ordered_moved, crate::proofs::SendsLemmas::lasts_as_before, crate::proofs::SendsLemmas::lasting_same, crate::proofs::LastsLemmas::lasts_refl))]
     pub fn prioritize(&mut self, id: u64, priority: Priority) -> Result<(), Refused>
         ensures ok { OnOk result (Prioritizes id priority self.old self.new) }
         ensures why { IfErr result (λ e. IsWhyNamed self.old id e) }
         ensures kept { OnErr result (IsStill self.old self.new) }
         ensures goes { GoesOn [] self.old self.new }
         ensures lasts { LastsOn [] self.old self.new }
+        ensures works { WorksOn self.old self.new }
     {
         if self.ended.is_some() {
             return Err(Refused::Closed);
@@ -286,13 +292,14 @@ impl Connection {
     /// # Errors
     ///
     /// `NoStream`.
-    #[tactic(auto, using(crate::proofs::KeepsLemmas::kept, std::proofs::lemmas::Map::Steps::set_value_same, crate::proofs::GoesLemmas::goes_set, crate::proofs::PlaceLemmas::ordered, crate::proofs::JoinedLemmas::joined, crate::proofs::SendsLemmas::lasts_as_before, crate::proofs::SendsLemmas::lasting_same, crate::proofs::LastsLemmas::lasts_refl))]
+    #[tactic(auto, using(crate::proofs::ActLemmas::act, crate::proofs::ActLemmas::act_still, crate::proofs::ActLemmas::act_kept, crate::proofs::KeepsLemmas::kept, std::proofs::lemmas::Map::Steps::set_value_same, crate::proofs::GoesLemmas::goes_set, crate::proofs::PlaceLemmas::ordered, crate::proofs::JoinedLemmas::joined, crate::proofs::SendsLemmas::lasts_as_before, crate::proofs::SendsLemmas::lasting_same, crate::proofs::LastsLemmas::lasts_refl))]
     pub fn set_user(&mut self, id: u64, user: u64) -> Result<(), Refused>
         ensures ok { OnOk result (Becomes id (λ e. record e { user = Some user }) self.old self.new) }
         ensures err { IfErr result (λ e. (e ≡ refused.NoStream) × (named_at self.old id ≡ None)) }
         ensures kept { OnErr result (IsStill self.old self.new) }
         ensures goes { GoesOn [] self.old self.new }
         ensures lasts { LastsOn [] self.old self.new }
+        ensures works { WorksOn self.old self.new }
     {
         if !self.is_named(id) {
             return Err(Refused::NoStream);

@@ -335,7 +335,7 @@ impl Connection {
     }
 
     // Tells the program that a stream is over, if it knows of the stream.
-    #[tactic(auto, using(crate::proofs::KeepsLemmas::keeps_refl, crate::proofs::KeepsLemmas::keeps_over, crate::proofs::KeepsLemmas::keeps_closed, crate::proofs::KeepsLemmas::ended_unknown, crate::proofs::CutLemmas::alone_refl, crate::proofs::CutLemmas::alone_ended, crate::proofs::CutLemmas::ended_over))]
+    #[tactic(auto, using(crate::proofs::KeepsLemmas::keeps_refl, crate::proofs::OverLemmas::keeps_over, crate::proofs::OverLemmas::keeps_closed, crate::proofs::OverLemmas::ended_unknown, crate::proofs::CutLemmas::alone_refl, crate::proofs::CutLemmas::alone_ended, crate::proofs::CutLemmas::ended_over))]
     pub(super) fn closed(&mut self, id: u64, why: Why) -> Result<(), AllocError>
         ensures keeps { Keeps [] self.old self.new }
         ensures alone { Alone id self.old self.new }
@@ -369,6 +369,9 @@ impl Connection {
         ensures events { self.new.events ≡ self.old.events }
         ensures config { self.new.config ≡ self.old.config }
         ensures ended { self.new.ended ≡ self.old.ended }
+        ensures shared { self.new.shared ≡ self.old.shared }
+        ensures decoder { self.new.decoder ≡ self.old.decoder }
+        ensures instructions { self.new.told ≡ self.old.told }
         ensures outputs { self.new.outputs ≡ self.old.outputs }
         ensures closes { self.new.closes ≡ self.old.closes }
     {
@@ -454,6 +457,9 @@ impl Connection {
         ensures events { self.new.events ≡ self.old.events }
         ensures config { self.new.config ≡ self.old.config }
         ensures ended { self.new.ended ≡ self.old.ended }
+        ensures shared { self.new.shared ≡ self.old.shared }
+        ensures decoder { self.new.decoder ≡ self.old.decoder }
+        ensures instructions { self.new.told ≡ self.old.told }
         ensures outputs { self.new.outputs ≡ self.old.outputs }
         ensures closes { self.new.closes ≡ self.old.closes }
     {

@@ -1,6 +1,7 @@
 //! The own control stream, and the end of the connection.
 ghost use Rattle.std.specs.Prelude.{◌≡◌, ◌++◌, false, Some, length, option_map, IfOk, OnOk, OnErr, IfErr, []};
 ghost use Rattle.vesgrauf.specs.Halves.{LastsOn};
+ghost use Rattle.vesgrauf.specs.Instructions.{first_bytes, table_of};
 ghost use Rattle.vesgrauf.specs.Keeps.{Keeps};
 ghost use Rattle.vesgrauf.specs.State.{is_over, next_output, stream_at, view_of, with_begun, EndsUnless, IsAfterEnd, IsStill};
 ghost use Rattle.vesgrauf.specs.Leaving.{ShutsDown, RefusesGoaway, not_above, goaway_for as goaway_is};
@@ -11,6 +12,7 @@ ghost use Rattle.wtp_sending.specs.Control.{settings_bytes};
 ghost use Rattle.vesgrauf.specs.Progress.{IsSpent};
 ghost use Rattle.vesgrauf.specs.Theirs.{IsSilent};
 ghost use Rattle.vesgrauf.specs.Told.{GoesOn, said_in};
+ghost use Rattle.vesgrauf.specs.Works.{WorksOn};
 
 use crate::connection::{Connection, Ended, Step, Stop};
 use crate::event::{Event, EventKind};
@@ -34,6 +36,8 @@ impl Connection {
         ensures others { view_of self.new ≡ with_begun self.new (view_of self.old) }
         ensures starts { OnOk result (waiting self.new.control.queue
             ≡ waiting self.old.control.queue ++ settings_bytes (announced self.old.config)) }
+        ensures instructions { OnOk result ((table_of self.new).bytes
+            ≡ (table_of self.old).bytes ++ first_bytes self.old.config) }
         ensures goes { GoesOn [] self.old self.new }
     {
         self.begin_control()?;
@@ -51,6 +55,8 @@ impl Connection {
         ensures config { self.new.config ≡ self.old.config }
         ensures starts { OnOk result (waiting self.new.control.queue
             ≡ waiting self.old.control.queue ++ settings_bytes (announced self.old.config)) }
+        ensures decoder { self.new.decoder ≡ self.old.decoder }
+        ensures instructions { self.new.told.items ≡ self.old.told.items }
         ensures goes { GoesOn [] self.old self.new }
     {
         let settings = self.settings()?;
@@ -104,7 +110,7 @@ impl Connection {
     ///
     /// Nothing changes. `Closed`; `Send` for [`Notice`](crate::output::Shutdown::Notice) after the last one; and `Memory`.
     /// The last one may be repeated: GOAWAY is sent again.
-    #[tactic(auto, using(crate::proofs::KeepsLemmas::kept, crate::proofs::LastsLemmas::lasts_refl))]
+    #[tactic(auto, using(crate::proofs::ActLemmas::act, crate::proofs::ActLemmas::act_still, crate::proofs::ActLemmas::act_kept, crate::proofs::KeepsLemmas::kept, crate::proofs::LastsLemmas::lasts_refl))]
     pub fn shutdown(&mut self, phase: Shutdown) -> Result<(), Refused>
         ensures ok { OnOk result (ShutsDown phase self.old self.new) }
         ensures why { IfErr result (λ e.
@@ -112,6 +118,7 @@ impl Connection {
         ensures kept { OnErr result (IsStill self.old self.new) }
         ensures goes { GoesOn [] self.old self.new }
         ensures lasts { LastsOn [] self.old self.new }
+        ensures works { WorksOn self.old self.new }
     {
         if self.ended.is_some() {
             return Err(Refused::Closed);
@@ -162,12 +169,13 @@ impl Connection {
 
     /// Closes the connection at once, with a code of HTTP/3. What is queued is dropped, and each stream that is not closed
     /// is told to be. Nothing changes if it ended before.
-    #[tactic(auto, using(crate::proofs::KeepsLemmas::kept))]
+    #[tactic(auto, using(crate::proofs::ActLemmas::act, crate::proofs::ActLemmas::act_still, crate::proofs::ActLemmas::act_kept, crate::proofs::KeepsLemmas::kept))]
     pub fn close(&mut self, code: Code)
         ensures end { EndsUnless (is_over self.old) code self.old self.new }
         ensures after { is_over self.old ≡ false → IsAfterEnd self.new }
         ensures output { is_over self.old ≡ false → next_output self.new ≡ Some (output.Close code) }
         ensures goes { GoesOn [] self.old self.new }
+        ensures works { WorksOn self.old self.new }
     {
         self.break_off(code.number().into_inner());
     }

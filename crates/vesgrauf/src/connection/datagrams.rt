@@ -10,6 +10,7 @@ ghost use Rattle.vesgrauf.specs.Own.{Untouched};
 ghost use Rattle.vesgrauf.specs.Told.{GoesOn, said_by, said_if};
 ghost use Rattle.vesgrauf.specs.declared.refused.Refused.TheVariants as refused;
 ghost use Rattle.vesgrauf.specs.Theirs.{Left, IsSilent, IsSilentIf};
+ghost use Rattle.vesgrauf.specs.Works.{WorksOn};
 
 use crate::connection::{Connection, DatagramQueue, Step, Stop};
 use crate::event::{Event, EventKind, Why};
@@ -74,7 +75,7 @@ impl Connection {
         ensures keeps { Keeps (said_by result) self.old self.new }
         ensures silent { IfOk result IsSilent }
     {
-        let found = match self.shared.datagram(bytes) {
+        let found = match self.payload_of(bytes) {
             Ok(found) => found,
             Err(fault) => return Err(Stop::from(fault)),
         };
@@ -96,6 +97,14 @@ impl Connection {
                 Ok(Step::More)
             }
         }
+    }
+
+    // Returns the session of a datagram, and its payload, if it has one.
+    #[tactic(auto, using(crate::proofs::KeepsLemmas::keep, crate::proofs::TableSteps::keeps_datagram))]
+    fn payload_of<'a>(&mut self, bytes: &'a [u8]) -> Result<Option<(u64, &'a [u8])>, Fault>
+        ensures keeps { Keeps [] self.old self.new }
+    {
+        self.shared.datagram(bytes)
     }
 
     // Takes a datagram that came before its session was open: it is dropped if the session is refused.
@@ -124,7 +133,7 @@ impl Connection {
     ///
     /// Nothing changes. `Closed`; `SessionGone`; `NotOpen`; `TooLarge` if it has more bytes than
     /// [`max_datagram`](Self::max_datagram) says; and `Memory`.
-    #[tactic(auto, using(crate::proofs::KeepsLemmas::kept, crate::proofs::LastsLemmas::lasts_refl))]
+    #[tactic(auto, using(crate::proofs::ActLemmas::act, crate::proofs::ActLemmas::act_still, crate::proofs::ActLemmas::act_kept, crate::proofs::KeepsLemmas::kept, crate::proofs::LastsLemmas::lasts_refl))]
     pub fn send_datagram(&mut self, session: u64, payload: &[u8]) -> Result<bool, Refused>
         ensures open { IfOk result (λ queued. open_session self.old session ≡ Ok tt) }
         ensures ok { IfOk result (λ queued. SendsDatagram queued session payload.now self.old self.new) }
@@ -135,6 +144,7 @@ impl Connection {
         ensures goes { GoesOn [] self.old self.new }
         ensures fits { DatagramsFit self.old → DatagramsFit self.new }
         ensures lasts { LastsOn [] self.old self.new }
+        ensures works { WorksOn self.old self.new }
     {
         self.check_session(session)?;
         let head = self.datagram_head(session)?;
@@ -193,7 +203,7 @@ impl Connection {
     /// # Errors
     ///
     /// `Memory`: nothing changes, and the call is to be made again.
-    #[tactic(auto, using(crate::proofs::KeepsLemmas::kept, crate::proofs::LastsLemmas::lasts_refl))]
+    #[tactic(auto, using(crate::proofs::ActLemmas::act, crate::proofs::ActLemmas::act_still, crate::proofs::ActLemmas::act_kept, crate::proofs::KeepsLemmas::kept, crate::proofs::LastsLemmas::lasts_refl))]
     pub fn datagram_sent(&mut self) -> Result<(), Refused>
         ensures ok { OnOk result (TakesFirst self.old.datagrams.queue.items self.new.datagrams.queue.items) }
         ensures kept { OnErr result (self.new.datagrams.queue.items ≡ self.old.datagrams.queue.items) }
@@ -203,6 +213,7 @@ impl Connection {
         ensures config { self.new.config ≡ self.old.config }
         ensures goes { GoesOn [] self.old self.new }
         ensures lasts { LastsOn [] self.old self.new }
+        ensures works { WorksOn self.old self.new }
     {
         self.reserve()?;
         let left = self.datagrams.queue.len().saturating_sub(1);

@@ -18,6 +18,7 @@ use wtp_connection::stream::Purpose;
 use wtp_core::error::Code;
 use wtp_core::varint::VarInt;
 use wtp_webtransport::event::Event as Said;
+use wtp_webtransport::fault::Fault;
 
 #[tactic(auto, using(crate::proofs::KeepsLemmas::keep))]
 impl Connection {
@@ -143,12 +144,20 @@ impl Connection {
         self.reset_own(id, code)
     }
 
+    // The peer asked to stop an own stream that has this purpose. Returns the fault, if that is one.
+    #[tactic(auto, using(crate::proofs::KeepsLemmas::keep, crate::proofs::TableSteps::keeps_own_stopped))]
+    fn critical_stopped(&mut self, own: Purpose) -> Option<Fault>
+        ensures keeps { Keeps [] self.old self.new }
+    {
+        self.shared.stopped(own)
+    }
+
     // The peer asked to stop the own half of a stream.
     pub(super) fn stop_came(&mut self, id: u64, code: u64) -> Result<(), Stop>
         ensures keeps { Keeps [] self.old self.new }
     {
         if let Some(own) = self.own_purpose(id) {
-            return match self.shared.stopped(own) {
+            return match self.critical_stopped(own) {
                 Some(fault) => Err(Stop::from(fault)),
                 None => Ok(()),
             };

@@ -1,5 +1,5 @@
 //! What is heard on a stream, and what follows from it.
-ghost use Rattle.std.specs.Prelude.{◌≡◌, [], ◌∷◌, false, IfOk};
+ghost use Rattle.std.specs.Prelude.{◌≡◌, [], ◌∷◌, false, IfOk, OnOk};
 ghost use Rattle.vesgrauf.specs.Keeps.{Keeps, KeepsOwn};
 ghost use Rattle.vesgrauf.specs.Told.{ends, word_of, said_by, said_in};
 ghost use Rattle.vesgrauf.specs.State.{stream_at, told_on};
@@ -7,6 +7,7 @@ ghost use Rattle.vesgrauf.specs.Items.{Section, has_end, items_in, items_of, ite
 ghost use Rattle.wtp_webtransport.specs.declared.event.HeadersKind.TheVariants as headers;
 ghost use Rattle.vesgrauf.specs.Theirs.{Left, Hands, IsSilent, IsOf, told_in};
 ghost use Rattle.wtp_webtransport.specs.Events.{told_of};
+ghost use Rattle.vesgrauf.specs.Works.{WorksOn};
 
 use crate::connection::failing::NO_DATAGRAMS;
 use crate::connection::opening::{Joining, joining_of};
@@ -45,9 +46,10 @@ pub(super) fn says_items(event: &Said<'_>) -> bool
 #[tactic(auto, using(crate::proofs::KeepsLemmas::keep))]
 impl Connection {
     // Handles what was heard on a stream.
-    #[tactic(auto, using(crate::proofs::KeepsOwnLemmas::hold, crate::proofs::TellsLemmas::left_hands, crate::proofs::PieceLemmas::content_goes_on))]
+    #[tactic(auto, using(crate::proofs::ActLemmas::act, crate::proofs::KeepsOwnLemmas::hold, crate::proofs::TellsLemmas::left_hands, crate::proofs::PieceLemmas::content_goes_on))]
     pub(super) fn heard<'a>(&mut self, id: u64, heard: Heard<'a>) -> Result<Step<'a>, Stop>
         ensures keeps { KeepsOwn (said_by result) self.old self.new }
+        ensures works { OnOk result (WorksOn self.old self.new) }
         ensures left { Left self.old.streams.entries self.new.streams.entries }
         ensures hands { IfOk result (λ s. Hands id (items_in heard.entry) (told_in s)
             self.old.streams.entries self.new.streams.entries) }
@@ -100,9 +102,10 @@ impl Connection {
     }
 
     // Handles what a stream says.
-    #[tactic(auto, using(crate::proofs::KeepsOwnLemmas::hold))]
+    #[tactic(auto, using(crate::proofs::ActLemmas::act, crate::proofs::KeepsOwnLemmas::hold))]
     pub(super) fn said(&mut self, id: u64, event: Said<'static>) -> Result<Step<'static>, Stop>
         ensures keeps { KeepsOwn (said_by result) self.old self.new }
+        ensures works { OnOk result (WorksOn self.old self.new) }
         ensures left { Left self.old.streams.entries self.new.streams.entries }
         ensures hands { IfOk result (λ s. Hands id (items_of (told_of event.entry)) (told_in s)
             self.old.streams.entries self.new.streams.entries) }
@@ -131,9 +134,10 @@ impl Connection {
     }
 
     // Handles what else a stream says.
-    #[tactic(auto, using(crate::proofs::KeepsOwnLemmas::hold))]
+    #[tactic(auto, using(crate::proofs::ActLemmas::act, crate::proofs::KeepsOwnLemmas::hold))]
     fn said_else(&mut self, id: u64, event: Said<'static>) -> Result<Step<'static>, Stop>
         ensures keeps { KeepsOwn (said_by result) self.old self.new }
+        ensures works { OnOk result (WorksOn self.old self.new) }
         ensures left { Left self.old.streams.entries self.new.streams.entries }
         ensures silent { IfOk result IsSilent }
     {

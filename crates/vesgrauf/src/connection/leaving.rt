@@ -6,6 +6,7 @@ ghost use Rattle.vesgrauf.specs.Theirs.{Left};
 ghost use Rattle.vesgrauf.specs.Order.{IsFirstOpen};
 ghost use Rattle.vesgrauf.specs.declared.output.Shutdown.TheVariants as shutdown;
 ghost use Rattle.vesgrauf.specs.Told.{GoesOn};
+ghost use Rattle.vesgrauf.specs.Works.{WorksOn};
 
 use crate::connection::Connection;
 use crate::output::Shutdown;
@@ -57,7 +58,7 @@ impl Connection {
     /// # Errors
     ///
     /// `Memory`: call it again with the same numbers.
-    #[tactic(auto, using(crate::proofs::KeepsLemmas::kept, crate::proofs::StepLemmas::left_trans, crate::proofs::StepLemmas::left_itself))]
+    #[tactic(auto, using(crate::proofs::ActLemmas::act, crate::proofs::ActLemmas::act_still, crate::proofs::ActLemmas::act_kept, crate::proofs::KeepsLemmas::kept, crate::proofs::StepLemmas::left_trans, crate::proofs::StepLemmas::left_itself))]
     pub fn wind_down(&mut self, tick: u32, last: u32) -> Result<(), Refused>
         ensures over { is_over self.old ≡ true → self.new ≡ self.old }
         ensures closed { last < tick → EndsUnless (is_over self.old) 0x100 self.old self.new }
@@ -67,6 +68,7 @@ impl Connection {
         ensures left { Left self.old.streams.entries self.new.streams.entries }
         ensures config { self.new.config ≡ self.old.config }
         ensures goes { GoesOn [] self.old self.new }
+        ensures works { WorksOn self.old self.new }
     {
         if self.ended.is_some() {
             return Ok(());
@@ -83,13 +85,14 @@ impl Connection {
     }
 
     // Says that the connection is to end: at the first tick that it will, and then which requests it answers.
-    #[tactic(auto, using(crate::proofs::KeepsLemmas::kept))]
+    #[tactic(auto, using(crate::proofs::ActLemmas::act, crate::proofs::ActLemmas::act_still, crate::proofs::ActLemmas::act_kept, crate::proofs::KeepsLemmas::kept))]
     fn announce_leave(&mut self, tick: u32) -> Result<(), Refused>
         ensures goes { GoesOn [] self.old self.new }
         ensures streams { self.new.streams.entries ≡ self.old.streams.entries }
         ensures config { self.new.config ≡ self.old.config }
         ensures leaves { tick ≡ 1 → OnOk result (ShutsDown shutdown.Final self.old self.new) }
         ensures rests { 1 < tick → (result ≡ Ok tt) × (self.new ≡ self.old) }
+        ensures works { WorksOn self.old self.new }
     {
         match tick {
             0 if !self.is_leaving => self.shutdown(Shutdown::Notice),
@@ -99,11 +102,12 @@ impl Connection {
     }
 
     // Asks the peer to end each session that is open, or closes it.
-    #[tactic(auto, using(crate::proofs::KeepsLemmas::kept, crate::proofs::StepLemmas::left_trans, crate::proofs::StepLemmas::left_itself))]
+    #[tactic(auto, using(crate::proofs::ActLemmas::act, crate::proofs::ActLemmas::act_still, crate::proofs::ActLemmas::act_kept, crate::proofs::KeepsLemmas::kept, crate::proofs::StepLemmas::left_trans, crate::proofs::StepLemmas::left_itself))]
     fn end_sessions(&mut self, at_once: bool) -> Result<(), Refused>
         ensures goes { GoesOn [] self.old self.new }
         ensures left { Left self.old.streams.entries self.new.streams.entries }
         ensures config { self.new.config ≡ self.old.config }
+        ensures works { WorksOn self.old self.new }
     {
         let mut from = 0;
         for _session in 0..self.streams.len() {
@@ -117,11 +121,12 @@ impl Connection {
     }
 
     // Asks the peer to end a session, or closes it.
-    #[tactic(auto, using(crate::proofs::KeepsLemmas::kept))]
+    #[tactic(auto, using(crate::proofs::ActLemmas::act, crate::proofs::ActLemmas::act_still, crate::proofs::ActLemmas::act_kept, crate::proofs::KeepsLemmas::kept))]
     fn end_one(&mut self, id: u64, at_once: bool) -> Result<(), Refused>
         ensures goes { GoesOn [] self.old self.new }
         ensures left { Left self.old.streams.entries self.new.streams.entries }
         ensures config { self.new.config ≡ self.old.config }
+        ensures works { WorksOn self.old self.new }
     {
         if at_once {
             return self.close_session(id, 0, "");

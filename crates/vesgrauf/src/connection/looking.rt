@@ -3,9 +3,10 @@ ghost use Rattle.std.specs.Prelude.{◌≡◌, ◌≤◌, ℕ, false, true, [], 
 ghost use Rattle.vesgrauf.specs.Bounds.{KeepsFit};
 ghost use Rattle.vesgrauf.specs.Items.{items_found, items_if};
 ghost use Rattle.vesgrauf.specs.Theirs.{IsRead, with_chunk, theirs_of};
-ghost use Rattle.vesgrauf.specs.Instructions.{Table, Acknowledges, HearsAndSays, MayAcknowledge, table_by, is_found_piece};
+ghost use Rattle.vesgrauf.specs.Instructions.{Table, Acknowledges, HearsAndSays, table_by, is_found_piece};
 ghost use Rattle.vesgrauf.specs.declared.connection.Stop.TheVariants as stop;
 ghost use Rattle.vesgrauf.specs.declared.entry.Peer.TheVariants as peer;
+ghost use Rattle.vesgrauf.specs.Works.{MayRead};
 ghost use Rattle.vesgrauf_stream.specs.Reading.{IsUntouched, kept_of};
 
 use crate::connection::failing::is_failure;
@@ -60,7 +61,7 @@ impl Entry {
 
     // Returns what is found next in the bytes that are kept and those of the input. Of a stream that is not read nothing
     // is.
-    #[tactic(auto, using(crate::proofs::InstructionLemmas::looked_and_said, crate::proofs::InstructionLemmas::acknowledges, crate::proofs::InstructionLemmas::may_rest, crate::proofs::LookLemmas::not_looked, crate::proofs::BoundLemmas::shrunk_keeps))]
+    #[tactic(auto, using(crate::proofs::InstructionLemmas::looked_and_said, crate::proofs::ActLemmas::reads_at, crate::proofs::ActLemmas::reads_none, crate::proofs::LookLemmas::not_looked, crate::proofs::BoundLemmas::shrunk_keeps))]
     pub(super) fn look<'a>(
         &mut self,
         id: u64,
@@ -71,8 +72,8 @@ impl Entry {
         chunk: &mut Chunk<'a>,
     ) -> Result<Found<'a>, Stop>
         ensures own { self.new.writing ≡ self.old.writing }
-        ensures table { IfOk result (λ found. MayAcknowledge id (table_by shared.old told.old.items)
-            (table_by shared.new told.new.items)) }
+        ensures table { IfOk result (λ found. MayRead id (theirs_of self.old) (theirs_of self.new)
+            (table_by shared.old told.old.items) (table_by shared.new told.new.items)) }
         ensures memory { IfErr result (λ e. e ≡ stop.Memory
             → table_by shared.new told.new.items ≡ table_by shared.old told.old.items) }
         ensures reads { IfOk result (λ found. IsRead (with_chunk (theirs_of self.old) chunk.old) (items_found found)
@@ -83,6 +84,7 @@ impl Entry {
             × (self.new.priority ≡ self.old.priority) }
         ensures read { (self.new.peer ≡ self.old.peer) × (self.new.is_decoder ≡ self.old.is_decoder) }
         ensures holds { (self.new.has_session ≡ self.old.has_session) × (self.new.is_ended ≡ self.old.is_ended) }
+        ensures cancels { self.new.may_cancel ≡ self.old.may_cancel }
         ensures fits { KeepsFit (theirs_of self.old) (theirs_of self.new) }
     {
         if !self.is_read() {
@@ -96,7 +98,7 @@ impl Entry {
 
     // Returns what is found in the bytes of the input, if the stream is read, nothing of it is kept, its end did not come,
     // and it waits for nothing.
-    #[tactic(auto, using(crate::proofs::InstructionLemmas::looked_and_said_plain, crate::proofs::InstructionLemmas::acknowledges, crate::proofs::InstructionLemmas::may_rest, crate::proofs::LookLemmas::not_looked, crate::proofs::BoundLemmas::shrunk_keeps))]
+    #[tactic(auto, using(crate::proofs::InstructionLemmas::looked_and_said_plain, crate::proofs::ActLemmas::reads_at, crate::proofs::ActLemmas::reads_none, crate::proofs::LookLemmas::not_looked, crate::proofs::BoundLemmas::shrunk_keeps))]
     pub(super) fn look_plain<'a>(
         &mut self,
         id: u64,
@@ -106,8 +108,8 @@ impl Entry {
         told: &mut Vec<u8>,
         chunk: &mut Chunk<'a>,
     ) -> Result<Option<Found<'a>>, Stop>
-        ensures table { IfOk result (λ found. MayAcknowledge id (table_by shared.old told.old.items)
-            (table_by shared.new told.new.items)) }
+        ensures table { IfOk result (λ found. MayRead id (theirs_of self.old) (theirs_of self.new)
+            (table_by shared.old told.old.items) (table_by shared.new told.new.items)) }
         ensures memory { IfErr result (λ e. e ≡ stop.Memory
             → table_by shared.new told.new.items ≡ table_by shared.old told.old.items) }
         ensures bytes { result ≡ Ok None → told.new.items ≡ told.old.items }
@@ -124,6 +126,7 @@ impl Entry {
             × (self.new.priority ≡ self.old.priority) }
         ensures read { (self.new.peer ≡ self.old.peer) × (self.new.is_decoder ≡ self.old.is_decoder) }
         ensures holds { (self.new.has_session ≡ self.old.has_session) × (self.new.is_ended ≡ self.old.is_ended) }
+        ensures cancels { self.new.may_cancel ≡ self.old.may_cancel }
         ensures fits { KeepsFit (theirs_of self.old) (theirs_of self.new) }
     {
         if !self.is_plain() {
@@ -169,6 +172,7 @@ impl Entry {
             × (self.new.priority ≡ self.old.priority) }
         ensures read { (self.new.peer ≡ self.old.peer) × (self.new.is_decoder ≡ self.old.is_decoder) }
         ensures holds { (self.new.has_session ≡ self.old.has_session) × (self.new.is_ended ≡ self.old.is_ended) }
+        ensures cancels { self.new.may_cancel ≡ self.old.may_cancel }
     {
         let left = self.reading.len();
         let read = kept
@@ -192,6 +196,7 @@ impl Entry {
             × (self.new.priority ≡ self.old.priority) }
         ensures read { (self.new.peer ≡ self.old.peer) × (self.new.is_decoder ≡ self.old.is_decoder) }
         ensures holds { (self.new.has_session ≡ self.old.has_session) × (self.new.is_ended ≡ self.old.is_ended) }
+        ensures cancels { self.new.may_cancel ≡ self.old.may_cancel }
     {
         if !is_failure(found) {
             self.offset = self.offset.saturating_add(len as u64);

@@ -1,10 +1,11 @@
 //! Requests that are malformed, or whose fields are too large.
-ghost use Rattle.std.specs.Prelude.{◌≡◌, IfOk, true, false, []};
+ghost use Rattle.std.specs.Prelude.{◌≡◌, IfOk, true, false, [], OnOk};
 ghost use Rattle.vesgrauf.specs.Keeps.{Keeps, KeepsOwn, KeepsOwnBut};
 ghost use Rattle.vesgrauf.specs.State.{knows_of, stream_at};
 ghost use Rattle.vesgrauf.specs.Theirs.{Left, IsSilent};
 ghost use Rattle.vesgrauf.specs.Told.{said_by};
 ghost use Rattle.vesgrauf.specs.declared.config.OnMalformed.TheVariants as chosen;
+ghost use Rattle.vesgrauf.specs.Works.{WorksOn};
 
 use crate::config::OnMalformed;
 use crate::connection::{Connection, Step, Stop};
@@ -19,9 +20,10 @@ use wtp_messages::response::Asked;
 #[tactic(auto, using(crate::proofs::KeepsLemmas::keep))]
 impl Connection {
     // A message is malformed: its stream is reset, after an answer or not (RFC 9114, section 4.1.2).
-    #[tactic(auto, using(crate::proofs::KeepsOwnLemmas::hold, crate::proofs::StepLemmas::left_trans))]
+    #[tactic(auto, using(crate::proofs::ActLemmas::act, crate::proofs::KeepsOwnLemmas::hold, crate::proofs::StepLemmas::left_trans))]
     pub(super) fn malformed_came(&mut self, id: u64, rule: Malformed) -> Result<Step<'static>, Stop>
         ensures keeps { KeepsOwn (said_by result) self.old self.new }
+        ensures works { OnOk result (WorksOn self.old self.new) }
         ensures left { Left self.old.streams.entries self.new.streams.entries }
         ensures silent { IfOk result IsSilent }
     {
@@ -33,9 +35,10 @@ impl Connection {
     }
 
     // A field section is larger than the limits (RFC 9114, section 4.2.2).
-    #[tactic(auto, using(crate::proofs::KeepsOwnLemmas::hold, crate::proofs::StepLemmas::left_trans))]
+    #[tactic(auto, using(crate::proofs::ActLemmas::act, crate::proofs::KeepsOwnLemmas::hold, crate::proofs::StepLemmas::left_trans))]
     pub(super) fn too_large_came(&mut self, id: u64) -> Result<Step<'static>, Stop>
         ensures keeps { KeepsOwn (said_by result) self.old self.new }
+        ensures works { OnOk result (WorksOn self.old self.new) }
         ensures left { Left self.old.streams.entries self.new.streams.entries }
         ensures silent { IfOk result IsSilent }
     {
@@ -47,7 +50,7 @@ impl Connection {
     }
 
     // Leaves a stream that is over for the program: its halves end.
-    #[tactic(auto, using(crate::proofs::KeepsOwnLemmas::hold, crate::proofs::KeepsOwnLemmas::hold_but, crate::proofs::KeepsOwnLemmas::hold_unknown, crate::proofs::StepLemmas::left_trans))]
+    #[tactic(auto, using(crate::proofs::ActLemmas::act, crate::proofs::KeepsOwnLemmas::hold, crate::proofs::KeepsOwnLemmas::hold_but, crate::proofs::KeepsOwnLemmas::hold_unknown, crate::proofs::StepLemmas::left_trans))]
     fn leave_refused(
         &mut self,
         id: u64,
@@ -56,6 +59,7 @@ impl Connection {
         refused: Code,
     ) -> Result<(), AllocError>
         ensures keeps { knows_of (stream_at self.old id) ≡ false → KeepsOwn [] self.old self.new }
+        ensures works { OnOk result (WorksOn self.old self.new) }
         ensures left { Left self.old.streams.entries self.new.streams.entries }
     {
         self.end_refused(id, status, answered, refused)?;
@@ -64,7 +68,7 @@ impl Connection {
 
     // Ends the own half with an answer of this status, and asks the peer to stop with the first code; or ends both halves
     // with the second.
-    #[tactic(auto, using(crate::proofs::KeepsOwnLemmas::hold, crate::proofs::KeepsOwnLemmas::hold_but, crate::proofs::StepLemmas::left_trans))]
+    #[tactic(auto, using(crate::proofs::ActLemmas::act, crate::proofs::KeepsOwnLemmas::hold, crate::proofs::KeepsOwnLemmas::hold_but, crate::proofs::StepLemmas::left_trans))]
     fn end_refused(
         &mut self,
         id: u64,
@@ -73,6 +77,7 @@ impl Connection {
         refused: Code,
     ) -> Result<(), AllocError>
         ensures keeps { KeepsOwnBut id self.old self.new }
+        ensures works { OnOk result (WorksOn self.old self.new) }
         ensures left { Left self.old.streams.entries self.new.streams.entries }
     {
         if self.answers(id, status) {
@@ -83,9 +88,10 @@ impl Connection {
 
     // Answers a request with this status, if the configuration says so. Returns whether it did: without memory, and after
     // another final response, it does not.
-    #[tactic(auto, using(crate::proofs::KeepsOwnLemmas::hold, crate::proofs::KeepsOwnLemmas::holds_answered, crate::proofs::KeepsLemmas::kept, crate::proofs::StepLemmas::left_trans))]
+    #[tactic(auto, using(crate::proofs::ActLemmas::act, crate::proofs::KeepsOwnLemmas::hold, crate::proofs::KeepsOwnLemmas::holds_answered, crate::proofs::KeepsLemmas::kept, crate::proofs::StepLemmas::left_trans))]
     fn answers(&mut self, id: u64, status: StatusCode) -> bool
         ensures keeps { KeepsOwnBut id self.old self.new }
+        ensures works { WorksOn self.old self.new }
         ensures left { Left self.old.streams.entries self.new.streams.entries }
     {
         if !self.may_answer() {

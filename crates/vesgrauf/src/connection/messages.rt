@@ -11,6 +11,7 @@ ghost use Rattle.vesgrauf.specs.Theirs.{Left};
 ghost use Rattle.vesgrauf.specs.Told.{GoesOn};
 ghost use Rattle.vesgrauf.specs.State.{stream_at, Changes, IsFor, IsStill, IsStillBut, IsRefused, SaysOrWaits, StaysFor, IsWhy, IsWhyOf, RefusesBytes, RefusesEnd, FinishesUnless, was_finished, was_told_full, is_over, open_session};
 ghost use Rattle.vesgrauf.specs.declared.refused.Refused.TheVariants as refused;
+ghost use Rattle.vesgrauf.specs.Works.{WorksOn};
 
 use crate::connection::heads::{accepts, session_id, status_of};
 use crate::connection::placing::{keep_place, take_place};
@@ -45,7 +46,7 @@ impl Connection {
     ///
     /// Nothing changes, but QPACK's table and what is queued for it. `Closed`; `NoStream` if no request came on the stream;
     /// `Over`; `Send` if it would be malformed; and `Memory`.
-    #[tactic(auto, using(crate::proofs::KeepsLemmas::kept, crate::proofs::OwnLemmas::but_then, crate::proofs::StepLemmas::left_trans, crate::proofs::LastsLemmas::lasts_refl))]
+    #[tactic(auto, using(crate::proofs::ActLemmas::act, crate::proofs::ActLemmas::act_still, crate::proofs::ActLemmas::act_kept, crate::proofs::KeepsLemmas::kept, crate::proofs::OwnLemmas::but_then, crate::proofs::StepLemmas::left_trans, crate::proofs::LastsLemmas::lasts_refl))]
     pub fn respond(&mut self, id: u64, list: &FieldList, fin: bool) -> Result<(), Refused>
         ensures refused { IfErr result (λ e. (e ≡ refused.Memory) ⊎ IsStillBut self.old self.new) }
         ensures own { UntouchedBut id self.old.streams.entries self.new.streams.entries }
@@ -56,6 +57,7 @@ impl Connection {
         ensures responds { OnOk result ((s : ToolsOf) × (t : ToolsOf) × IsSameBut self.old.tools s × ChangesThen id
             (λ v w. SendsHeaders (response_at v id (allowed self.old)) list.now fin s t v w) self.old self.new) }
         ensures lasts { LastsBut id self.old self.new }
+        ensures works { WorksOn self.old self.new }
     {
         self.begin_send(id)?;
         self.choose_policy();
@@ -66,7 +68,7 @@ impl Connection {
     }
 
     // Queues the HEADERS of a response, and maybe the end.
-    #[tactic(auto, using(crate::proofs::KeepsLemmas::kept, crate::proofs::TheirsLemmas::left_set, std::proofs::lemmas::Map::Steps::set_value_same, crate::proofs::GoesLemmas::goes_set, crate::proofs::LastsLemmas::lasts_refl))]
+    #[tactic(auto, using(crate::proofs::ActLemmas::act, crate::proofs::ActLemmas::act_still, crate::proofs::ActLemmas::act_kept, crate::proofs::KeepsLemmas::kept, crate::proofs::TheirsLemmas::left_set, std::proofs::lemmas::Map::Steps::set_value_same, crate::proofs::GoesLemmas::goes_set, crate::proofs::LastsLemmas::lasts_refl))]
     fn put_response(&mut self, id: u64, list: &FieldList, fin: bool) -> Result<(), Refused>
         ensures ok { OnOk result (Changes id (λ v w. SendsHeaders (response_at v id (allowed self.old)) list.now fin
             self.old.tools self.new.tools v w) self.old self.new) }
@@ -76,6 +78,7 @@ impl Connection {
         ensures config { self.new.config ≡ self.old.config }
         ensures goes { GoesOn [] self.old self.new }
         ensures lasts { LastsBut id self.old self.new }
+        ensures works { WorksOn self.old self.new }
     {
         match session_id(id) {
             Ok(session) => self.respond_half(id, session, list, fin),
@@ -84,7 +87,7 @@ impl Connection {
     }
 
     // Queues the HEADERS of a response, and maybe the end, on the own half of a stream.
-    #[tactic(auto, using(crate::proofs::KeepsLemmas::kept, crate::proofs::TheirsLemmas::left_set, std::proofs::lemmas::Map::Steps::set_value_same, crate::proofs::GoesLemmas::goes_set, crate::proofs::PlaceLemmas::ordered, crate::proofs::JoinedLemmas::joined, crate::proofs::PlaceLemmas::ordered_sent, crate::proofs::LastsLemmas::lasts_refl, crate::proofs::LastsLemmas::lasts_but_set))]
+    #[tactic(auto, using(crate::proofs::ActLemmas::act, crate::proofs::ActLemmas::act_still, crate::proofs::ActLemmas::act_kept, crate::proofs::KeepsLemmas::kept, crate::proofs::TheirsLemmas::left_set, std::proofs::lemmas::Map::Steps::set_value_same, crate::proofs::GoesLemmas::goes_set, crate::proofs::PlaceLemmas::ordered, crate::proofs::JoinedLemmas::joined, crate::proofs::PlaceLemmas::ordered_sent, crate::proofs::LastsLemmas::lasts_refl, crate::proofs::LastsLemmas::lasts_but_set))]
     fn respond_half(
         &mut self,
         id: u64,
@@ -100,6 +103,7 @@ impl Connection {
         ensures config { self.new.config ≡ self.old.config }
         ensures goes { GoesOn [] self.old self.new }
         ensures lasts { LastsBut id self.old self.new }
+        ensures works { WorksOn self.old self.new }
     {
         let allows = self.allows();
         let Some(entry) = self.streams.get_mut(&id) else {
@@ -197,7 +201,7 @@ impl Connection {
     ///
     /// Nothing is queued. `Full` if a call returned false, and as many bytes are queued still: the `Writable` is to come.
     /// `Closed`; `NoStream`; `Over`; `Send`; and `Memory`.
-    #[tactic(auto, using(crate::proofs::KeepsLemmas::kept, std::proofs::lemmas::Map::Steps::set_value_same, crate::proofs::GoesLemmas::goes_set, crate::proofs::SendsLemmas::lasts_between, crate::proofs::SendsLemmas::lasts_same))]
+    #[tactic(auto, using(crate::proofs::ActLemmas::act, crate::proofs::ActLemmas::act_still, crate::proofs::ActLemmas::act_kept, crate::proofs::KeepsLemmas::kept, std::proofs::lemmas::Map::Steps::set_value_same, crate::proofs::GoesLemmas::goes_set, crate::proofs::SendsLemmas::lasts_between, crate::proofs::SendsLemmas::lasts_same))]
     pub fn send(&mut self, id: u64, bytes: &[u8], fin: bool) -> Result<bool, Refused>
         ensures ok { IfOk result (λ room. Changes id (Sends bytes.now fin room) self.old self.new) }
         ensures why { IfErr result (λ e. IsWhy (RefusesBytes (length bytes.now) fin) self.old id e) }
@@ -205,6 +209,7 @@ impl Connection {
         ensures kept { IfErr result (λ e. StaysFor e id self.old self.new) }
         ensures goes { GoesOn [] self.old self.new }
         ensures lasts { LastsOn [] self.old self.new }
+        ensures works { WorksOn self.old self.new }
     {
         let was_full = self.full.contains(&id);
         self.begin_send(id)?;
@@ -218,7 +223,7 @@ impl Connection {
 
     // Queues content on the own half of a stream.
     #[inline(always)]
-    #[tactic(auto, using(crate::proofs::KeepsLemmas::kept, std::proofs::lemmas::Map::Steps::set_value_same, crate::proofs::GoesLemmas::goes_set, crate::proofs::PlaceLemmas::ordered, crate::proofs::JoinedLemmas::joined, crate::proofs::PlaceLemmas::ordered_sent, crate::proofs::LastsLemmas::lasts_refl))]
+    #[tactic(auto, using(crate::proofs::ActLemmas::act, crate::proofs::ActLemmas::act_still, crate::proofs::ActLemmas::act_kept, crate::proofs::KeepsLemmas::kept, std::proofs::lemmas::Map::Steps::set_value_same, crate::proofs::GoesLemmas::goes_set, crate::proofs::PlaceLemmas::ordered, crate::proofs::JoinedLemmas::joined, crate::proofs::PlaceLemmas::ordered_sent, crate::proofs::LastsLemmas::lasts_refl))]
     fn send_half(
         &mut self,
         id: u64,
@@ -233,6 +238,7 @@ impl Connection {
         ensures kept { IfErr result (λ e. StaysFor e id self.old self.new) }
         ensures goes { GoesOn [] self.old self.new }
         ensures lasts { LastsOn [] self.old self.new }
+        ensures works { WorksOn self.old self.new }
     {
         let Some(entry) = self.streams.get_mut(&id) else {
             return Err(Refused::NoStream);
@@ -248,7 +254,7 @@ impl Connection {
     /// # Errors
     ///
     /// Those of [`send`](Self::send), with the bytes.
-    #[tactic(auto, using(crate::proofs::KeepsLemmas::kept, std::proofs::lemmas::Map::Steps::set_value_same, crate::proofs::GoesLemmas::goes_set, crate::proofs::SendsLemmas::lasts_between, crate::proofs::SendsLemmas::lasts_same))]
+    #[tactic(auto, using(crate::proofs::ActLemmas::act, crate::proofs::ActLemmas::act_still, crate::proofs::ActLemmas::act_kept, crate::proofs::KeepsLemmas::kept, std::proofs::lemmas::Map::Steps::set_value_same, crate::proofs::GoesLemmas::goes_set, crate::proofs::SendsLemmas::lasts_between, crate::proofs::SendsLemmas::lasts_same))]
     pub fn send_owned(&mut self, id: u64, bytes: Vec<u8>, fin: bool) -> Result<bool, NotSent>
         ensures ok { IfOk result (λ room. Changes id (Sends bytes.items fin room) self.old self.new) }
         ensures why { IfErr result (λ e. IsWhy (RefusesBytes (length bytes.items) fin) self.old id e.why) }
@@ -257,6 +263,7 @@ impl Connection {
         ensures bytes { IfErr result (λ e. e.bytes ≡ bytes) }
         ensures goes { GoesOn [] self.old self.new }
         ensures lasts { LastsOn [] self.old self.new }
+        ensures works { WorksOn self.old self.new }
     {
         let was_full = self.full.contains(&id);
         if let Err(why) = self.begin_send(id) {
@@ -274,7 +281,7 @@ impl Connection {
     }
 
     // Queues content on the own half of a stream, or gives the bytes back.
-    #[tactic(auto, using(crate::proofs::KeepsLemmas::kept, std::proofs::lemmas::Map::Steps::set_value_same, crate::proofs::GoesLemmas::goes_set, crate::proofs::PlaceLemmas::ordered, crate::proofs::JoinedLemmas::joined, crate::proofs::PlaceLemmas::ordered_sent, crate::proofs::LastsLemmas::lasts_refl))]
+    #[tactic(auto, using(crate::proofs::ActLemmas::act, crate::proofs::ActLemmas::act_still, crate::proofs::ActLemmas::act_kept, crate::proofs::KeepsLemmas::kept, std::proofs::lemmas::Map::Steps::set_value_same, crate::proofs::GoesLemmas::goes_set, crate::proofs::PlaceLemmas::ordered, crate::proofs::JoinedLemmas::joined, crate::proofs::PlaceLemmas::ordered_sent, crate::proofs::LastsLemmas::lasts_refl))]
     fn send_half_owned(
         &mut self,
         id: u64,
@@ -290,6 +297,7 @@ impl Connection {
         ensures bytes { IfErr result (λ e. e.bytes ≡ bytes) }
         ensures goes { GoesOn [] self.old self.new }
         ensures lasts { LastsOn [] self.old self.new }
+        ensures works { WorksOn self.old self.new }
     {
         let Some(entry) = self.streams.get_mut(&id) else {
             return Err(NotSent {
@@ -331,13 +339,14 @@ impl Connection {
     ///
     /// Nothing changes, but QPACK's table and what is queued for it. `Closed`; `NoStream`; `Over`; `Send` if they would be
     /// malformed; and `Memory`.
-    #[tactic(auto, using(crate::proofs::KeepsLemmas::kept, crate::proofs::SendsLemmas::lasts_between, crate::proofs::SendsLemmas::lasts_same))]
+    #[tactic(auto, using(crate::proofs::ActLemmas::act, crate::proofs::ActLemmas::act_still, crate::proofs::ActLemmas::act_kept, crate::proofs::KeepsLemmas::kept, crate::proofs::SendsLemmas::lasts_between, crate::proofs::SendsLemmas::lasts_same))]
     pub fn send_trailers(&mut self, id: u64, list: &FieldList) -> Result<(), Refused>
         ensures kept { OnErr result (IsStillBut self.old self.new) }
         ensures decoder { SaysOrWaits self.old.told.items self.new.told.items self.old.decoder self.new.decoder }
         ensures goes { GoesOn [] self.old self.new }
         ensures lasts { LastsOn [] self.old self.new }
         ensures ok { OnOk result (ChangesBy id (SendsTrailers list.now) self.old self.new) }
+        ensures works { WorksOn self.old self.new }
     {
         self.begin_send(id)?;
         self.choose_policy();
@@ -347,7 +356,7 @@ impl Connection {
     }
 
     // Queues trailers and the end on a stream.
-    #[tactic(auto, using(crate::proofs::KeepsLemmas::kept, std::proofs::lemmas::Map::Steps::set_value_same, crate::proofs::GoesLemmas::goes_set, crate::proofs::PlaceLemmas::ordered, crate::proofs::JoinedLemmas::joined, crate::proofs::PlaceLemmas::ordered_sent, crate::proofs::LastsLemmas::lasts_refl))]
+    #[tactic(auto, using(crate::proofs::ActLemmas::act, crate::proofs::ActLemmas::act_still, crate::proofs::ActLemmas::act_kept, crate::proofs::KeepsLemmas::kept, std::proofs::lemmas::Map::Steps::set_value_same, crate::proofs::GoesLemmas::goes_set, crate::proofs::PlaceLemmas::ordered, crate::proofs::JoinedLemmas::joined, crate::proofs::PlaceLemmas::ordered_sent, crate::proofs::LastsLemmas::lasts_refl))]
     fn put_trailers(&mut self, id: u64, list: &FieldList) -> Result<(), Refused>
         ensures ok { OnOk result (Changes id (SendsTrailers list.now self.old.tools self.new.tools)
             self.old self.new) }
@@ -356,6 +365,7 @@ impl Connection {
             (IsFor (RefusesTrailers list.now self.old.tools self.new.tools)) e) }
         ensures goes { GoesOn [] self.old self.new }
         ensures lasts { LastsOn [] self.old self.new }
+        ensures works { WorksOn self.old self.new }
     {
         let Some(entry) = self.streams.get_mut(&id) else {
             return Err(Refused::NoStream);
@@ -374,7 +384,7 @@ impl Connection {
     ///
     /// Nothing changes. `Closed`; `NoStream` if there never was such a stream; `Over` if it was reset; `Send` if the message
     /// may not end here; and `Memory`.
-    #[tactic(auto, using(crate::proofs::KeepsLemmas::kept, crate::proofs::LastsLemmas::lasts_refl))]
+    #[tactic(auto, using(crate::proofs::ActLemmas::act, crate::proofs::ActLemmas::act_still, crate::proofs::ActLemmas::act_kept, crate::proofs::KeepsLemmas::kept, crate::proofs::LastsLemmas::lasts_refl))]
     pub fn finish(&mut self, id: u64) -> Result<(), Refused>
         ensures refused { IfErr result (λ e. IsRefused e self.old self.new) }
         ensures half { is_ok (open_session self.old id) ≡ false
@@ -386,6 +396,7 @@ impl Connection {
         ensures config { self.new.config ≡ self.old.config }
         ensures goes { GoesOn [] self.old self.new }
         ensures lasts { LastsBut id self.old self.new }
+        ensures works { WorksOn self.old self.new }
     {
         if self.check_session(id).is_ok() {
             return self.close_session(id, 0, "");
@@ -394,7 +405,7 @@ impl Connection {
     }
 
     // Ends the own half of a stream that is not that of a session.
-    #[tactic(auto, using(crate::proofs::KeepsLemmas::kept, crate::proofs::TheirsLemmas::left_set, std::proofs::lemmas::Map::Steps::set_value_same, crate::proofs::GoesLemmas::goes_set, crate::proofs::PlaceLemmas::ordered, crate::proofs::JoinedLemmas::joined, crate::proofs::PlaceLemmas::ordered_sent, crate::proofs::LastsLemmas::lasts_refl, crate::proofs::LastsLemmas::lasts_but_set))]
+    #[tactic(auto, using(crate::proofs::ActLemmas::act, crate::proofs::ActLemmas::act_still, crate::proofs::ActLemmas::act_kept, crate::proofs::KeepsLemmas::kept, crate::proofs::TheirsLemmas::left_set, std::proofs::lemmas::Map::Steps::set_value_same, crate::proofs::GoesLemmas::goes_set, crate::proofs::PlaceLemmas::ordered, crate::proofs::JoinedLemmas::joined, crate::proofs::PlaceLemmas::ordered_sent, crate::proofs::LastsLemmas::lasts_refl, crate::proofs::LastsLemmas::lasts_but_set))]
     fn finish_half(&mut self, id: u64) -> Result<(), Refused>
         ensures ok { OnOk result (FinishesUnless (was_finished self.old id) id self.old self.new) }
         ensures why { IfErr result (λ e. IsWhy RefusesEnd self.old id e) }
@@ -404,6 +415,7 @@ impl Connection {
         ensures config { self.new.config ≡ self.old.config }
         ensures goes { GoesOn [] self.old self.new }
         ensures lasts { LastsBut id self.old self.new }
+        ensures works { WorksOn self.old self.new }
     {
         if self.ended.is_some() {
             return Err(Refused::Closed);

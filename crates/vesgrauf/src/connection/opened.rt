@@ -9,6 +9,7 @@ ghost use Rattle.vesgrauf.specs.Theirs.{Left};
 ghost use Rattle.vesgrauf.specs.Told.{GoesOn};
 ghost use Rattle.vesgrauf.specs.Halves.{LastsOn};
 ghost use Rattle.vesgrauf.specs.Ids.{next_own, opens, kind_of, unopened, opened as opened_ids};
+ghost use Rattle.vesgrauf.specs.Works.{WorksOn};
 
 use crate::connection::Connection;
 use crate::connection::placing::give_place;
@@ -24,7 +25,7 @@ impl Connection {
     ///
     /// `NotAsked` if another stream was to be opened: nothing changes, and QUIC's connection has streams that are not of
     /// this one. `Memory`: nothing changes, and the call is to be made again.
-    #[tactic(auto, using(crate::proofs::KeepsLemmas::kept, crate::proofs::LastsLemmas::lasts_refl))]
+    #[tactic(auto, using(crate::proofs::ActLemmas::act, crate::proofs::ActLemmas::act_still, crate::proofs::ActLemmas::act_kept, crate::proofs::KeepsLemmas::kept, crate::proofs::LastsLemmas::lasts_refl))]
     pub fn opened(&mut self, id: u64) -> Result<(), Refused>
         ensures asked { OnOk result (opens self.old.ids id ≡ true) }
         ensures counted { OnOk result (id < 2 ^ 62 → self.new.ids ≡ opened_ids self.old.ids (kind_of id)) }
@@ -36,6 +37,7 @@ impl Connection {
         ensures config { self.new.config ≡ self.old.config }
         ensures goes { GoesOn [] self.old self.new }
         ensures lasts { LastsOn [] self.old self.new }
+        ensures works { WorksOn self.old self.new }
     {
         if !self.ids.opens(id) {
             return Err(Refused::NotAsked);

@@ -9,6 +9,7 @@ ghost use Rattle.vesgrauf.specs.Members.{Notes, is_member, is_same_stream};
 ghost use Rattle.wtp_connection.specs.declared.connection.Known.TheVariants as knowns;
 ghost use Rattle.vesgrauf.specs.Own.{Open as OpenEnd, Over, Sends, own_of, entry_at, UntouchedBut};
 ghost use Rattle.vesgrauf.specs.Places.{has_more};
+ghost use Rattle.vesgrauf.specs.Instructions.{table_of};
 ghost use Rattle.vesgrauf.specs.Items.{items_of};
 ghost use Rattle.vesgrauf.specs.Theirs.{Accepts, IsBlank, theirs_of};
 ghost use Rattle.vesgrauf.specs.Told.{GoesOn, AreOthers, knows};
@@ -16,6 +17,7 @@ ghost use Rattle.vesgrauf.specs.Halves.{LastsOn};
 ghost use Rattle.wtp_webtransport.specs.Events.{told_of};
 ghost use Rattle.vesgrauf.specs.Ids.{next_own, taken};
 ghost use Rattle.vesgrauf.specs.Messages.{IsMember, IsStreamHead};
+ghost use Rattle.vesgrauf.specs.Works.{WorksOn};
 
 use crate::connection::{Connection, Stop, internal};
 use crate::entry::{Entry, Peer, SHARED, Told};
@@ -59,9 +61,10 @@ pub(super) fn joining_of(event: &Said<'_>) -> Joining {
 #[tactic(auto, using(crate::proofs::KeepsLemmas::keep))]
 impl Connection {
     // Registers the streams of the peer up to that of a report.
-    #[tactic(auto, using(crate::proofs::KeepsOwnLemmas::hold))]
+    #[tactic(auto, using(crate::proofs::ActLemmas::act, crate::proofs::KeepsOwnLemmas::hold))]
     pub(super) fn accept_for(&mut self, report: Report) -> Result<(), Stop>
         ensures keeps { KeepsOwn [] self.old self.new }
+        ensures works { OnOk result (WorksOn self.old self.new) }
         ensures accepts { Accepts self.old.ids self.old.streams.entries self.new.ids self.new.streams.entries }
     {
         match report {
@@ -71,9 +74,10 @@ impl Connection {
     }
 
     // Registers the streams of the peer up to this one. An ID that cannot be is an error of QUIC.
-    #[tactic(auto, using(crate::proofs::KeepsOwnLemmas::holds_refl, crate::proofs::KeepsOwnLemmas::holds_trans, crate::proofs::TellsLemmas::accepts_steps))]
+    #[tactic(auto, using(crate::proofs::ActLemmas::act, crate::proofs::KeepsOwnLemmas::holds_refl, crate::proofs::KeepsOwnLemmas::holds_trans, crate::proofs::TellsLemmas::accepts_steps))]
     fn accept(&mut self, id: u64) -> Result<(), Stop>
         ensures keeps { KeepsOwn [] self.old self.new }
+        ensures works { OnOk result (WorksOn self.old self.new) }
         ensures accepts { Accepts self.old.ids self.old.streams.entries self.new.ids self.new.streams.entries }
     {
         if self.ids.is_own(id) {
@@ -98,9 +102,10 @@ impl Connection {
     }
 
     // Registers the next stream of the peer, of the kind of this one.
-    #[tactic(auto, using(crate::proofs::TellsLemmas::accepts_insert, crate::proofs::KeepsOwnLemmas::holds_refl, crate::proofs::PlaceLemmas::ordered_new_quiet, crate::proofs::JoinedLemmas::joined_new, crate::proofs::JoinedLemmas::joined_seen))]
+    #[tactic(auto, using(crate::proofs::ActLemmas::act, crate::proofs::TellsLemmas::accepts_insert, crate::proofs::KeepsOwnLemmas::holds_refl, crate::proofs::PlaceLemmas::ordered_new_quiet, crate::proofs::JoinedLemmas::joined_new, crate::proofs::JoinedLemmas::joined_seen))]
     fn accept_next(&mut self, id: u64) -> Result<(), Stop>
         ensures keeps { KeepsOwn [] self.old self.new }
+        ensures works { OnOk result (WorksOn self.old self.new) }
         ensures accepts { Accepts self.old.ids self.old.streams.entries self.new.ids self.new.streams.entries }
     {
         let next = self.ids.next_of_peer(id);
@@ -130,6 +135,7 @@ impl Connection {
         ensures streams { self.new.streams ≡ self.old.streams }
         ensures events { self.new.events ≡ self.old.events }
         ensures ended { self.new.ended ≡ self.old.ended }
+        ensures table { table_of self.new ≡ table_of self.old }
     {
         let stream = self.shared.accept(id);
         let writing = half_beside_peer(self.alloc, self.config.queue(), id);

@@ -98,7 +98,7 @@ impl Connection {
     }
 
     // Tells that a stream is over, since the connection is.
-    #[tactic(auto, using(crate::proofs::KeepsLemmas::keeps_refl, crate::proofs::KeepsLemmas::keeps_last, crate::proofs::KeepsLemmas::ended_unknown))]
+    #[tactic(auto, using(crate::proofs::KeepsLemmas::keeps_refl, crate::proofs::OverLemmas::keeps_last, crate::proofs::OverLemmas::ended_unknown))]
     fn tell_last(&mut self, id: u64) -> Step<'static>
         ensures last { IsTold result (λ e. is_last e.kind ≡ true) }
         ensures known { IsTold result (λ e. (e.stream ≡ id) × (knows_of (stream_at self.old id) ≡ true)) }

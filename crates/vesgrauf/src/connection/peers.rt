@@ -75,7 +75,7 @@ impl Connection {
     }
 
     // All sections of a stream were read.
-    #[tactic(auto, using(crate::proofs::KeepsLemmas::keep, crate::proofs::PlaceLemmas::ordered, crate::proofs::JoinedLemmas::joined))]
+    #[tactic(auto, using(crate::proofs::CancelLemmas::keeps_spent, crate::proofs::KeepsLemmas::keeps_refl, crate::proofs::PlaceLemmas::ordered, crate::proofs::JoinedLemmas::joined))]
     fn forget_cancel(&mut self, id: u64)
         ensures keeps { Keeps [] self.old self.new }
     {

@@ -1,15 +1,16 @@
 //! What is read at once, where nothing else is due.
 ghost use Rattle.std.specs.Prelude.{◌≡◌, true, false, [], Ok, None, IfOk, OnOk};
 ghost use Rattle.vesgrauf.specs.Bounds.{KeepsBound};
-ghost use Rattle.vesgrauf.specs.Instructions.{MayAcknowledge, table_of};
+ghost use Rattle.vesgrauf.specs.Instructions.{table_of};
 ghost use Rattle.vesgrauf.specs.Keeps.{KeepsOwn};
 ghost use Rattle.vesgrauf.specs.Progress.{IsSettled, IsQuiet, IsStill};
 ghost use Rattle.vesgrauf.specs.State.{is_over};
 ghost use Rattle.vesgrauf.specs.Items.{content, items_if, items_in, items_found};
-ghost use Rattle.vesgrauf.specs.Theirs.{ReadsOn, Passes, Tells, TellsAll, told_in, told_if, told_by};
+ghost use Rattle.vesgrauf.specs.Theirs.{ReadsOn, Passes, Tells, TellsAll, told_in, told_if, told_by, theirs_at};
 ghost use Rattle.vesgrauf.specs.Told.{said_by, said_if_ok, told_by_call};
 ghost use Rattle.vesgrauf.specs.declared.input.Report.TheVariants as report;
 ghost use Rattle.vesgrauf_stream.specs.Reading.{bytes_of};
+ghost use Rattle.vesgrauf.specs.Works.{MayRead, WorksOn};
 
 use crate::connection::{Connection, Step, Stop};
 use crate::event::{Event, EventKind};
@@ -57,13 +58,14 @@ impl Connection {
     }
 
     // Returns the next event of bytes of a stream, as `next_by_steps` does, where nothing is due before them.
-    #[tactic(auto, using(crate::proofs::KeepsOwnLemmas::hold, crate::proofs::BoundLemmas::bound, crate::proofs::BoundLemmas::bound_left))]
+    #[tactic(auto, using(crate::proofs::ActLemmas::act, crate::proofs::KeepsOwnLemmas::hold, crate::proofs::BoundLemmas::bound, crate::proofs::BoundLemmas::bound_left))]
     pub(super) fn read_at_once<'a>(
         &mut self,
         id: u64,
         input: &mut Input<'a>,
     ) -> Result<Option<Event<'a>>, AllocError>
         ensures keeps { KeepsOwn (told_by_call result) self.old self.new }
+        ensures works { OnOk result (WorksOn self.old self.new) }
         ensures told { input.old.report ≡ report.Stream id → is_over self.new ≡ false
             → IfOk result (λ e. TellsAll self.old.ids (told_by e)
             self.old.streams.entries input.old self.new.streams.entries input.new) }
@@ -80,13 +82,14 @@ impl Connection {
     }
 
     // Returns the next event of bytes of a stream that is not said to end.
-    #[tactic(auto, using(crate::proofs::KeepsOwnLemmas::hold, crate::proofs::BoundLemmas::bound, crate::proofs::BoundLemmas::bound_left))]
+    #[tactic(auto, using(crate::proofs::ActLemmas::act, crate::proofs::KeepsOwnLemmas::hold, crate::proofs::BoundLemmas::bound, crate::proofs::BoundLemmas::bound_left))]
     fn read_now<'a>(
         &mut self,
         id: u64,
         input: &mut Input<'a>,
     ) -> Result<Option<Event<'a>>, AllocError>
         ensures keeps { KeepsOwn (told_by_call result) self.old self.new }
+        ensures works { OnOk result (WorksOn self.old self.new) }
         ensures told { input.old.report ≡ report.Stream id → is_over self.new ≡ false
             → IfOk result (λ e. TellsAll self.old.ids (told_by e)
             self.old.streams.entries input.old self.new.streams.entries input.new) }
@@ -107,9 +110,10 @@ impl Connection {
     }
 
     // Takes a step by bytes of a stream that is read, of which nothing is kept and that waits for nothing.
-    #[tactic(auto, using(crate::proofs::KeepsOwnLemmas::hold, crate::proofs::BoundLemmas::bound, crate::proofs::BoundLemmas::bound_left))]
+    #[tactic(auto, using(crate::proofs::ActLemmas::act, crate::proofs::KeepsOwnLemmas::hold, crate::proofs::BoundLemmas::bound, crate::proofs::BoundLemmas::bound_left))]
     fn step_at_once<'a>(&mut self, id: u64, input: &mut Input<'a>) -> Result<Option<Step<'a>>, Stop>
         ensures keeps { KeepsOwn (said_if_ok result) self.old self.new }
+        ensures works { OnOk result (WorksOn self.old self.new) }
         ensures tells { input.old.report ≡ report.Stream id → IfOk result (λ s. Tells (told_if s)
             self.old.streams.entries input.old self.new.streams.entries input.new) }
         ensures none { result ≡ Ok None → (input.new ≡ input.old) × (self.new.ids ≡ self.old.ids) }
@@ -126,12 +130,14 @@ impl Connection {
     }
 
     // Returns what is found in bytes of a stream that is read, of which nothing is kept and that waits for nothing.
-    #[tactic(auto, using(crate::proofs::KeepsOwnLemmas::hold, crate::proofs::KeepsOwnLemmas::holds_looked, crate::proofs::InstructionLemmas::may_after, crate::proofs::InstructionLemmas::may_rest, crate::proofs::LookLemmas::reads_set, crate::proofs::TellsLemmas::left_reads, crate::proofs::StepLemmas::left_itself, crate::proofs::BoundLemmas::bound, crate::proofs::BoundLemmas::bound_left, crate::proofs::PlaceLemmas::ordered, crate::proofs::JoinedLemmas::joined))]
+    #[tactic(auto, using(crate::proofs::ActLemmas::act, crate::proofs::KeepsOwnLemmas::hold, crate::proofs::KeepsOwnLemmas::holds_looked, crate::proofs::ActLemmas::act_looked, crate::proofs::ActLemmas::reads_here, crate::proofs::ActLemmas::reads_none, crate::proofs::LookLemmas::reads_set, crate::proofs::TellsLemmas::left_reads, crate::proofs::StepLemmas::left_itself, crate::proofs::BoundLemmas::bound, crate::proofs::BoundLemmas::bound_left, crate::proofs::PlaceLemmas::ordered, crate::proofs::JoinedLemmas::joined))]
     fn read_plain<'a>(&mut self, id: u64, chunk: &mut Chunk<'a>) -> Result<Option<Found<'a>>, Stop>
         ensures keeps { KeepsOwn [] self.old self.new }
+        ensures works { OnOk result (WorksOn self.old self.new) }
         ensures reads { IfOk result (λ found. ReadsOn id (items_if found) self.old.streams.entries chunk.old
             self.new.streams.entries chunk.new) }
-        ensures table { IfOk result (λ found. MayAcknowledge id (table_of self.old) (table_of self.new)) }
+        ensures table { IfOk result (λ found. MayRead id (theirs_at self.old.streams.entries id)
+            (theirs_at self.new.streams.entries id) (table_of self.old) (table_of self.new)) }
         ensures none { result ≡ Ok None → chunk.new ≡ chunk.old }
         ensures ids { self.new.ids ≡ self.old.ids }
         ensures bounded { OnOk result (KeepsBound self.old self.new) }
@@ -150,7 +156,7 @@ impl Connection {
     }
 
     // Handles what was found in bytes of a stream.
-    #[tactic(auto, using(crate::proofs::KeepsOwnLemmas::hold, crate::proofs::TellsLemmas::more_passes, crate::proofs::BoundLemmas::bound, crate::proofs::BoundLemmas::bound_left))]
+    #[tactic(auto, using(crate::proofs::ActLemmas::act, crate::proofs::KeepsOwnLemmas::hold, crate::proofs::TellsLemmas::more_passes, crate::proofs::BoundLemmas::bound, crate::proofs::BoundLemmas::bound_left))]
     fn found_in_input<'a>(
         &mut self,
         id: u64,
@@ -158,6 +164,7 @@ impl Connection {
         input: &mut Input<'a>,
     ) -> Result<Step<'a>, Stop>
         ensures keeps { KeepsOwn (said_by result) self.old self.new }
+        ensures works { OnOk result (WorksOn self.old self.new) }
         ensures passes { input.old.report ≡ report.Stream id
             → IfOk result (λ s. Passes id (items_found found.entry) (told_in s)
             self.old.streams.entries input.old self.new.streams.entries input.new) }
@@ -170,7 +177,7 @@ impl Connection {
     }
 
     // Handles what was heard in bytes of a stream: a piece of content at once.
-    #[tactic(auto, using(crate::proofs::KeepsOwnLemmas::hold, crate::proofs::BoundLemmas::bound, crate::proofs::BoundLemmas::bound_left))]
+    #[tactic(auto, using(crate::proofs::ActLemmas::act, crate::proofs::KeepsOwnLemmas::hold, crate::proofs::BoundLemmas::bound, crate::proofs::BoundLemmas::bound_left))]
     fn heard_at_once<'a>(
         &mut self,
         id: u64,
@@ -178,6 +185,7 @@ impl Connection {
         input: &mut Input<'a>,
     ) -> Result<Step<'a>, Stop>
         ensures keeps { KeepsOwn (said_by result) self.old self.new }
+        ensures works { OnOk result (WorksOn self.old self.new) }
         ensures passes { input.old.report ≡ report.Stream id
             → IfOk result (λ s. Passes id (items_in heard.entry) (told_in s)
             self.old.streams.entries input.old self.new.streams.entries input.new) }
@@ -191,7 +199,7 @@ impl Connection {
     }
 
     // Tells a piece of content. Nothing follows it but more bytes, or the end.
-    #[tactic(auto, using(crate::proofs::KeepsOwnLemmas::hold, crate::proofs::TellsLemmas::taken_passes, crate::proofs::PieceLemmas::content_goes_on, crate::proofs::BoundLemmas::bound, crate::proofs::BoundLemmas::bound_left))]
+    #[tactic(auto, using(crate::proofs::ActLemmas::act, crate::proofs::KeepsOwnLemmas::hold, crate::proofs::TellsLemmas::taken_passes, crate::proofs::PieceLemmas::content_goes_on, crate::proofs::BoundLemmas::bound, crate::proofs::BoundLemmas::bound_left))]
     fn piece_came<'a>(
         &mut self,
         id: u64,
@@ -199,6 +207,7 @@ impl Connection {
         input: &mut Input<'a>,
     ) -> Result<Step<'a>, Stop>
         ensures keeps { KeepsOwn (said_by result) self.old self.new }
+        ensures works { OnOk result (WorksOn self.old self.new) }
         ensures passes { IfOk result (λ s. Passes id (content (bytes_of bytes.entry)) (told_in s)
             self.old.streams.entries input.old self.new.streams.entries input.new) }
         ensures bounded { OnOk result (KeepsBound self.old self.new) }

@@ -1,12 +1,13 @@
 //! Bytes of streams that came, and those that wait.
 ghost use Rattle.std.specs.Prelude.{◌≡◌, ◌≤◌, false, true, [], length, IfOk, OnOk};
 ghost use Rattle.vesgrauf.specs.Bounds.{Fits, KeepsBound, most_kept};
-ghost use Rattle.vesgrauf.specs.Instructions.{MayAcknowledge, table_of};
+ghost use Rattle.vesgrauf.specs.Instructions.{table_of};
 ghost use Rattle.vesgrauf.specs.Keeps.{Keeps, KeepsOwn};
 ghost use Rattle.vesgrauf.specs.State.{IsStill};
 ghost use Rattle.vesgrauf.specs.Items.{items_in, items_by, items_found};
 ghost use Rattle.vesgrauf.specs.Theirs.{Left, OnlyAt, Same, ReadsOn, ReadsKept, Hands, Passes, TellsKept, Tells, Gone, theirs_at, told_in};
 ghost use Rattle.vesgrauf.specs.Told.{said_by};
+ghost use Rattle.vesgrauf.specs.Works.{MayRead, WorksOn};
 ghost use Rattle.vesgrauf.specs.declared.entry.Peer.TheVariants as peers;
 ghost use Rattle.vesgrauf.specs.declared.input.Report.TheVariants as report;
 
@@ -27,13 +28,14 @@ use wtp_webtransport::fault::Fault;
 #[tactic(auto, using(crate::proofs::KeepsLemmas::keep))]
 impl Connection {
     // Takes in bytes of a stream.
-    #[tactic(auto, using(crate::proofs::KeepsOwnLemmas::hold, crate::proofs::BoundLemmas::bound, crate::proofs::BoundLemmas::bound_left))]
+    #[tactic(auto, using(crate::proofs::ActLemmas::act, crate::proofs::KeepsOwnLemmas::hold, crate::proofs::BoundLemmas::bound, crate::proofs::BoundLemmas::bound_left))]
     pub(super) fn stream_came<'a>(
         &mut self,
         id: u64,
         input: &mut Input<'a>,
     ) -> Result<Step<'a>, Stop>
         ensures keeps { KeepsOwn (said_by result) self.old self.new }
+        ensures works { OnOk result (WorksOn self.old self.new) }
         ensures tells { input.old.report ≡ report.Stream id → IfOk result (λ s. Tells (told_in s)
             self.old.streams.entries input.old self.new.streams.entries input.new) }
         ensures bounded { OnOk result (KeepsBound self.old self.new) }
@@ -58,9 +60,10 @@ impl Connection {
     }
 
     // Takes in bytes of a stream that are not for the own encoder.
-    #[tactic(auto, using(crate::proofs::KeepsOwnLemmas::hold, crate::proofs::TellsLemmas::more_tells, crate::proofs::TellsLemmas::left_more_tells, crate::proofs::BoundLemmas::bound, crate::proofs::BoundLemmas::bound_left))]
+    #[tactic(auto, using(crate::proofs::ActLemmas::act, crate::proofs::KeepsOwnLemmas::hold, crate::proofs::TellsLemmas::more_tells, crate::proofs::TellsLemmas::left_more_tells, crate::proofs::BoundLemmas::bound, crate::proofs::BoundLemmas::bound_left))]
     fn bytes_came<'a>(&mut self, id: u64, input: &mut Input<'a>) -> Result<Step<'a>, Stop>
         ensures keeps { KeepsOwn (said_by result) self.old self.new }
+        ensures works { OnOk result (WorksOn self.old self.new) }
         ensures tells { input.old.report ≡ report.Stream id → IfOk result (λ s. Tells (told_in s)
             self.old.streams.entries input.old self.new.streams.entries input.new) }
         ensures bounded { OnOk result (KeepsBound self.old self.new) }
@@ -119,9 +122,10 @@ impl Connection {
     }
 
     // Reads what is next in bytes of a stream.
-    #[tactic(auto, using(crate::proofs::KeepsOwnLemmas::hold, crate::proofs::BoundLemmas::bound, crate::proofs::BoundLemmas::bound_left))]
+    #[tactic(auto, using(crate::proofs::ActLemmas::act, crate::proofs::KeepsOwnLemmas::hold, crate::proofs::BoundLemmas::bound, crate::proofs::BoundLemmas::bound_left))]
     fn read_input<'a>(&mut self, id: u64, input: &mut Input<'a>) -> Result<Step<'a>, Stop>
         ensures keeps { KeepsOwn (said_by result) self.old self.new }
+        ensures works { OnOk result (WorksOn self.old self.new) }
         ensures tells { input.old.report ≡ report.Stream id → IfOk result (λ s. Tells (told_in s)
             self.old.streams.entries input.old self.new.streams.entries input.new) }
         ensures bounded { OnOk result (KeepsBound self.old self.new) }
@@ -136,7 +140,7 @@ impl Connection {
     }
 
     // Handles what was heard in bytes of a stream.
-    #[tactic(auto, using(crate::proofs::KeepsOwnLemmas::hold, crate::proofs::TellsLemmas::same_more_passes, crate::proofs::TellsLemmas::left_more_passes, crate::proofs::ReadsLemmas::hands_passes, crate::proofs::BoundLemmas::bound, crate::proofs::BoundLemmas::bound_left))]
+    #[tactic(auto, using(crate::proofs::ActLemmas::act, crate::proofs::KeepsOwnLemmas::hold, crate::proofs::TellsLemmas::same_more_passes, crate::proofs::TellsLemmas::left_more_passes, crate::proofs::ReadsLemmas::hands_passes, crate::proofs::BoundLemmas::bound, crate::proofs::BoundLemmas::bound_left))]
     pub(super) fn heard_in_input<'a>(
         &mut self,
         id: u64,
@@ -144,6 +148,7 @@ impl Connection {
         input: &mut Input<'a>,
     ) -> Result<Step<'a>, Stop>
         ensures keeps { KeepsOwn (said_by result) self.old self.new }
+        ensures works { OnOk result (WorksOn self.old self.new) }
         ensures passes { input.old.report ≡ report.Stream id
             → IfOk result (λ s. Passes id (items_in heard.entry) (told_in s)
             self.old.streams.entries input.old self.new.streams.entries input.new) }
@@ -166,9 +171,10 @@ impl Connection {
     }
 
     // Reads what is kept of a stream.
-    #[tactic(auto, using(crate::proofs::KeepsOwnLemmas::hold))]
+    #[tactic(auto, using(crate::proofs::ActLemmas::act, crate::proofs::KeepsOwnLemmas::hold))]
     pub(super) fn read_kept<'a>(&mut self, id: u64) -> Result<Step<'a>, Stop>
         ensures keeps { KeepsOwn (said_by result) self.old self.new }
+        ensures works { OnOk result (WorksOn self.old self.new) }
         ensures tells { IfOk result (λ s. TellsKept (told_in s) self.old.streams.entries self.new.streams.entries) }
     {
         if !self.is_read(id) || self.is_paused(id) {
@@ -182,9 +188,10 @@ impl Connection {
     }
 
     // Handles what was heard in what is kept of a stream.
-    #[tactic(auto, using(crate::proofs::KeepsOwnLemmas::hold, crate::proofs::TellsLemmas::more_hands))]
+    #[tactic(auto, using(crate::proofs::ActLemmas::act, crate::proofs::KeepsOwnLemmas::hold, crate::proofs::TellsLemmas::more_hands))]
     fn heard_in_kept<'a>(&mut self, id: u64, heard: Heard<'a>) -> Result<Step<'a>, Stop>
         ensures keeps { KeepsOwn (said_by result) self.old self.new }
+        ensures works { OnOk result (WorksOn self.old self.new) }
         ensures hands { IfOk result (λ s. Hands id (items_in heard.entry) (told_in s)
             self.old.streams.entries self.new.streams.entries) }
     {
@@ -205,9 +212,10 @@ impl Connection {
     }
 
     // Returns what is heard next in what is kept of a stream.
-    #[tactic(auto, using(crate::proofs::KeepsOwnLemmas::hold))]
+    #[tactic(auto, using(crate::proofs::ActLemmas::act, crate::proofs::KeepsOwnLemmas::hold))]
     fn read_rest<'a>(&mut self, id: u64) -> Result<Option<Heard<'a>>, Stop>
         ensures keeps { KeepsOwn [] self.old self.new }
+        ensures works { OnOk result (WorksOn self.old self.new) }
         ensures reads { IfOk result (λ heard. ReadsKept id (items_by heard)
             self.old.streams.entries self.new.streams.entries) }
     {
@@ -221,9 +229,10 @@ impl Connection {
     }
 
     // Returns what is heard next on a stream: nothing yet, if more of its bytes are to be looked at.
-    #[tactic(auto, using(crate::proofs::KeepsOwnLemmas::hold, crate::proofs::TellsLemmas::reads_left, crate::proofs::TellsLemmas::left_reads, crate::proofs::BoundLemmas::bound, crate::proofs::BoundLemmas::bound_left))]
+    #[tactic(auto, using(crate::proofs::ActLemmas::act, crate::proofs::KeepsOwnLemmas::hold, crate::proofs::TellsLemmas::reads_left, crate::proofs::TellsLemmas::left_reads, crate::proofs::BoundLemmas::bound, crate::proofs::BoundLemmas::bound_left))]
     fn read<'a>(&mut self, id: u64, chunk: &mut Chunk<'a>) -> Result<Option<Heard<'a>>, Stop>
         ensures keeps { KeepsOwn [] self.old self.new }
+        ensures works { OnOk result (WorksOn self.old self.new) }
         ensures reads { IfOk result (λ heard. ReadsOn id (items_by heard) self.old.streams.entries chunk.old
             self.new.streams.entries chunk.new) }
         ensures bounded { OnOk result (KeepsBound self.old self.new) }
@@ -241,12 +250,14 @@ impl Connection {
     }
 
     // Returns what is found next on a stream, and by how many bytes QUIC's windows are then to be extended.
-    #[tactic(auto, using(crate::proofs::KeepsOwnLemmas::hold, crate::proofs::KeepsOwnLemmas::holds_looked, crate::proofs::InstructionLemmas::may_after, crate::proofs::InstructionLemmas::may_rest, crate::proofs::LookLemmas::reads_set, crate::proofs::TellsLemmas::left_reads, crate::proofs::StepLemmas::left_itself, crate::proofs::BoundLemmas::bound, crate::proofs::PlaceLemmas::ordered, crate::proofs::JoinedLemmas::joined))]
+    #[tactic(auto, using(crate::proofs::ActLemmas::act, crate::proofs::KeepsOwnLemmas::hold, crate::proofs::KeepsOwnLemmas::holds_looked, crate::proofs::ActLemmas::act_looked, crate::proofs::ActLemmas::reads_here, crate::proofs::ActLemmas::reads_none, crate::proofs::LookLemmas::reads_set, crate::proofs::TellsLemmas::left_reads, crate::proofs::StepLemmas::left_itself, crate::proofs::BoundLemmas::bound, crate::proofs::PlaceLemmas::ordered, crate::proofs::JoinedLemmas::joined))]
     fn look<'a>(&mut self, id: u64, chunk: &mut Chunk<'a>) -> Result<(Found<'a>, usize), Stop>
         ensures keeps { KeepsOwn [] self.old self.new }
+        ensures works { OnOk result (WorksOn self.old self.new) }
         ensures reads { IfOk result (λ r. ReadsOn id (items_found r.0) self.old.streams.entries chunk.old
             self.new.streams.entries chunk.new) }
-        ensures table { IfOk result (λ r. MayAcknowledge id (table_of self.old) (table_of self.new)) }
+        ensures table { IfOk result (λ r. MayRead id (theirs_at self.old.streams.entries id)
+            (theirs_at self.new.streams.entries id) (table_of self.old) (table_of self.new)) }
         ensures bounded { OnOk result (KeepsBound self.old self.new) }
     {
         let Some(entry) = self.streams.get_mut(&id) else {
@@ -285,9 +296,10 @@ impl Connection {
 
     // Keeps the bytes of the input, whose stream needs more, waits or is paused. QUIC's windows are extended by at most
     // `most` of them.
-    #[tactic(auto, using(crate::proofs::TellsLemmas::same_left, crate::proofs::BoundLemmas::bound_only))]
+    #[tactic(auto, using(crate::proofs::ActLemmas::act, crate::proofs::TellsLemmas::same_left, crate::proofs::BoundLemmas::bound_only))]
     fn keep<'a>(&mut self, id: u64, input: &mut Input<'a>, most: usize) -> Result<(), Stop>
         ensures keeps { KeepsOwn [] self.old self.new }
+        ensures works { OnOk result (WorksOn self.old self.new) }
         ensures same { input.old.report ≡ report.Stream id
             → OnOk result (Same self.old.streams.entries input.old self.new.streams.entries input.new) }
         ensures bounded { OnOk result (KeepsBound self.old self.new) }
@@ -297,9 +309,10 @@ impl Connection {
     }
 
     // Keeps the bytes of the input, however many are kept already.
-    #[tactic(auto, using(crate::proofs::KeepsOwnLemmas::holds_refl, crate::proofs::KeepsOwnLemmas::holds_looked, crate::proofs::LookLemmas::keep_set, crate::proofs::TellsLemmas::only_set, crate::proofs::TellsLemmas::only_none, crate::proofs::PlaceLemmas::ordered, crate::proofs::JoinedLemmas::joined))]
+    #[tactic(auto, using(crate::proofs::ActLemmas::act, crate::proofs::ActLemmas::act_kept, crate::proofs::KeepsOwnLemmas::holds_refl, crate::proofs::KeepsOwnLemmas::holds_looked, crate::proofs::LookLemmas::keep_set, crate::proofs::TellsLemmas::only_set, crate::proofs::TellsLemmas::only_none, crate::proofs::PlaceLemmas::ordered, crate::proofs::JoinedLemmas::joined))]
     fn keep_input<'a>(&mut self, id: u64, input: &mut Input<'a>, most: usize) -> Result<(), Stop>
         ensures keeps { KeepsOwn [] self.old self.new }
+        ensures works { OnOk result (WorksOn self.old self.new) }
         ensures same { input.old.report ≡ report.Stream id
             → OnOk result (Same self.old.streams.entries input.old self.new.streams.entries input.new) }
         ensures only { OnlyAt id self.old.streams.entries self.new.streams.entries }
@@ -321,9 +334,10 @@ impl Connection {
     }
 
     // Extends QUIC's windows by all that is kept of a stream: it is a frame that is cut, and the rest is to come.
-    #[tactic(auto, using(crate::proofs::KeepsOwnLemmas::hold, crate::proofs::StepLemmas::left_trans))]
+    #[tactic(auto, using(crate::proofs::ActLemmas::act, crate::proofs::KeepsOwnLemmas::hold, crate::proofs::StepLemmas::left_trans))]
     fn credit_kept(&mut self, id: u64) -> Result<(), Stop>
         ensures keeps { KeepsOwn [] self.old self.new }
+        ensures works { OnOk result (WorksOn self.old self.new) }
         ensures left { Left self.old.streams.entries self.new.streams.entries }
     {
         let owed = self.take_withheld(id);
@@ -356,9 +370,10 @@ impl Connection {
     }
 
     // Checks the bounds of what is kept of a stream, and of all.
-    #[tactic(auto, using(crate::proofs::KeepsOwnLemmas::hold, crate::proofs::BoundLemmas::gone_fits, crate::proofs::StepLemmas::left_trans))]
+    #[tactic(auto, using(crate::proofs::ActLemmas::act, crate::proofs::KeepsOwnLemmas::hold, crate::proofs::BoundLemmas::gone_fits, crate::proofs::StepLemmas::left_trans))]
     fn check_kept(&mut self, id: u64) -> Result<(), Stop>
         ensures keeps { KeepsOwn [] self.old self.new }
+        ensures works { OnOk result (WorksOn self.old self.new) }
         ensures left { Left self.old.streams.entries self.new.streams.entries }
         ensures fits { OnOk result (Fits (most_kept self.old.config) (theirs_at self.new.streams.entries id)) }
     {
@@ -465,13 +480,6 @@ impl Connection {
     {
         match self.streams.get(&id) {
             Some(entry) => entry.is_decoder,
-            None => false,
-        }
-    }
-
-    fn is_paused(&self, id: u64) -> bool {
-        match self.streams.get(&id) {
-            Some(entry) => entry.is_paused,
             None => false,
         }
     }

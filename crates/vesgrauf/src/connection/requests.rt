@@ -3,6 +3,7 @@ ghost use Rattle.std.specs.Prelude.{◌≡◌, false, true, is_some, Some, None,
 ghost use Rattle.vesgrauf_stream.specs.Headers.{request_at, SendsHeaders};
 ghost use Rattle.vesgrauf_stream.specs.Reading.{kept_of};
 ghost use Rattle.vesgrauf.specs.Halves.{LastsOn};
+ghost use Rattle.vesgrauf.specs.Instructions.{table_of};
 ghost use Rattle.vesgrauf.specs.Keeps.{Keeps};
 ghost use Rattle.vesgrauf.specs.Messages.{allowed, Encodes, IsRequest};
 ghost use Rattle.vesgrauf.specs.Ids.{taken};
@@ -48,6 +49,7 @@ impl Connection {
         ensures kept { OnErr result (Keeps [] self.old self.new) }
         ensures goes { IfOk result (λ id. GoesOn [] self.old self.new × (knows self.new id ≡ true)) }
         ensures lasts { IfOk result (λ id. LastsOn [] self.old self.new) }
+        ensures table { IfOk result (λ id. table_of self.new ≡ table_of self.old) }
         ensures begins { IfOk result (λ id. Of (stream_at self.new id) (λ e. Encodes (λ s t. IsRequest self.old.config
             (λ v w. SendsHeaders (request_at v id (allowed self.old)) list.now fin s t v w) e) self.old self.new)) }
         ensures others { IfOk result (λ id. view_of self.new ≡ with_own self.new (record (view_of self.old) {

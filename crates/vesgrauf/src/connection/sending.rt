@@ -14,6 +14,7 @@ ghost use Rattle.vesgrauf.specs.declared.refused.Refused.TheVariants as refused;
 ghost use Rattle.vesgrauf.specs.Own.{own_at, Took, TookAlone, Untouched, UntouchedBut};
 ghost use Rattle.vesgrauf.specs.Theirs.{Left, IsSilent};
 ghost use Rattle.vesgrauf.specs.Told.{GoesOn, said_in};
+ghost use Rattle.vesgrauf.specs.Works.{IsCall, WorksOn};
 
 use crate::connection::placing::{give_place, keep_place};
 use crate::connection::{Connection, Step};
@@ -50,7 +51,7 @@ impl Connection {
     /// # Errors
     ///
     /// `NotAsked` if there is none. `Memory`: nothing changes, and the call is to be made again.
-    #[tactic(auto, using(crate::proofs::KeepsLemmas::kept, crate::proofs::OwnLemmas::untouched_set, crate::proofs::TheirsLemmas::left_set, crate::proofs::GoesLemmas::goes_set, crate::proofs::LastsLemmas::lasts_refl))]
+    #[tactic(auto, using(crate::proofs::ActLemmas::act, crate::proofs::ActLemmas::act_still, crate::proofs::ActLemmas::act_kept, crate::proofs::KeepsLemmas::kept, crate::proofs::OwnLemmas::untouched_set, crate::proofs::TheirsLemmas::left_set, crate::proofs::GoesLemmas::goes_set, crate::proofs::LastsLemmas::lasts_refl))]
     pub fn output_taken(&mut self) -> Result<(), Refused>
         ensures taken { OnOk result (self.old.closes ≡ None
             → TakesFirst self.old.outputs.items self.new.outputs.items) }
@@ -66,6 +67,7 @@ impl Connection {
         ensures config { self.new.config ≡ self.old.config }
         ensures goes { GoesOn [] self.old self.new }
         ensures lasts { LastsOn [] self.old self.new }
+        ensures works { WorksOn self.old self.new }
     {
         if self.closes.is_some() {
             self.closes = None;
@@ -162,7 +164,7 @@ impl Connection {
     ///
     /// `NoStream`; `NotAsked` if so many bytes were not returned; `Memory`: nothing changes, and the call is to be made
     /// again.
-    #[tactic(auto, using(crate::proofs::KeepsLemmas::kept, crate::proofs::LastsLemmas::lasts_refl))]
+    #[tactic(auto, using(crate::proofs::ActLemmas::act, crate::proofs::ActLemmas::act_still, crate::proofs::ActSteps::call_works, crate::proofs::ActSteps::call_taken, crate::proofs::KeepsLemmas::kept, crate::proofs::LastsLemmas::lasts_refl))]
     pub fn sent(&mut self, id: u64, len: usize) -> Result<(), Refused>
         ensures refused { IfErr result (λ e. IsRefused e self.old self.new) }
         ensures own { UntouchedBut id self.old.streams.entries self.new.streams.entries }
@@ -178,6 +180,7 @@ impl Connection {
         ensures encoder { OnOk result (is_it id self.old.control.id ≡ false → is_it id self.old.decoder.id ≡ false
             → is_it id self.old.encoder.id ≡ true → TookOwn len self.old.encoder self.new.encoder) }
         ensures lasts { LastsBut id self.old self.new }
+        ensures calls { IsCall self.old self.new }
     {
         self.reserve()?;
         let spares = &mut self.tools.spares;
@@ -194,7 +197,7 @@ impl Connection {
     }
 
     // QUIC took bytes of a stream that is not critical.
-    #[tactic(auto, using(crate::proofs::KeepsLemmas::kept, crate::proofs::OwnLemmas::took_alone, crate::proofs::StepLemmas::left_trans, crate::proofs::OwnLemmas::but_then))]
+    #[tactic(auto, using(crate::proofs::ActLemmas::act, crate::proofs::ActLemmas::act_still, crate::proofs::ActLemmas::act_kept, crate::proofs::KeepsLemmas::kept, crate::proofs::OwnLemmas::took_alone, crate::proofs::StepLemmas::left_trans, crate::proofs::OwnLemmas::but_then))]
     fn sent_on(&mut self, id: u64, len: usize) -> Result<(), Refused>
         ensures refused { IfErr result (λ e. IsRefused e self.old self.new) }
         ensures own { UntouchedBut id self.old.streams.entries self.new.streams.entries }
@@ -204,6 +207,7 @@ impl Connection {
         ensures config { self.new.config ≡ self.old.config }
         ensures goes { GoesOn [] self.old self.new }
         ensures lasts { LastsBut id self.old self.new }
+        ensures works { WorksOn self.old self.new }
     {
         let is_done = self.message_sent(id, len)?;
         Ok(self.after_sent(id, is_done)?)
@@ -224,7 +228,7 @@ impl Connection {
     // QUIC took bytes of a stream that is not critical, whose turn it was. Returns whether nothing is to be done for its own
     // half any more.
     #[inline(always)]
-    #[tactic(auto, using(crate::proofs::KeepsLemmas::kept, crate::proofs::OwnLemmas::took_set, crate::proofs::TheirsLemmas::left_set, crate::proofs::GoesLemmas::goes_set, std::proofs::lemmas::Map::Steps::set_value_same, crate::proofs::PlaceLemmas::ordered_turned, crate::proofs::JoinedLemmas::joined_stays, crate::proofs::SeveredLemmas::stays_put, crate::proofs::LastsLemmas::lasts_refl, crate::proofs::LastsLemmas::lasts_but_set))]
+    #[tactic(auto, using(crate::proofs::ActLemmas::act, crate::proofs::ActLemmas::act_still, crate::proofs::ActLemmas::act_kept, crate::proofs::KeepsLemmas::kept, crate::proofs::OwnLemmas::took_set, crate::proofs::TheirsLemmas::left_set, crate::proofs::GoesLemmas::goes_set, std::proofs::lemmas::Map::Steps::set_value_same, crate::proofs::PlaceLemmas::ordered_turned, crate::proofs::JoinedLemmas::joined_stays, crate::proofs::SeveredLemmas::stays_put, crate::proofs::LastsLemmas::lasts_refl, crate::proofs::LastsLemmas::lasts_but_set))]
     fn message_sent(&mut self, id: u64, len: usize) -> Result<bool, Refused>
         ensures refused { OnErr result (IsStill self.old self.new) }
         ensures own { UntouchedBut id self.old.streams.entries self.new.streams.entries }
@@ -234,6 +238,7 @@ impl Connection {
         ensures config { self.new.config ≡ self.old.config }
         ensures goes { GoesOn [] self.old self.new }
         ensures lasts { LastsBut id self.old self.new }
+        ensures works { WorksOn self.old self.new }
     {
         let Some(entry) = self.streams.get_mut(&id) else {
             return Err(Refused::NoStream);
@@ -301,7 +306,7 @@ impl Connection {
     ///
     /// `NotAsked` if QUIC did not take so many. `Memory`: nothing changes, and the call is to be made again. There is
     /// none if the stream is forgotten.
-    #[tactic(auto, using(crate::proofs::KeepsLemmas::kept, crate::proofs::OwnLemmas::untouched_set, crate::proofs::TheirsLemmas::left_set, crate::proofs::GoesLemmas::goes_set, std::proofs::lemmas::Map::Steps::set_value_same, crate::proofs::LastsLemmas::lasts_refl))]
+    #[tactic(auto, using(crate::proofs::ActSteps::act_acked, crate::proofs::ActLemmas::act, crate::proofs::ActLemmas::act_still, crate::proofs::ActLemmas::act_kept, crate::proofs::KeepsLemmas::kept, crate::proofs::OwnLemmas::untouched_set, crate::proofs::TheirsLemmas::left_set, crate::proofs::GoesLemmas::goes_set, std::proofs::lemmas::Map::Steps::set_value_same, crate::proofs::LastsLemmas::lasts_refl))]
     pub fn acked(&mut self, id: u64, len: u64) -> Result<(), Refused>
         ensures refused { IfErr result (λ e. IsRefused e self.old self.new) }
         ensures control { OnOk result (is_it id self.old.control.id ≡ true
@@ -318,6 +323,7 @@ impl Connection {
         ensures config { self.new.config ≡ self.old.config }
         ensures goes { GoesOn [] self.old self.new }
         ensures lasts { LastsBut id self.old self.new }
+        ensures works { WorksOn self.old self.new }
     {
         self.reserve()?;
         let spares = &mut self.tools.spares;
@@ -389,13 +395,14 @@ impl Connection {
     /// # Errors
     ///
     /// `Memory`: nothing changes, and the call is to be made again.
-    #[tactic(auto, using(crate::proofs::KeepsLemmas::kept, crate::proofs::IdLemmas::goes_blocked, crate::proofs::JoinedLemmas::joined_blocked, crate::proofs::LastsLemmas::lasts_refl))]
+    #[tactic(auto, using(crate::proofs::ActSteps::act_goes, crate::proofs::ActLemmas::act, crate::proofs::ActLemmas::act_still, crate::proofs::ActLemmas::act_kept, crate::proofs::KeepsLemmas::kept, crate::proofs::IdLemmas::goes_blocked, crate::proofs::JoinedLemmas::joined_blocked, crate::proofs::LastsLemmas::lasts_refl))]
     pub fn set_blocked(&mut self, scope: Scope, blocked: bool) -> Result<(), Refused>
         ensures ok { OnOk result (view_of self.new ≡ blocked_at scope self.old blocked) }
         ensures err { IfErr result (λ e. e ≡ refused.Memory) }
         ensures kept { OnErr result (IsStill self.old self.new) }
         ensures goes { GoesOn [] self.old self.new }
         ensures lasts { LastsOn [] self.old self.new }
+        ensures works { WorksOn self.old self.new }
     {
         match scope {
             Scope::Kind(kind) => {
@@ -411,13 +418,14 @@ impl Connection {
     }
 
     // QUIC takes nothing of a stream for now, or does again.
-    #[tactic(auto, using(crate::proofs::KeepsLemmas::kept, std::proofs::lemmas::Map::Steps::set_value_same, crate::proofs::GoesLemmas::goes_set, crate::proofs::PlaceLemmas::ordered, crate::proofs::JoinedLemmas::joined, crate::proofs::PlaceLemmas::ordered_blocked, crate::proofs::PlaceLemmas::ordered_quiet, crate::proofs::PlaceLemmas::ordered_closed, crate::proofs::SendsLemmas::lasts_as_before, crate::proofs::SendsLemmas::lasting_same, crate::proofs::LastsLemmas::lasts_refl))]
+    #[tactic(auto, using(crate::proofs::ActLemmas::act, crate::proofs::ActLemmas::act_still, crate::proofs::ActLemmas::act_kept, crate::proofs::KeepsLemmas::kept, std::proofs::lemmas::Map::Steps::set_value_same, crate::proofs::GoesLemmas::goes_set, crate::proofs::PlaceLemmas::ordered, crate::proofs::JoinedLemmas::joined, crate::proofs::PlaceLemmas::ordered_blocked, crate::proofs::PlaceLemmas::ordered_quiet, crate::proofs::PlaceLemmas::ordered_closed, crate::proofs::SendsLemmas::lasts_as_before, crate::proofs::SendsLemmas::lasting_same, crate::proofs::LastsLemmas::lasts_refl))]
     fn block_stream(&mut self, id: u64, blocked: bool) -> Result<(), Refused>
         ensures ok { OnOk result (view_of self.new ≡ blocked_in self.old id blocked) }
         ensures err { IfErr result (λ e. e ≡ refused.Memory) }
         ensures kept { OnErr result (IsStill self.old self.new) }
         ensures goes { GoesOn [] self.old self.new }
         ensures lasts { LastsOn [] self.old self.new }
+        ensures works { WorksOn self.old self.new }
     {
         if self.control.is(id) {
             self.control.is_blocked = blocked;

@@ -14,6 +14,7 @@ ghost use Rattle.vesgrauf.specs.Theirs.{Left, Gone, Hands, IsSilent, theirs_at, 
 ghost use Rattle.vesgrauf.specs.Told.{GoesOn, said_by, said_in};
 ghost use Rattle.vesgrauf.specs.Cuts.{AreCut};
 ghost use Rattle.wtp_connection.specs.declared.connection.Known.TheVariants as known;
+ghost use Rattle.vesgrauf.specs.Works.{WorksOn};
 
 use crate::connection::placing::{keep_place, take_place};
 use crate::connection::{Connection, Step, Stop};
@@ -258,7 +259,7 @@ impl Connection {
     /// last call of this, and whose session is not open, is dropped (draft-ietf-webtrans-http3-02, section 4.5; RFC 9297,
     /// section 2.1). So what comes too early waits for one to two of these times, and does not keep the place of another
     /// for ever. After the end of the connection nothing changes.
-    #[tactic(auto, using(crate::proofs::KeepsLemmas::kept, crate::proofs::LastsLemmas::lasts_refl))]
+    #[tactic(auto, using(crate::proofs::ActLemmas::act, crate::proofs::ActLemmas::act_still, crate::proofs::ActLemmas::act_kept, crate::proofs::KeepsLemmas::kept, crate::proofs::LastsLemmas::lasts_refl))]
     pub fn tick(&mut self)
         ensures over { is_over self.old ≡ true → self.new ≡ self.old }
         ensures still { IsStill self.old self.new }
@@ -273,6 +274,7 @@ impl Connection {
           pending = record self.old.pending { is_woken = true; cursor = 0 };
         } }
         ensures lasts { LastsOn [] self.old self.new }
+        ensures works { WorksOn self.old self.new }
     {
         if self.ended.is_some() {
             return;
@@ -307,7 +309,7 @@ impl Connection {
     /// # Errors
     ///
     /// Nothing changes. `Closed`; `SessionGone`; `NotOpen`; and `Memory`.
-    #[tactic(auto, using(crate::proofs::KeepsLemmas::kept, crate::proofs::TheirsLemmas::left_set, std::proofs::lemmas::Map::Steps::set_value_same, crate::proofs::GoesLemmas::goes_set, crate::proofs::PlaceLemmas::ordered, crate::proofs::JoinedLemmas::joined, crate::proofs::PlaceLemmas::ordered_sent, crate::proofs::SendsLemmas::lasts_same))]
+    #[tactic(auto, using(crate::proofs::ActLemmas::act, crate::proofs::ActLemmas::act_still, crate::proofs::ActLemmas::act_kept, crate::proofs::KeepsLemmas::kept, crate::proofs::TheirsLemmas::left_set, std::proofs::lemmas::Map::Steps::set_value_same, crate::proofs::GoesLemmas::goes_set, crate::proofs::PlaceLemmas::ordered, crate::proofs::JoinedLemmas::joined, crate::proofs::PlaceLemmas::ordered_sent, crate::proofs::SendsLemmas::lasts_same))]
     pub fn drain_session(&mut self, session: u64) -> Result<(), Refused>
         ensures open { OnOk result (open_session self.old session ≡ Ok tt) }
         ensures ok { OnOk result (Changes session Drains self.old self.new) }
@@ -318,6 +320,7 @@ impl Connection {
         ensures config { self.new.config ≡ self.old.config }
         ensures goes { GoesOn [] self.old self.new }
         ensures lasts { LastsOn [] self.old self.new }
+        ensures works { WorksOn self.old self.new }
     {
         self.check_session(session)?;
         self.begin_send(session)?;
@@ -338,7 +341,7 @@ impl Connection {
     /// # Errors
     ///
     /// Nothing changes. `Closed`; `SessionGone`; `NotOpen`; `Send` if the reason has more than 1,024 bytes; and `Memory`.
-    #[tactic(auto, using(crate::proofs::KeepsLemmas::kept, crate::proofs::OwnLemmas::but_then, crate::proofs::StepLemmas::left_trans, crate::proofs::LastsLemmas::lasts_refl))]
+    #[tactic(auto, using(crate::proofs::ActLemmas::act, crate::proofs::ActLemmas::act_still, crate::proofs::ActLemmas::act_kept, crate::proofs::KeepsLemmas::kept, crate::proofs::OwnLemmas::but_then, crate::proofs::StepLemmas::left_trans, crate::proofs::LastsLemmas::lasts_refl))]
     pub fn close_session(&mut self, session: u64, code: u32, reason: &str) -> Result<(), Refused>
         ensures open { OnOk result (open_session self.old session ≡ Ok tt) }
         ensures refused { IfErr result (λ e. IsRefused e self.old self.new) }
@@ -350,6 +353,7 @@ impl Connection {
         ensures cut { OnOk result (AreCut session self.old.streams.entries self.new.streams.entries) }
         ensures over { OnOk result (holds_in (entry_at self.new.streams.entries session) ≡ false) }
         ensures lasts { LastsBut session self.old self.new }
+        ensures works { WorksOn self.old self.new }
     {
         self.check_session(session)?;
         self.put_close(session, code, reason)?;
@@ -357,7 +361,7 @@ impl Connection {
     }
 
     // Queues the end of a session.
-    #[tactic(auto, using(crate::proofs::KeepsLemmas::kept, crate::proofs::TheirsLemmas::left_set, std::proofs::lemmas::Map::Steps::set_value_same, crate::proofs::GoesLemmas::goes_set, crate::proofs::LastsLemmas::lasts_refl))]
+    #[tactic(auto, using(crate::proofs::ActLemmas::act, crate::proofs::ActLemmas::act_still, crate::proofs::ActLemmas::act_kept, crate::proofs::KeepsLemmas::kept, crate::proofs::TheirsLemmas::left_set, std::proofs::lemmas::Map::Steps::set_value_same, crate::proofs::GoesLemmas::goes_set, crate::proofs::LastsLemmas::lasts_refl))]
     fn put_close(&mut self, session: u64, code: u32, reason: &str) -> Result<(), Refused>
         ensures closes { OnOk result (Changes session (ClosesSession code reason.now) self.old self.new) }
         ensures kept { OnErr result (IsStill self.old self.new) }
@@ -366,13 +370,14 @@ impl Connection {
         ensures config { self.new.config ≡ self.old.config }
         ensures goes { GoesOn [] self.old self.new }
         ensures lasts { LastsBut session self.old self.new }
+        ensures works { WorksOn self.old self.new }
     {
         self.begin_send(session)?;
         self.close_half(session, code, reason)
     }
 
     // Ends the own half of a session, by its end or by a code and a reason.
-    #[tactic(auto, using(crate::proofs::KeepsLemmas::kept, crate::proofs::TheirsLemmas::left_set, std::proofs::lemmas::Map::Steps::set_value_same, crate::proofs::GoesLemmas::goes_set, crate::proofs::PlaceLemmas::ordered, crate::proofs::PlaceLemmas::ordered_sent, crate::proofs::LastsLemmas::lasts_refl))]
+    #[tactic(auto, using(crate::proofs::ActLemmas::act, crate::proofs::ActLemmas::act_still, crate::proofs::ActLemmas::act_kept, crate::proofs::KeepsLemmas::kept, crate::proofs::TheirsLemmas::left_set, std::proofs::lemmas::Map::Steps::set_value_same, crate::proofs::GoesLemmas::goes_set, crate::proofs::PlaceLemmas::ordered, crate::proofs::PlaceLemmas::ordered_sent, crate::proofs::LastsLemmas::lasts_refl))]
     fn close_half(&mut self, session: u64, code: u32, reason: &str) -> Result<(), Refused>
         ensures closes { OnOk result (Changes session (ClosesSession code reason.now) self.old self.new) }
         ensures kept { OnErr result (IsStill self.old self.new) }
@@ -381,6 +386,7 @@ impl Connection {
         ensures config { self.new.config ≡ self.old.config }
         ensures goes { GoesOn [] self.old self.new }
         ensures lasts { LastsBut session self.old self.new }
+        ensures works { WorksOn self.old self.new }
     {
         if says_nothing(code, reason) {
             return self.end_half(session);
@@ -389,7 +395,7 @@ impl Connection {
     }
 
     // Ends the own half of a session by its end.
-    #[tactic(auto, using(crate::proofs::KeepsLemmas::kept, crate::proofs::TheirsLemmas::left_set, std::proofs::lemmas::Map::Steps::set_value_same, crate::proofs::GoesLemmas::goes_set, crate::proofs::PlaceLemmas::ordered, crate::proofs::JoinedLemmas::joined, crate::proofs::LastsLemmas::lasts_refl, crate::proofs::LastsLemmas::lasts_but_set))]
+    #[tactic(auto, using(crate::proofs::ActLemmas::act, crate::proofs::ActLemmas::act_still, crate::proofs::ActLemmas::act_kept, crate::proofs::KeepsLemmas::kept, crate::proofs::TheirsLemmas::left_set, std::proofs::lemmas::Map::Steps::set_value_same, crate::proofs::GoesLemmas::goes_set, crate::proofs::PlaceLemmas::ordered, crate::proofs::JoinedLemmas::joined, crate::proofs::LastsLemmas::lasts_refl, crate::proofs::LastsLemmas::lasts_but_set))]
     fn end_half(&mut self, session: u64) -> Result<(), Refused>
         ensures ends { OnOk result (Changes session EndsHalf self.old self.new) }
         ensures kept { OnErr result (IsStill self.old self.new) }
@@ -398,6 +404,7 @@ impl Connection {
         ensures config { self.new.config ≡ self.old.config }
         ensures goes { GoesOn [] self.old self.new }
         ensures lasts { LastsBut session self.old self.new }
+        ensures works { WorksOn self.old self.new }
     {
         let Some(entry) = self.streams.get_mut(&session) else {
             return Err(Refused::NotOpen);
@@ -409,7 +416,7 @@ impl Connection {
     }
 
     // Ends the own half of a session by a code and a reason.
-    #[tactic(auto, using(crate::proofs::KeepsLemmas::kept, crate::proofs::TheirsLemmas::left_set, std::proofs::lemmas::Map::Steps::set_value_same, crate::proofs::GoesLemmas::goes_set, crate::proofs::PlaceLemmas::ordered, crate::proofs::JoinedLemmas::joined, crate::proofs::LastsLemmas::lasts_refl, crate::proofs::LastsLemmas::lasts_but_set))]
+    #[tactic(auto, using(crate::proofs::ActLemmas::act, crate::proofs::ActLemmas::act_still, crate::proofs::ActLemmas::act_kept, crate::proofs::KeepsLemmas::kept, crate::proofs::TheirsLemmas::left_set, std::proofs::lemmas::Map::Steps::set_value_same, crate::proofs::GoesLemmas::goes_set, crate::proofs::PlaceLemmas::ordered, crate::proofs::JoinedLemmas::joined, crate::proofs::LastsLemmas::lasts_refl, crate::proofs::LastsLemmas::lasts_but_set))]
     fn say_close(&mut self, session: u64, code: u32, reason: &str) -> Result<(), Refused>
         ensures closes { OnOk result (Changes session (ClosesHalf code reason.now) self.old self.new) }
         ensures kept { OnErr result (IsStill self.old self.new) }
@@ -418,6 +425,7 @@ impl Connection {
         ensures config { self.new.config ≡ self.old.config }
         ensures goes { GoesOn [] self.old self.new }
         ensures lasts { LastsBut session self.old self.new }
+        ensures works { WorksOn self.old self.new }
     {
         let Some(entry) = self.streams.get_mut(&session) else {
             return Err(Refused::NotOpen);

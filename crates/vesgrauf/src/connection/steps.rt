@@ -8,6 +8,7 @@ ghost use Rattle.vesgrauf.specs.Told.{ends, word_of, said_by, told_now, told_by_
 ghost use Rattle.vesgrauf.specs.Halves.{ending_queued};
 ghost use Rattle.vesgrauf.specs.Items.{items_told};
 ghost use Rattle.vesgrauf.specs.Theirs.{Accepts, Tells, TellsAll, told_by, told_in};
+ghost use Rattle.vesgrauf.specs.Works.{WorksOn};
 
 use crate::connection::{Connection, Step, Stop};
 use crate::event::{Event, EventKind};
@@ -16,7 +17,7 @@ use std::alloc::AllocError;
 
 impl Connection {
     // Returns the next event, as `next_event` does: the first that is queued, or that of as many steps as it takes.
-    #[tactic(auto, using(crate::proofs::KeepsOwnLemmas::hold, crate::proofs::StepLemmas::queued_all, crate::proofs::BoundLemmas::bound))]
+    #[tactic(auto, using(crate::proofs::ActLemmas::act, crate::proofs::KeepsOwnLemmas::hold, crate::proofs::StepLemmas::queued_all, crate::proofs::BoundLemmas::bound))]
     pub(super) fn next_by_steps<'a>(
         &mut self,
         input: &mut Input<'a>,
@@ -24,6 +25,7 @@ impl Connection {
         ensures last { IsAfterEnd self.old → IsSomeOk result (λ e. is_last e.kind ≡ true) }
         ensures over { IsAfterEnd self.old → IsAfterEnd self.new }
         ensures keeps { KeepsOwn (told_by_call result) self.old self.new }
+        ensures works { OnOk result (WorksOn self.old self.new) }
         ensures told { is_over self.new ≡ false → IfOk result (λ e. TellsAll self.old.ids (told_by e)
             self.old.streams.entries input.old self.new.streams.entries input.new) }
         ensures settled { result ≡ Ok None → IsSettled self.new input.new }
@@ -36,7 +38,7 @@ impl Connection {
     }
 
     // Returns the next event, after the streams up to that of the input are registered.
-    #[tactic(auto, using(crate::proofs::KeepsOwnLemmas::hold, crate::proofs::BoundLemmas::bound, crate::proofs::BoundLemmas::bound_start))]
+    #[tactic(auto, using(crate::proofs::ActLemmas::act, crate::proofs::KeepsOwnLemmas::hold, crate::proofs::BoundLemmas::bound, crate::proofs::BoundLemmas::bound_start))]
     fn accept_and_step<'a>(
         &mut self,
         input: &mut Input<'a>,
@@ -44,6 +46,7 @@ impl Connection {
         ensures last { IsAfterEnd self.old → IsSomeOk result (λ e. is_last e.kind ≡ true) }
         ensures over { IsAfterEnd self.old → IsAfterEnd self.new }
         ensures keeps { KeepsOwn (told_by_call result) self.old self.new }
+        ensures works { OnOk result (WorksOn self.old self.new) }
         ensures told { is_over self.new ≡ false → IfOk result (λ e. TellsAll self.old.ids (told_by e)
             self.old.streams.entries input.old self.new.streams.entries input.new) }
         ensures settled { result ≡ Ok None → IsSettled self.new input.new }
@@ -54,10 +57,11 @@ impl Connection {
     }
 
     // Registers the streams of the peer up to that of a report. An error ends the connection.
-    #[tactic(auto, using(crate::proofs::KeepsOwnLemmas::hold))]
+    #[tactic(auto, using(crate::proofs::ActLemmas::act, crate::proofs::KeepsOwnLemmas::hold))]
     fn accept_or_fail(&mut self, report: Report) -> Result<(), AllocError>
         ensures still { is_over self.old ≡ true → (self.new ≡ self.old) × (result ≡ Ok tt) }
         ensures keeps { KeepsOwn [] self.old self.new }
+        ensures works { OnOk result (WorksOn self.old self.new) }
         ensures accepts { is_over self.new ≡ false
             → Accepts self.old.ids self.old.streams.entries self.new.ids self.new.streams.entries }
     {
@@ -75,7 +79,7 @@ impl Connection {
     }
 
     // Returns the next event, by as many steps as it takes.
-    #[tactic(auto, using(crate::proofs::KeepsOwnLemmas::hold, crate::proofs::StepLemmas::quiet_then, crate::proofs::StepLemmas::queued_tells, crate::proofs::StepLemmas::nothing_tells, crate::proofs::BoundLemmas::bound))]
+    #[tactic(auto, using(crate::proofs::ActLemmas::act, crate::proofs::KeepsOwnLemmas::hold, crate::proofs::StepLemmas::quiet_then, crate::proofs::StepLemmas::queued_tells, crate::proofs::StepLemmas::nothing_tells, crate::proofs::BoundLemmas::bound))]
     pub(super) fn take_steps<'a>(
         &mut self,
         input: &mut Input<'a>,
@@ -84,6 +88,7 @@ impl Connection {
         ensures over { IsAfterEnd self.old → IsAfterEnd self.new }
         ensures ends { is_over self.old ≡ true → is_over self.new ≡ true }
         ensures keeps { KeepsOwn (told_by_call result) self.old self.new }
+        ensures works { OnOk result (WorksOn self.old self.new) }
         ensures told { is_over self.new ≡ false → IfOk result (λ e. Tells (told_by e)
             self.old.streams.entries input.old self.new.streams.entries input.new) }
         ensures settled { result ≡ Ok None → IsSettled self.new input.new }
@@ -107,12 +112,13 @@ impl Connection {
     }
 
     // Takes a step, before the end of the connection or after it.
-    #[tactic(auto, using(crate::proofs::KeepsOwnLemmas::hold, crate::proofs::BoundLemmas::bound))]
+    #[tactic(auto, using(crate::proofs::ActLemmas::act, crate::proofs::KeepsOwnLemmas::hold, crate::proofs::BoundLemmas::bound))]
     fn try_step<'a>(&mut self, input: &mut Input<'a>) -> Result<Step<'a>, AllocError>
         ensures last { IsAfterEnd self.old → IfOk result (λ s. IsTold s (λ e. is_last e.kind ≡ true)) }
         ensures over { IsAfterEnd self.old → IsAfterEnd self.new }
         ensures ends { is_over self.old ≡ true → is_over self.new ≡ true }
         ensures keeps { KeepsOwn (said_by result) self.old self.new }
+        ensures works { OnOk result (WorksOn self.old self.new) }
         ensures told { is_over self.new ≡ false → IfOk result (λ s. Tells (told_in s)
             self.old.streams.entries input.old self.new.streams.entries input.new) }
         ensures bounded { is_over self.new ≡ false → OnOk result (KeepsBound self.old self.new) }
@@ -124,9 +130,10 @@ impl Connection {
     }
 
     // Takes a step. An error ends the connection.
-    #[tactic(auto, using(crate::proofs::KeepsOwnLemmas::hold, crate::proofs::BoundLemmas::bound))]
+    #[tactic(auto, using(crate::proofs::ActLemmas::act, crate::proofs::KeepsOwnLemmas::hold, crate::proofs::BoundLemmas::bound))]
     fn step_or_fail<'a>(&mut self, input: &mut Input<'a>) -> Result<Step<'a>, AllocError>
         ensures keeps { KeepsOwn (said_by result) self.old self.new }
+        ensures works { OnOk result (WorksOn self.old self.new) }
         ensures told { is_over self.new ≡ false → IfOk result (λ s. Tells (told_in s)
             self.old.streams.entries input.old self.new.streams.entries input.new) }
         ensures bounded { is_over self.new ≡ false → OnOk result (KeepsBound self.old self.new) }

@@ -1,12 +1,12 @@
 //! The own streams of QPACK (RFC 9204, sections 4.2 to 4.4).
-ghost use Rattle.std.specs.Prelude.{◌≡◌, OnOk, OnErr, IfErr, []};
+ghost use Rattle.std.specs.Prelude.{◌≡◌, ◌++◌, OnOk, OnErr, IfErr, []};
 ghost use Rattle.vesgrauf.specs.Cuts.{Alone};
 ghost use Rattle.vesgrauf.specs.Keeps.{Keeps};
 ghost use Rattle.vesgrauf.specs.Own.{is_sent};
 ghost use Rattle.vesgrauf.specs.State.{stream_at, IsStill, Instructs, SaysAll, SaysOrWaits, view_of, with_begun};
 ghost use Rattle.vesgrauf.specs.declared.connection.Stop.TheVariants as stop;
 ghost use Rattle.vesgrauf.specs.Bounds.{InstructionsFit};
-ghost use Rattle.vesgrauf.specs.Instructions.{TellsInserts, Cancels, table_of};
+ghost use Rattle.vesgrauf.specs.Instructions.{TellsInserts, Cancels, first_bytes, table_of};
 ghost use Rattle.vesgrauf.specs.Told.{GoesOn};
 
 use crate::connection::failing::EXCESSIVE_LOAD;
@@ -31,6 +31,8 @@ impl Connection {
     pub(super) fn begin_decoder(&mut self) -> Result<(), AllocError>
         ensures others { view_of self.new ≡ with_begun self.new (view_of self.old) }
         ensures control { self.new.control ≡ self.old.control }
+        ensures instructions { OnOk result ((table_of self.new).bytes
+            ≡ (table_of self.old).bytes ++ first_bytes self.old.config) }
         ensures goes { GoesOn [] self.old self.new }
     {
         if self.config.qpack_max_table_capacity == 0 {
@@ -90,13 +92,13 @@ impl Connection {
     }
 
     // Queues the instructions that are due on the own streams of QPACK.
-    #[tactic(auto, using(crate::proofs::KeepsLemmas::kept, crate::proofs::InstructionLemmas::table_queued))]
+    #[tactic(auto, using(crate::proofs::KeepsLemmas::keep, crate::proofs::InstructionLemmas::table_queued))]
     pub(super) fn queue_instructions(&mut self) -> Result<(), Stop>
         ensures ok { OnOk result (Instructs SaysAll self.old self.new) }
         ensures any { Instructs SaysOrWaits self.old self.new }
         ensures table { table_of self.new ≡ table_of self.old }
         ensures err { IfErr result (λ e. e ≡ stop.Memory) }
-        ensures goes { GoesOn [] self.old self.new }
+        ensures keeps { Keeps [] self.old self.new }
     {
         if self.decoder.id.is_some() {
             if self
@@ -136,6 +138,7 @@ impl Connection {
     pub(super) fn queue_due(&mut self)
         ensures due { Instructs SaysOrWaits self.old self.new }
         ensures table { table_of self.new ≡ table_of self.old }
+        ensures keeps { Keeps [] self.old self.new }
         ensures goes { GoesOn [] self.old self.new }
     {
         let _later = self.queue_instructions();
@@ -158,6 +161,7 @@ impl Connection {
     }
 
     // Tells the peer's encoder of the insertions that it does not know of (RFC 9204, section 4.4.3).
+    #[tactic(auto, using(crate::proofs::KeepsLemmas::keep, crate::proofs::CancelLemmas::keeps_counted))]
     pub(super) fn count_inserts(&mut self) -> Result<(), AllocError>
         ensures ok { OnOk result (TellsInserts self.old self.new) }
         ensures err { OnErr result (IsStill self.old self.new) }
@@ -167,7 +171,7 @@ impl Connection {
     }
 
     // Tells the peer's encoder that a stream is left, once (RFC 9204, section 2.2.2.2).
-    #[tactic(auto, using(crate::proofs::KeepsLemmas::keep, crate::proofs::CutLemmas::alone, crate::proofs::ReadsLemmas::set_here, std::proofs::lemmas::Map::Steps::set_value_same, crate::proofs::PlaceLemmas::ordered, crate::proofs::JoinedLemmas::joined))]
+    #[tactic(auto, using(crate::proofs::KeepsLemmas::keep, crate::proofs::CancelLemmas::keeps_cancelled, crate::proofs::CutLemmas::alone, crate::proofs::ReadsLemmas::set_here, std::proofs::lemmas::Map::Steps::set_value_same, crate::proofs::PlaceLemmas::ordered, crate::proofs::JoinedLemmas::joined))]
     pub(super) fn cancel(&mut self, id: u64) -> Result<(), AllocError>
         ensures ok { OnOk result (Cancels id self.old self.new) }
         ensures err { OnErr result (IsStill self.old self.new) }

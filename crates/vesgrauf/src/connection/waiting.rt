@@ -44,11 +44,27 @@ impl Connection {
     {
         self.wait(id)?;
         if matches!(wait, Waits::Table(_)) && self.has_too_many_blocked() {
-            if let Said::ConnectionError(fault) = self.shared.too_many_blocked() {
+            if let Said::ConnectionError(fault) = self.blocks_too_many() {
                 return Err(Stop::from(fault));
             }
         }
         Ok(())
+    }
+
+    // More streams wait for the dynamic table than may.
+    #[tactic(auto, using(crate::proofs::KeepsLemmas::keep, crate::proofs::TableSteps::keeps_blocked))]
+    fn blocks_too_many(&mut self) -> Said<'static>
+        ensures keeps { Keeps [] self.old self.new }
+    {
+        self.shared.too_many_blocked()
+    }
+
+    // Returns whether the program wants no events of a stream.
+    pub(super) fn is_paused(&self, id: u64) -> bool {
+        match self.streams.get(&id) {
+            Some(entry) => entry.is_paused,
+            None => false,
+        }
     }
 
     // Returns whether more streams wait for the dynamic table than may.

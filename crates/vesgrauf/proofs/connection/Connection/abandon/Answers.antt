@@ -1,11 +1,14 @@
-use Rattle.vesgrauf.proofs.KeepsLemmas.{keeps_turned}
+use Rattle.vesgrauf.proofs.KeepsLemmas.{keeps_turned, keeps_tabled, keeps_then}
+use Rattle.vesgrauf.specs.Instructions.{table_by, table_of}
 use Rattle.vesgrauf.specs.Keeps.{KeepsAll}
 use Rattle.vesgrauf.specs.Own.{entry_at}
 use Rattle.vesgrauf.specs.declared.entry.Entry.{Entry}
 use Rattle.std.specs.BTreeMap.{is_at}
 use Rattle.std.specs.Map.{set_value}
 use Rattle.std.specs.Ordering.{nat_cmp}
-use Rattle.std.proofs.Common.{rules, ◌≡◌, refl, sym, subst, Some, ℕ, List, None, []}
+use Rattle.std.proofs.Common.{rules, ◌≡◌, refl, sym, subst, Some, ℕ, List, None, [], ◌++◌}
+use Rattle.vesgrauf_queue.specs.State.{waiting}
+use Rattle.vesgrauf.proofs.TableLemmas.{same_table, told_table, abandons_same}
 use Rattle.vesgrauf.proofs.connection.Connection.abandon.Goals as goal
 
 pub returns-in-Some-clause-keeps : goal.returns-in-Some-clause-keeps
@@ -14,7 +17,10 @@ returns-in-Some-clause-keeps c =
     let there : entry_at c.args.self.now.streams.entries c.args.id ≡ Some e = search (rules) in
     let written : (f : Entry) → (c.get_mut.follows.lender f).entries
     ≡ set_value (is_at (nat_cmp c.args.id)) c.args.self.now.streams.entries f = λ f. search (rules) in
-    subst (λ (x : List (ℕ × Entry)). KeepsAll None [] c.args.self.now.streams.entries c.args.self.now.ids c.args.self.now.events.items c.args.self.now.config
-    c.args.self.now.ended x c.args.self.now.ids c.args.self.now.events.items c.args.self.now.config c.args.self.now.ended) (sym (written _))
-    (keeps_turned c.args.self.now.streams.entries c.args.self.now.ids c.args.self.now.events.items c.args.self.now.config c.args.self.now.ended c.args.id e _ there
+    subst (λ (x : List (ℕ × Entry)). KeepsAll None [] c.args.self.now.streams.entries c.args.self.now.ids (table_of c.args.self.now) c.args.self.now.events.items c.args.self.now.config
+    c.args.self.now.ended x c.args.self.now.ids (table_by c.abandon.new.shared (waiting c.args.self.now.decoder.queue ++ c.args.self.now.told.items)) c.args.self.now.events.items c.args.self.now.config c.args.self.now.ended) (sym (written _))
+    (keeps_then
+    (keeps_turned c.args.self.now.streams.entries c.args.self.now.ids _ c.args.self.now.events.items c.args.self.now.config c.args.self.now.ended c.args.id e _ there
     c.abandon.ensures.moves c.abandon.ensures.rest refl refl refl refl)
+    (keeps_tabled None _ _ _ _ _ _ _ (same_table c.args.self.now.shared c.abandon.new.shared _
+    (told_table c.args.self.now.shared c.abandon.new.shared c.abandon.ensures.told (abandons_same c.args.self.now.shared e.reading.stream)))))

@@ -1,5 +1,6 @@
 use Rattle.vesgrauf.proofs.JoinedLemmas.{joined_dropped, joined_member, joined_noted}
 use Rattle.std.proofs.Common.{rules, None, [], ap}
+use Rattle.vesgrauf.specs.Instructions.{table_of}
 use Rattle.vesgrauf.specs.Keeps.{KeepsAll}
 use Rattle.vesgrauf.proofs.KeepsLemmas.{keeps_refl}
 use Rattle.vesgrauf.proofs.CutLemmas.{on_err_is}
@@ -8,16 +9,16 @@ use Rattle.vesgrauf.proofs.connection.Connection.add_member.Goals as goal
 
 pub returns-in_err-note-clause-kept : goal.returns-in_err-note-clause-kept
 returns-in_err-note-clause-kept c = on_err_is c.from_residual.result
-    (KeepsAll None [] c.args.self.now.streams.entries c.args.self.now.ids c.args.self.now.events.items
-    c.args.self.now.config c.args.self.now.ended c.args.self.now.streams.entries c.note.new.self
+    (KeepsAll None [] c.args.self.now.streams.entries c.args.self.now.ids (table_of c.args.self.now) c.args.self.now.events.items
+    c.args.self.now.config c.args.self.now.ended c.args.self.now.streams.entries c.note.new.self (table_of c.args.self.now)
     c.args.self.now.events.items c.args.self.now.config c.args.self.now.ended)
     (rw c.in_err-note.ensures
-    (keeps_refl None c.args.self.now.streams.entries c.args.self.now.ids c.args.self.now.events.items
+    (keeps_refl None c.args.self.now.streams.entries c.args.self.now.ids _ c.args.self.now.events.items
     c.args.self.now.config c.args.self.now.ended))
 
 pub returns-in-Err-clause-kept : goal.returns-in-Err-clause-kept
 returns-in-Err-clause-kept c = rw (ap (λ m. m.entries) c.in-Err.ensures.err)
-    (keeps_unnoted None c.args.self.now.streams.entries c.args.self.now.ids c.forget.new.self
+    (keeps_unnoted None c.args.self.now.streams.entries c.args.self.now.ids c.forget.new.self _
     c.args.self.now.events.items c.args.self.now.config c.args.self.now.ended c.args.id c.in-Err.ensures.absent
     (drops_trans c.args.id c.args.self.now.ids c.note.new.self c.forget.new.self
     (notes_at c.args.session c.args.id c.args.self.now.ids c.note.new.self c.in_ok-note.ensures)

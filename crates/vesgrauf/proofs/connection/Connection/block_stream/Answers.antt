@@ -1,6 +1,6 @@
 use Rattle.vesgrauf.specs.Places.{Ordered}
 use Rattle.vesgrauf.specs.Joined.{Joined}
-use Rattle.std.proofs.Common.{rules, ◌≡◌, refl, Some, false, sym, subst, ℕ, List, ◌∙◌}
+use Rattle.std.proofs.Common.{rules, ◌≡◌, refl, Some, false, true, sym, subst, ℕ, List, ◌∙◌, None, []}
 use Rattle.std.specs.Ordering.{nat_cmp}
 use Rattle.std.specs.Map.{set_value}
 use Rattle.std.specs.BTreeMap.{is_at}
@@ -9,6 +9,12 @@ use Rattle.vesgrauf.specs.Own.{entry_at}
 use Rattle.vesgrauf.proofs.JoinedLemmas.{joined_stays}
 use Rattle.vesgrauf.proofs.SeveredLemmas.{stays_same}
 use Rattle.vesgrauf.proofs.PlaceLemmas.{ordered_given, ordered_blocked, ordered_quiet}
+use Rattle.vesgrauf.specs.Instructions.{table_of}
+use Rattle.vesgrauf.specs.State.{is_over}
+use Rattle.vesgrauf.specs.Works.{WorksUnless, book_at, book_of}
+use Rattle.vesgrauf.proofs.ActLemmas.{act_kept}
+use Rattle.vesgrauf.specs.Halves.{Lasts}
+use Rattle.vesgrauf.proofs.SendsLemmas.{lasting_same, lasts_as_before}
 use Rattle.vesgrauf.proofs.connection.Connection.block_stream.Goals as goal
 
 pub invariant_of-self-2-clause-ordered : goal.invariant_of-self-2-clause-ordered
@@ -71,3 +77,69 @@ invariant_of-self-then-not-has_more-clause-ordered c =
     ≡ set_value (is_at (nat_cmp c.args.id)) c.args.self.now.streams.entries f = λ f. search (rules) in
     subst (λ (x : List (ℕ × Entry)). Ordered x c.args.self.now.ready.ranks c.args.self.now.unplaced) (sym (written _))
     (ordered_quiet c.args.self.now.streams.entries c.args.self.now.ready.ranks c.args.self.now.unplaced c.args.id e _ there (sym c.has_more.ensures.more ∙ c.if-not-has_more.true) (sym c.has_more.ensures.more ∙ c.if-not-has_more.true) c.args.self.now.ordered)
+
+pub returns-then-blocked-clause-works : goal.returns-then-blocked-clause-works
+returns-then-blocked-clause-works c =
+    let e : Entry = c.in-Some.entry.now in
+    let f : Entry = record e { is_blocked = true } in
+    let there : entry_at c.args.self.now.streams.entries c.args.id ≡ Some e = search (rules) in
+    let written : (c.get_mut.follows.lender f).entries
+    ≡ set_value (is_at (nat_cmp c.args.id)) c.args.self.now.streams.entries f = search (rules) in
+    subst (λ (x : List (ℕ × Entry)). WorksUnless (is_over c.args.self.now) (is_over c.args.self.now) (book_of c.args.self.now)
+    (book_at x c.args.self.now.ids (table_of c.args.self.now))) (sym written)
+    (act_kept c.args.self.now.streams.entries c.args.self.now.ids (table_of c.args.self.now) (is_over c.args.self.now) c.args.id e f there refl refl refl refl refl refl)
+
+pub returns-then-not-entry-clause-works : goal.returns-then-not-entry-clause-works
+returns-then-not-entry-clause-works c =
+    let e : Entry = c.in-Some.entry.now in
+    let f : Entry = record e { is_blocked = false } in
+    let there : entry_at c.args.self.now.streams.entries c.args.id ≡ Some e = search (rules) in
+    let written : (c.get_mut.follows.lender f).entries
+    ≡ set_value (is_at (nat_cmp c.args.id)) c.args.self.now.streams.entries f = search (rules) in
+    subst (λ (x : List (ℕ × Entry)). WorksUnless (is_over c.args.self.now) (is_over c.args.self.now) (book_of c.args.self.now)
+    (book_at x c.args.self.now.ids (table_of c.args.self.now))) (sym written)
+    (act_kept c.args.self.now.streams.entries c.args.self.now.ids (table_of c.args.self.now) (is_over c.args.self.now) c.args.id e f there refl refl refl refl refl refl)
+
+pub returns-then-not-has_more-clause-works : goal.returns-then-not-has_more-clause-works
+returns-then-not-has_more-clause-works c =
+    let e : Entry = c.in-Some.entry.now in
+    let f : Entry = record e { is_blocked = false } in
+    let there : entry_at c.args.self.now.streams.entries c.args.id ≡ Some e = search (rules) in
+    let written : (c.get_mut.follows.lender f).entries
+    ≡ set_value (is_at (nat_cmp c.args.id)) c.args.self.now.streams.entries f = search (rules) in
+    subst (λ (x : List (ℕ × Entry)). WorksUnless (is_over c.args.self.now) (is_over c.args.self.now) (book_of c.args.self.now)
+    (book_at x c.args.self.now.ids (table_of c.args.self.now))) (sym written)
+    (act_kept c.args.self.now.streams.entries c.args.self.now.ids (table_of c.args.self.now) (is_over c.args.self.now) c.args.id e f there refl refl refl refl refl refl)
+
+pub returns-clause-works : goal.returns-clause-works
+returns-clause-works c =
+    let e : Entry = c.in-Some.entry.now in
+    let f : Entry = record e { is_blocked = false } in
+    let there : entry_at c.args.self.now.streams.entries c.args.id ≡ Some e = search (rules) in
+    let written : (c.get_mut.follows.lender f).entries
+    ≡ set_value (is_at (nat_cmp c.args.id)) c.args.self.now.streams.entries f = search (rules) in
+    subst (λ (x : List (ℕ × Entry)). WorksUnless (is_over c.args.self.now) (is_over c.args.self.now) (book_of c.args.self.now)
+    (book_at x c.args.self.now.ids (table_of c.args.self.now))) (sym written)
+    (act_kept c.args.self.now.streams.entries c.args.self.now.ids (table_of c.args.self.now) (is_over c.args.self.now) c.args.id e f there refl refl refl refl refl refl)
+
+pub returns-then-not-has_more-clause-lasts : goal.returns-then-not-has_more-clause-lasts
+returns-then-not-has_more-clause-lasts c =
+    let e : Entry = c.in-Some.entry.now in
+    let f : Entry = record e { is_blocked = false } in
+    let there : entry_at c.args.self.now.streams.entries c.args.id ≡ Some e = search (rules) in
+    let written : (c.get_mut.follows.lender f).entries
+    ≡ set_value (is_at (nat_cmp c.args.id)) c.args.self.now.streams.entries f = search (rules) in
+    λ over sound. subst (λ (x : List (ℕ × Entry)). Lasts None [] c.args.self.now.streams.entries c.args.self.now.events.items x c.args.self.now.events.items)
+    (sym written)
+    (lasts_as_before None c.args.self.now.streams.entries c.args.self.now.events.items c.args.id e f there (lasting_same e f refl refl refl refl))
+
+pub returns-clause-lasts : goal.returns-clause-lasts
+returns-clause-lasts c =
+    let e : Entry = c.in-Some.entry.now in
+    let f : Entry = record e { is_blocked = false } in
+    let there : entry_at c.args.self.now.streams.entries c.args.id ≡ Some e = search (rules) in
+    let written : (c.get_mut.follows.lender f).entries
+    ≡ set_value (is_at (nat_cmp c.args.id)) c.args.self.now.streams.entries f = search (rules) in
+    λ over sound. subst (λ (x : List (ℕ × Entry)). Lasts None [] c.args.self.now.streams.entries c.args.self.now.events.items x c.args.self.now.events.items)
+    (sym written)
+    (lasts_as_before None c.args.self.now.streams.entries c.args.self.now.events.items c.args.id e f there (lasting_same e f refl refl refl refl))

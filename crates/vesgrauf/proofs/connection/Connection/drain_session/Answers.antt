@@ -9,6 +9,10 @@ use Rattle.vesgrauf.proofs.SeveredLemmas.{out_drained, stays_half}
 use Rattle.vesgrauf.proofs.PlaceLemmas.{ordered_sent}
 use Rattle.vesgrauf.specs.Halves.{Lasts}
 use Rattle.vesgrauf.proofs.SendsLemmas.{lasting_drained, lasts_as_before}
+use Rattle.vesgrauf.specs.Instructions.{table_of}
+use Rattle.vesgrauf.specs.State.{is_over}
+use Rattle.vesgrauf.specs.Works.{WorksUnless, book_at, book_of}
+use Rattle.vesgrauf.proofs.ActLemmas.{act_kept, act_still, act_trans}
 use Rattle.vesgrauf.proofs.connection.Connection.drain_session.Goals as goal
 
 pub invariant_of-self-2-clause-ordered : goal.invariant_of-self-2-clause-ordered
@@ -50,3 +54,15 @@ returns-clause-lasts c =
     c.begin_send.new.self.events.items) (sym written)
     (lasts_as_before None c.begin_send.new.self.streams.entries c.begin_send.new.self.events.items c.args.session e f there
     (lasting_drained c.drain-result.result e c.drain-result.new.self c.drain-result.ensures.ok c.drain-result.ensures.kept))))
+
+pub returns-clause-works : goal.returns-clause-works
+returns-clause-works c =
+    let e : Entry = c.in-Some.entry.now in
+    let f : Entry = record e { writing = c.drain-result.new.self } in
+    let there : entry_at c.begin_send.new.self.streams.entries c.args.session ≡ Some e = search (rules) in
+    let written : (c.get_mut.follows.lender f).entries
+    ≡ set_value (is_at (nat_cmp c.args.session)) c.begin_send.new.self.streams.entries f = search (rules) in
+    act_trans (act_still c.args.self.now c.begin_send.new.self c.begin_send.ensures.still)
+    (subst (λ (x : List (ℕ × Entry)). WorksUnless (is_over c.begin_send.new.self) (is_over c.begin_send.new.self) (book_of c.begin_send.new.self)
+    (book_at x c.begin_send.new.self.ids (table_of c.begin_send.new.self))) (sym written)
+    (act_kept c.begin_send.new.self.streams.entries c.begin_send.new.self.ids (table_of c.begin_send.new.self) (is_over c.begin_send.new.self) c.args.session e f there refl refl refl refl refl refl))

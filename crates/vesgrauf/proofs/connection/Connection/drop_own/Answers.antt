@@ -1,4 +1,5 @@
 use Rattle.vesgrauf.proofs.LostLemmas.{drop_keeps, own_none}
+use Rattle.vesgrauf.specs.Instructions.{table_of}
 use Rattle.vesgrauf.specs.Keeps.{KeepsAll}
 use Rattle.vesgrauf.proofs.PlaceLemmas.{ordered_over}
 use Rattle.vesgrauf.proofs.QueuedLemmas.{more_new}
@@ -41,10 +42,10 @@ returns c =
     let written : (f : Entry) → (c.get_mut.follows.lender f).entries
     ≡ set_value (is_at (nat_cmp c.args.id)) c.args.self.now.streams.entries f = λ f. search (rules) in
     record {
-      keeps = λ h. subst (λ (x : List (ℕ × Entry)). KeepsAll None [] c.args.self.now.streams.entries c.args.self.now.ids
-          c.args.self.now.events.items c.args.self.now.config c.args.self.now.ended x c.args.self.now.ids
+      keeps = λ h. subst (λ (x : List (ℕ × Entry)). KeepsAll None [] c.args.self.now.streams.entries c.args.self.now.ids (table_of c.args.self.now)
+          c.args.self.now.events.items c.args.self.now.config c.args.self.now.ended x c.args.self.now.ids (table_of c.args.self.now)
           c.args.self.now.events.items c.args.self.now.config c.args.self.now.ended) (sym (written _))
-          (drop_keeps c.args.self.now.streams.entries c.args.self.now.ids c.args.self.now.events.items
+          (drop_keeps c.args.self.now.streams.entries c.args.self.now.ids _ c.args.self.now.events.items
           c.args.self.now.config c.args.self.now.ended c.args.id e _ there
           (own_none c.none.result c.none.ensures.half) refl refl refl h);
     }

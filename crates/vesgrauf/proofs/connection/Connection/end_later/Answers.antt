@@ -22,7 +22,7 @@ returns c =
     ≡ set_value (is_at (nat_cmp c.args.id)) c.args.self.now.streams.entries f = search (rules) in
     let connect : is_connect e.writing.half ≡ true = search (rules) in
     record {
-      keeps = rw written (keeps_tried c.finish-finished.result _ c.args.self.now.streams.entries c.args.self.now.ids
+      keeps = rw written (keeps_tried c.finish-finished.result _ c.args.self.now.streams.entries c.args.self.now.ids _
           c.args.self.now.events.items c.args.self.now.config c.args.self.now.ended c.args.id e f there connect
           c.finish-finished.ensures refl refl refl);
     }

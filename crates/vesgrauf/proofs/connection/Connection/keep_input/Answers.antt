@@ -9,6 +9,10 @@ use Rattle.std.specs.BTreeMap.{is_at}
 use Rattle.std.specs.Map.{set_value}
 use Rattle.std.specs.Ordering.{nat_cmp}
 use Rattle.std.proofs.Common.{rules, ◌≡◌, refl, sym, subst, Some, ℕ, List, None, []}
+use Rattle.vesgrauf.specs.Instructions.{table_of}
+use Rattle.vesgrauf.specs.State.{is_over}
+use Rattle.vesgrauf.specs.Works.{WorksUnless, book_at, book_of}
+use Rattle.vesgrauf.proofs.ActLemmas.{act_kept}
 use Rattle.vesgrauf.proofs.connection.Connection.keep_input.Goals as goal
 
 pub invariant_of-self-2-clause-joined : goal.invariant_of-self-2-clause-joined
@@ -31,7 +35,7 @@ returns-in_err-keep-clause-keeps c =
     c.args.self.now.events.items c.args.self.now.config c.args.self.now.ended x c.args.self.now.ids
     c.args.self.now.events.items c.args.self.now.config c.args.self.now.ended) (sym (written _))
     (holds_looked None c.args.self.now.streams.entries c.args.self.now.ids c.args.self.now.events.items
-    c.args.self.now.config c.args.self.now.ended c.args.id e _ there refl refl refl refl refl)
+    c.args.self.now.config c.args.self.now.ended c.args.id e _ there refl refl refl refl refl refl)
 
 pub returns-clause-keeps : goal.returns-clause-keeps
 returns-clause-keeps c =
@@ -43,4 +47,15 @@ returns-clause-keeps c =
     c.args.self.now.events.items c.args.self.now.config c.args.self.now.ended x c.args.self.now.ids
     c.args.self.now.events.items c.args.self.now.config c.args.self.now.ended) (sym (written _))
     (holds_looked None c.args.self.now.streams.entries c.args.self.now.ids c.args.self.now.events.items
-    c.args.self.now.config c.args.self.now.ended c.args.id e _ there refl refl refl refl refl)
+    c.args.self.now.config c.args.self.now.ended c.args.id e _ there refl refl refl refl refl refl)
+
+pub returns-clause-works : goal.returns-clause-works
+returns-clause-works c =
+    let e : Entry = c.in-Some.entry.now in
+    let there : entry_at c.args.self.now.streams.entries c.args.id ≡ Some e = search (rules) in
+    let written : (f : Entry) → (c.get_mut.follows.lender f).entries
+    ≡ set_value (is_at (nat_cmp c.args.id)) c.args.self.now.streams.entries f = λ f. search (rules) in
+    subst (λ (x : List (ℕ × Entry)). WorksUnless (is_over c.args.self.now) (is_over c.args.self.now)
+    (book_of c.args.self.now) (book_at x c.args.self.now.ids (table_of c.args.self.now))) (sym (written _))
+    (act_kept c.args.self.now.streams.entries c.args.self.now.ids (table_of c.args.self.now) (is_over c.args.self.now)
+    c.args.id e _ there c.in_ok-keep.ensures.ok.stream refl refl refl refl refl)

@@ -1,4 +1,5 @@
 use Rattle.vesgrauf.proofs.KeepsLemmas.{keeps_turned}
+use Rattle.vesgrauf.specs.Instructions.{table_of}
 use Rattle.vesgrauf.specs.Keeps.{KeepsAll}
 use Rattle.vesgrauf.proofs.JoinedLemmas.{joined_stays}
 use Rattle.vesgrauf.proofs.SeveredLemmas.{stays_same}
@@ -28,8 +29,8 @@ returns c =
     let written : (f : Entry) → (c.get_mut.follows.lender f).entries
     ≡ set_value (is_at (nat_cmp c.args.id)) c.args.self.now.streams.entries f = λ f. search (rules) in
     record {
-      keeps = subst (λ (x : List (ℕ × Entry)). KeepsAll None [] c.args.self.now.streams.entries c.args.self.now.ids c.args.self.now.events.items c.args.self.now.config
-          c.args.self.now.ended x c.args.self.now.ids c.args.self.now.events.items c.args.self.now.config c.args.self.now.ended) (sym (written _))
-          (keeps_turned c.args.self.now.streams.entries c.args.self.now.ids c.args.self.now.events.items c.args.self.now.config c.args.self.now.ended c.args.id e _ there
+      keeps = subst (λ (x : List (ℕ × Entry)). KeepsAll None [] c.args.self.now.streams.entries c.args.self.now.ids (table_of c.args.self.now) c.args.self.now.events.items c.args.self.now.config
+          c.args.self.now.ended x c.args.self.now.ids (table_of c.args.self.now) c.args.self.now.events.items c.args.self.now.config c.args.self.now.ended) (sym (written _))
+          (keeps_turned c.args.self.now.streams.entries c.args.self.now.ids _ c.args.self.now.events.items c.args.self.now.config c.args.self.now.ended c.args.id e _ there
           c.answer.ensures.moves c.answer.ensures.rest refl refl refl refl);
     }

@@ -6,9 +6,12 @@ use Rattle.vesgrauf.specs.declared.entry.Entry.{Entry}
 use Rattle.std.specs.BTreeMap.{is_at}
 use Rattle.std.specs.Map.{set_value}
 use Rattle.std.specs.Ordering.{nat_cmp}
+use Rattle.vesgrauf.specs.Instructions.{table_by, table_of}
 use Rattle.vesgrauf.specs.Keeps.{KeepsAll}
-use Rattle.vesgrauf.proofs.KeepsLemmas.{keeps_turned}
-use Rattle.std.proofs.Common.{rules, ◌≡◌, refl, sym, subst, Some, ℕ, List, None, []}
+use Rattle.vesgrauf.proofs.KeepsLemmas.{keeps_turned, keeps_tabled, keeps_then}
+use Rattle.std.proofs.Common.{rules, ◌≡◌, refl, sym, subst, Some, ℕ, List, None, [], ◌++◌}
+use Rattle.vesgrauf_queue.specs.State.{waiting}
+use Rattle.vesgrauf.proofs.TableLemmas.{same_table, told_table, resets_same}
 use Rattle.vesgrauf.proofs.connection.Connection.note_reset.Goals as goal
 
 pub invariant_of-self-2-clause-joined : goal.invariant_of-self-2-clause-joined
@@ -28,10 +31,13 @@ returns c =
     let written : (f : Entry) → (c.get_mut.follows.lender f).entries
     ≡ set_value (is_at (nat_cmp c.args.id)) c.args.self.now.streams.entries f = λ f. search (rules) in
     record {
-      keeps = subst (λ (x : List (ℕ × Entry)). KeepsAll None [] c.args.self.now.streams.entries c.args.self.now.ids
-          c.args.self.now.events.items c.args.self.now.config c.args.self.now.ended x c.args.self.now.ids
+      keeps = subst (λ (x : List (ℕ × Entry)). KeepsAll None [] c.args.self.now.streams.entries c.args.self.now.ids (table_of c.args.self.now)
+          c.args.self.now.events.items c.args.self.now.config c.args.self.now.ended x c.args.self.now.ids (table_by c.reset.new.shared (waiting c.args.self.now.decoder.queue ++ c.args.self.now.told.items))
           c.args.self.now.events.items c.args.self.now.config c.args.self.now.ended) (sym (written _))
-          (keeps_turned c.args.self.now.streams.entries c.args.self.now.ids c.args.self.now.events.items
+          (keeps_then
+          (keeps_turned c.args.self.now.streams.entries c.args.self.now.ids _ c.args.self.now.events.items
           c.args.self.now.config c.args.self.now.ended c.args.id e _ there c.reset.ensures.moves c.reset.ensures.rest
-          refl refl refl refl);
+          refl refl refl refl)
+          (keeps_tabled None _ _ _ _ _ _ _ (same_table c.args.self.now.shared c.reset.new.shared _
+          (told_table c.args.self.now.shared c.reset.new.shared c.reset.ensures.told (resets_same c.args.self.now.shared e.reading.stream)))));
     }

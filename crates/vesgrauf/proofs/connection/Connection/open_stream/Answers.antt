@@ -2,6 +2,7 @@ use Rattle.std.proofs.Common.{◌≡◌, ℕ, List, None, true, [], ap, subst, a
 use Rattle.vesgrauf.specs.declared.connection.ids.Ids.{Ids}
 use Rattle.vesgrauf.specs.declared.entry.Entry.{Entry}
 use Rattle.vesgrauf.specs.Ids.{next_own, taken}
+use Rattle.vesgrauf.specs.Instructions.{table_of}
 use Rattle.vesgrauf.specs.Own.{entry_at}
 use Rattle.vesgrauf.specs.State.{IsStill, View, view_of, knows_of}
 use Rattle.vesgrauf.proofs.CutLemmas.{on_err_is}
@@ -34,7 +35,7 @@ returns-clause-goes c =
           c.add_member.new.self.streams.entries c.new_member.new.self.ids c.add_member.new.self.ids c.take.new.self
           c.new_member.new.self.events.items c.new_member.new.self.events.items c.new_member.new.self.events.items
           (keeps_goes (keeps_noted None c.new_member.new.self.streams.entries c.new_member.new.self.ids
-          c.add_member.new.self.ids c.new_member.new.self.events.items c.new_member.new.self.config
+          c.add_member.new.self.ids (table_of c.new_member.new.self) c.new_member.new.self.events.items c.new_member.new.self.config
           c.new_member.new.self.ended c.args.session c.in-Some.id c.in_ok-add_member.ensures.noted))
           (goes_opens c.new_member.new.self.streams.entries c.add_member.new.self.streams.entries
           c.add_member.new.self.ids c.take.new.self c.new_member.new.self.events.items c.args.kind c.in-Some.id

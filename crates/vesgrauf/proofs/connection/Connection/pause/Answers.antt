@@ -12,6 +12,10 @@ use Rattle.std.proofs.Common.{rules, ◌≡◌, ap, refl, sym, subst, None, Some
 use Rattle.vesgrauf.specs.Halves.{Lasts}
 use Rattle.vesgrauf.specs.declared.connection.Connection.{Connection}
 use Rattle.vesgrauf.proofs.SendsLemmas.{lasting_same, lasts_still_as}
+use Rattle.vesgrauf.specs.Instructions.{table_of}
+use Rattle.vesgrauf.specs.State.{is_over}
+use Rattle.vesgrauf.specs.Works.{WorksUnless, book_at, book_of, WorksOn}
+use Rattle.vesgrauf.proofs.ActLemmas.{act_kept, act_still, act_trans}
 use Rattle.vesgrauf.proofs.connection.Connection.pause.Goals as goal
 
 pub invariant_of-self-2-clause-joined : goal.invariant_of-self-2-clause-joined
@@ -59,3 +63,28 @@ returns-else-not-paused-clause-lasts c =
     c.reserve.new.self.events.items c.args.id e f
     (ap (λ v. v.streams) c.reserve.ensures.still) (ap (λ v. v.events) c.reserve.ensures.still) there
     written (lasting_same e f refl refl refl refl)
+
+pub returns-then-not-paused-clause-works : goal.returns-then-not-paused-clause-works
+returns-then-not-paused-clause-works c =
+    let e : Entry = c.in-Some.entry.now in
+    let f : Entry = record e { is_paused = c.args.paused } in
+    let there : entry_at c.reserve.new.self.streams.entries c.args.id ≡ Some e = search (rules) in
+    let written : (c.get_mut.follows.lender f).entries
+    ≡ set_value (is_at (nat_cmp c.args.id)) c.reserve.new.self.streams.entries f = search (rules) in
+    subst (λ (x : Connection). WorksOn c.args.self.now x) (sym c.wake.ensures)
+    (act_trans (act_still c.args.self.now c.reserve.new.self c.reserve.ensures.still)
+    (subst (λ (x : List (ℕ × Entry)). WorksUnless (is_over c.reserve.new.self) (is_over c.reserve.new.self) (book_of c.reserve.new.self)
+    (book_at x c.reserve.new.self.ids (table_of c.reserve.new.self))) (sym written)
+    (act_kept c.reserve.new.self.streams.entries c.reserve.new.self.ids (table_of c.reserve.new.self) (is_over c.reserve.new.self) c.args.id e f there refl refl refl refl refl refl)))
+
+pub returns-else-not-paused-clause-works : goal.returns-else-not-paused-clause-works
+returns-else-not-paused-clause-works c =
+    let e : Entry = c.in-Some.entry.now in
+    let f : Entry = record e { is_paused = c.args.paused } in
+    let there : entry_at c.reserve.new.self.streams.entries c.args.id ≡ Some e = search (rules) in
+    let written : (c.get_mut.follows.lender f).entries
+    ≡ set_value (is_at (nat_cmp c.args.id)) c.reserve.new.self.streams.entries f = search (rules) in
+    act_trans (act_still c.args.self.now c.reserve.new.self c.reserve.ensures.still)
+    (subst (λ (x : List (ℕ × Entry)). WorksUnless (is_over c.reserve.new.self) (is_over c.reserve.new.self) (book_of c.reserve.new.self)
+    (book_at x c.reserve.new.self.ids (table_of c.reserve.new.self))) (sym written)
+    (act_kept c.reserve.new.self.streams.entries c.reserve.new.self.ids (table_of c.reserve.new.self) (is_over c.reserve.new.self) c.args.id e f there refl refl refl refl refl refl))

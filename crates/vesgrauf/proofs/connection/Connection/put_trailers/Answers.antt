@@ -9,6 +9,10 @@ use Rattle.vesgrauf.proofs.SeveredLemmas.{out_trailers, stays_half}
 use Rattle.vesgrauf.proofs.PlaceLemmas.{ordered_sent}
 use Rattle.vesgrauf.specs.Halves.{Lasts}
 use Rattle.vesgrauf.proofs.SendsLemmas.{lasting_trailers, lasts_as_before}
+use Rattle.vesgrauf.specs.Instructions.{table_of}
+use Rattle.vesgrauf.specs.State.{is_over}
+use Rattle.vesgrauf.specs.Works.{WorksUnless, book_at, book_of}
+use Rattle.vesgrauf.proofs.ActLemmas.{act_kept}
 use Rattle.vesgrauf.proofs.connection.Connection.put_trailers.Goals as goal
 
 pub invariant_of-self-2-clause-ordered : goal.invariant_of-self-2-clause-ordered
@@ -46,3 +50,14 @@ returns-clause-lasts c =
     (lasts_as_before None c.args.self.now.streams.entries c.args.self.now.events.items c.args.id e f there
     (lasting_trailers c.trailers-result.result _ _ _ e c.trailers-result.new.self c.trailers-result.ensures.ok
     c.trailers-result.ensures.kept))
+
+pub returns-clause-works : goal.returns-clause-works
+returns-clause-works c =
+    let e : Entry = c.in-Some.entry.now in
+    let f : Entry = record e { writing = c.trailers-result.new.self } in
+    let there : entry_at c.args.self.now.streams.entries c.args.id ≡ Some e = search (rules) in
+    let written : (c.get_mut.follows.lender f).entries
+    ≡ set_value (is_at (nat_cmp c.args.id)) c.args.self.now.streams.entries f = search (rules) in
+    subst (λ (x : List (ℕ × Entry)). WorksUnless (is_over c.args.self.now) (is_over c.args.self.now) (book_of c.args.self.now)
+    (book_at x c.args.self.now.ids (table_of c.args.self.now))) (sym written)
+    (act_kept c.args.self.now.streams.entries c.args.self.now.ids (table_of c.args.self.now) (is_over c.args.self.now) c.args.id e f there refl refl refl refl refl refl)

@@ -5,6 +5,9 @@ use Rattle.vesgrauf.proofs.BoundLemmas.{bound_then, on_ok}
 use Rattle.vesgrauf.proofs.TellsLemmas.{all_of}
 use Rattle.vesgrauf.proofs.StepLemmas.{ok_map, told_none_all, quiet_then_all, told_none_if, told_told_if, told_more_if, told_nothing_if}
 use Rattle.vesgrauf.proofs.KeepsOwnLemmas.{keeps_holds, holds_then}
+use Rattle.vesgrauf.specs.State.{is_over}
+use Rattle.vesgrauf.specs.Works.{book_of}
+use Rattle.vesgrauf.proofs.ActLemmas.{act_over_then, act_trans}
 use Rattle.vesgrauf.proofs.connection.Connection.read_now.Goals as goal
 
 pub returns-in-Ok-None-clause-told : goal.returns-in-Ok-None-clause-told
@@ -63,3 +66,12 @@ returns-in-Ok-Some-More-clause-bounded c = λ h. on_ok c.take_steps.result
 pub returns-in-Ok-Some-Nothing-clause-bounded : goal.returns-in-Ok-Some-Nothing-clause-bounded
 returns-in-Ok-Some-Nothing-clause-bounded c = λ h. on_ok c.take_steps-in-Ok-Some-Nothing.result
     (bound_then (rw c.in-Ok-Some-Nothing.is at c.step_at_once.ensures.bounded)) (c.take_steps-in-Ok-Some-Nothing.ensures.bounded h)
+
+pub returns-in-Ok-None-clause-works : goal.returns-in-Ok-None-clause-works
+returns-in-Ok-None-clause-works c = on_ok c.next_by_steps.result
+    (act_trans (rw c.in-Ok-None.is at c.step_at_once.ensures.works)) c.next_by_steps.ensures.works
+
+pub returns-in-Err-Broken-clause-works : goal.returns-in-Err-Broken-clause-works
+returns-in-Err-Broken-clause-works c = on_ok c.take_steps-in-Err-Broken.result
+    (act_over_then (is_over c.args.self.now) (book_of c.args.self.now) c.fail.ensures.over)
+    c.take_steps-in-Err-Broken.ensures.works

@@ -12,12 +12,15 @@ returns-clause-keeps c = λ unknown. rw (
   ap (λ q. q.items) c.forget.ensures.events,
   c.forget.ensures.config,
   c.forget.ensures.ended,
+  c.forget.ensures.shared,
+  c.forget.ensures.decoder,
+  ap (λ v. v.items) c.forget.ensures.instructions,
 )
     (keeps_then
-    (keeps_removed c.args.self.now.streams.entries c.remove.new.self.entries c.args.self.now.ids
+    (keeps_removed c.args.self.now.streams.entries c.remove.new.self.entries c.args.self.now.ids _
     c.args.self.now.events.items c.args.self.now.config c.args.self.now.ended c.args.id c.remove.ensures.updates.0
     (ap (λ o. is_some o) (sym c.remove.ensures.value ∙ c.in-Some.is)) unknown)
-    (keeps_unnoted None c.remove.new.self.entries c.args.self.now.ids c.forget.new.self.ids
+    (keeps_unnoted None c.remove.new.self.entries c.args.self.now.ids c.forget.new.self.ids _
     c.args.self.now.events.items c.args.self.now.config c.args.self.now.ended c.args.id c.remove.ensures.updates.1
     c.forget.ensures.ids))
 

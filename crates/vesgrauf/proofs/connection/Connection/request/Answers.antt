@@ -6,6 +6,8 @@ use Rattle.vesgrauf.specs.Own.{entry_at}
 use Rattle.vesgrauf.specs.State.{IsStill, knows_of, may_wait}
 use Rattle.vesgrauf.specs.declared.refused.Refused.{Refused}
 use Rattle.vesgrauf.specs.declared.refused.Refused.TheVariants as refused
+use Rattle.vesgrauf.specs.Instructions.{table_of}
+use Rattle.vesgrauf.proofs.TableLemmas.{table_in}
 use Rattle.vesgrauf.specs.Keeps.{Keeps}
 use Rattle.vesgrauf.specs.declared.connection.Connection.{Connection}
 use Rattle.vesgrauf.specs.declared.output.StreamKind.TheVariants as kind
@@ -73,9 +75,12 @@ returns-in_err-open_request-clause-kept c =
       c.open_request.ensures.ids,
       ap (λ d. d.items) c.open_request.ensures.events,
       ap (λ v. v.ended) c.open_request.ensures.view,
+      ap (λ v. v.shared) c.open_request.ensures.view,
+      ap (λ v. v.decoder) c.open_request.ensures.view,
+      ap (λ v. v.told) c.open_request.ensures.view,
     )
     (keeps_undone c.choose_policy.new.self.streams.entries c.open_request.new.self.streams.entries
-    c.choose_policy.new.self.ids c.choose_policy.new.self.events.items c.choose_policy.new.self.config
+    c.choose_policy.new.self.ids _ c.choose_policy.new.self.events.items c.choose_policy.new.self.config
     c.open_request.new.self.config c.choose_policy.new.self.ended kind.Bidirectional c.in-Some.id
     (c.in-Some.ensures.0 ∙ ap (λ v. next_own v.ids kind.Bidirectional) (sym later))
     c.in_err-open_request.ensures.refused (ap (λ v. v.config) c.open_request.ensures.view)) in
@@ -130,3 +135,8 @@ returns-clause-lasts c =
     (lasts_opens c.args.self.now.streams.entries c.count_session.new.self.streams.entries c.args.self.now.ids
     c.args.self.now.events.items kind.Bidirectional c.in-Some.id
     (c.in-Some.ensures.0 ∙ ap (λ v. next_own v.ids kind.Bidirectional) c.check_room.ensures.still) others sound)
+
+pub returns-clause-table : goal.returns-clause-table
+returns-clause-table c = ap (λ x. table_of x) c.count_session.ensures.others ∙ (c.queue_due.ensures.table
+    ∙ (ap (λ v. table_in v) c.open_request.ensures.view
+    ∙ ap (λ v. table_in v) ((c.choose_policy.ensures.still ∙ c.reserve.ensures.still) ∙ c.check_room.ensures.still)))

@@ -8,6 +8,10 @@ use Rattle.vesgrauf.specs.Own.{entry_at}
 use Rattle.vesgrauf.proofs.JoinedLemmas.{joined_stays}
 use Rattle.vesgrauf.proofs.SeveredLemmas.{out_responded, stays_half, stays_same}
 use Rattle.vesgrauf.proofs.PlaceLemmas.{ordered, ordered_sent}
+use Rattle.vesgrauf.specs.Instructions.{table_of}
+use Rattle.vesgrauf.specs.State.{is_over}
+use Rattle.vesgrauf.specs.Works.{WorksUnless, book_at, book_of}
+use Rattle.vesgrauf.proofs.ActLemmas.{act_kept}
 use Rattle.vesgrauf.proofs.connection.Connection.respond_half.Goals as goal
 
 pub invariant_of-self-2-clause-ordered : goal.invariant_of-self-2-clause-ordered
@@ -45,3 +49,14 @@ invariant_of-self-in-Break-1 c =
           (joined_stays c.args.self.now.streams.entries c.args.self.now.ids c.args.id e _ there
           (stays_same e _ refl refl refl refl refl refl refl) c.args.self.now.joined);
     }
+
+pub returns-clause-works : goal.returns-clause-works
+returns-clause-works c =
+    let e : Entry = c.in-Some.entry.now in
+    let f : Entry = record e { writing = c.respond-sent.new.self } in
+    let there : entry_at c.args.self.now.streams.entries c.args.id ≡ Some e = search (rules) in
+    let written : (c.get_mut.follows.lender f).entries
+    ≡ set_value (is_at (nat_cmp c.args.id)) c.args.self.now.streams.entries f = search (rules) in
+    subst (λ (x : List (ℕ × Entry)). WorksUnless (is_over c.args.self.now) (is_over c.args.self.now) (book_of c.args.self.now)
+    (book_at x c.args.self.now.ids (table_of c.args.self.now))) (sym written)
+    (act_kept c.args.self.now.streams.entries c.args.self.now.ids (table_of c.args.self.now) (is_over c.args.self.now) c.args.id e f there refl refl refl refl refl refl)

@@ -1,4 +1,4 @@
-use Rattle.std.proofs.Common.{rules, ◌≡◌, refl, Some}
+use Rattle.std.proofs.Common.{rules, ◌≡◌, refl, Some, ℕ, List, sym, subst}
 use Rattle.std.specs.Ordering.{nat_cmp}
 use Rattle.std.specs.Map.{set_value}
 use Rattle.std.specs.BTreeMap.{is_at}
@@ -7,6 +7,10 @@ use Rattle.vesgrauf.specs.Own.{entry_at}
 use Rattle.vesgrauf.proofs.JoinedLemmas.{joined_stays}
 use Rattle.vesgrauf.proofs.SeveredLemmas.{out_closed, stays_half}
 use Rattle.vesgrauf.proofs.PlaceLemmas.{ordered_sent}
+use Rattle.vesgrauf.specs.Instructions.{table_of}
+use Rattle.vesgrauf.specs.State.{is_over}
+use Rattle.vesgrauf.specs.Works.{WorksUnless, book_at, book_of}
+use Rattle.vesgrauf.proofs.ActLemmas.{act_kept}
 use Rattle.vesgrauf.proofs.connection.Connection.say_close.Goals as goal
 
 pub invariant_of-self-2-clause-ordered : goal.invariant_of-self-2-clause-ordered
@@ -31,3 +35,14 @@ invariant_of-self-2-clause-joined c =
     (stays_half e f refl refl (out_closed c.close-result.result _ _ e.writing c.close-result.new.self
     c.close-result.ensures.ok c.close-result.ensures.kept) refl refl refl refl)
     c.args.self.now.joined)
+
+pub returns-clause-works : goal.returns-clause-works
+returns-clause-works c =
+    let e : Entry = c.in-Some.entry.now in
+    let f : Entry = record e { writing = c.close-result.new.self } in
+    let there : entry_at c.args.self.now.streams.entries c.args.session ≡ Some e = search (rules) in
+    let written : (c.get_mut.follows.lender f).entries
+    ≡ set_value (is_at (nat_cmp c.args.session)) c.args.self.now.streams.entries f = search (rules) in
+    subst (λ (x : List (ℕ × Entry)). WorksUnless (is_over c.args.self.now) (is_over c.args.self.now) (book_of c.args.self.now)
+    (book_at x c.args.self.now.ids (table_of c.args.self.now))) (sym written)
+    (act_kept c.args.self.now.streams.entries c.args.self.now.ids (table_of c.args.self.now) (is_over c.args.self.now) c.args.session e f there refl refl refl refl refl refl)

@@ -1,6 +1,6 @@
 use Rattle.vesgrauf.proofs.GoesLemmas.{goes_set, standing_in}
 use Rattle.vesgrauf.specs.Told.{Goes}
-use Rattle.std.proofs.Common.{rules, ◌≡◌, None, Some, sym, subst, ℕ, List, ap, ◌∙◌, []}
+use Rattle.std.proofs.Common.{rules, ◌≡◌, None, Some, sym, subst, ℕ, List, ap, ◌∙◌, [], refl}
 use Rattle.std.specs.Ordering.{nat_cmp}
 use Rattle.std.specs.Map.{set_value}
 use Rattle.std.specs.BTreeMap.{is_at}
@@ -11,6 +11,10 @@ use Rattle.vesgrauf.proofs.SeveredLemmas.{stays_sent, standing_sent}
 use Rattle.vesgrauf.proofs.PlaceLemmas.{ordered_sent}
 use Rattle.vesgrauf.specs.Halves.{Lasts}
 use Rattle.vesgrauf.proofs.SendsLemmas.{lasting_sent, lasts_as_before}
+use Rattle.vesgrauf.specs.Instructions.{table_of}
+use Rattle.vesgrauf.specs.State.{is_over}
+use Rattle.vesgrauf.specs.Works.{WorksUnless, book_at, book_of}
+use Rattle.vesgrauf.proofs.ActSteps.{act_written, sent_by}
 use Rattle.vesgrauf.proofs.connection.Connection.send_half.Goals as goal
 
 pub invariant_of-self-2-clause-ordered : goal.invariant_of-self-2-clause-ordered
@@ -59,3 +63,15 @@ returns-clause-lasts c =
     c.args.self.now.events.items) (sym written)
     (lasts_as_before None c.args.self.now.streams.entries c.args.self.now.events.items c.args.id e f there
     (lasting_sent c.send-result.result _ _ e f c.send-result.ensures.ok c.send-result.ensures.kept))
+
+pub returns-clause-works : goal.returns-clause-works
+returns-clause-works c =
+    let e : Entry = c.in-Some.entry.now in
+    let f : Entry = c.send-result.new.self in
+    let there : entry_at c.args.self.now.streams.entries c.args.id ≡ Some e = search (rules) in
+    let written : (c.get_mut.follows.lender f).entries
+    ≡ set_value (is_at (nat_cmp c.args.id)) c.args.self.now.streams.entries f = search (rules) in
+    let w = sent_by c.send-result.result _ _ e f c.send-result.ensures.ok c.send-result.ensures.kept in
+    subst (λ (x : List (ℕ × Entry)). WorksUnless (is_over c.args.self.now) (is_over c.args.self.now) (book_of c.args.self.now)
+    (book_at x c.args.self.now.ids (table_of c.args.self.now))) (sym written)
+    (act_written c.args.self.now.streams.entries c.args.self.now.ids (table_of c.args.self.now) (is_over c.args.self.now) c.args.id e f w.0 there w.1)

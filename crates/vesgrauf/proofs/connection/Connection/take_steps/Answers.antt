@@ -6,6 +6,7 @@ use Rattle.vesgrauf.specs.Theirs.{told_by}
 use Rattle.vesgrauf.proofs.BoundLemmas.{bound_popped}
 use Rattle.vesgrauf.proofs.KeepsOwnLemmas.{holds_popped, holds_then, keeps_holds}
 use Rattle.vesgrauf.proofs.StepLemmas.{steps_on, not_before, popped_after, queued_tells}
+use Rattle.vesgrauf.proofs.ActLemmas.{act_keeps, act_trans}
 use Rattle.vesgrauf.proofs.connection.Connection.take_steps.Goals as goal
 
 pub returns-in-Told-clause-told : goal.returns-in-Told-clause-told
@@ -71,6 +72,7 @@ loop-step-preserved c = record {
       c.first_queued.ensures.keeps (c.in_ok-event.ensures.bounded h);
   keeps = holds_popped c.args.self.now c.loop-step.self c.first_queued.new.self c.try_step.new.self
       c.loop-step.invariant.keeps (rw c.in_default.is at c.first_queued.ensures.keeps) (rw c.in-More.is at c.in_ok-event.ensures.keeps);
+  works = act_trans (act_trans c.loop-step.invariant.works (act_keeps c.first_queued.ensures.keeps)) c.in_ok-event.ensures.works;
 }
 
 pub returns-in-Some-clause-told : goal.returns-in-Some-clause-told
@@ -79,3 +81,12 @@ returns-in-Some-clause-told c = λ h. steps_on (told_by (Some c.in-Some.event)) 
     (ap is_some c.first_queued.ensures.ended) (λ g. g) h (ap (λ m. m.entries) c.first_queued.ensures.streams)
     (queued_tells c.in-Some.event c.first_queued.new.self.streams.entries c.loop-step.input
     (rw c.in-Some.is at c.first_queued.ensures.silent))
+
+pub returns-in-Some-clause-works : goal.returns-in-Some-clause-works
+returns-in-Some-clause-works c = act_trans c.loop-step.invariant.works (act_keeps c.first_queued.ensures.keeps)
+
+pub returns-in-Told-clause-works : goal.returns-in-Told-clause-works
+returns-in-Told-clause-works c = act_trans (act_trans c.loop-step.invariant.works (act_keeps c.first_queued.ensures.keeps)) c.in_ok-event.ensures.works
+
+pub returns-in-Nothing-clause-works : goal.returns-in-Nothing-clause-works
+returns-in-Nothing-clause-works c = act_trans (act_trans c.loop-step.invariant.works (act_keeps c.first_queued.ensures.keeps)) c.in_ok-event.ensures.works
