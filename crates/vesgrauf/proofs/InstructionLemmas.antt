@@ -212,7 +212,7 @@ looked_and_said_plain e f {limit} {c} {d} {i} {j} {found} g n p q h =
 -- ---- what is queued
 
 -- bytes that are queued waited before
-queued_by : (bytes : List ℕ) (a b : Critical)
+pub queued_by : (bytes : List ℕ) (a b : Critical)
     → ((bytes ≡ []) × (b.queue ≡ a.queue)) ⊎ ((room : Bool) × QueueDoes (Queues bytes room) a.queue b.queue)
     → waiting b.queue ≡ waiting a.queue ++ bytes
 queued_by bytes a b (inl (n, q)) =

@@ -1,5 +1,5 @@
 -- The streams that joined a session.
-use Rattle.std.proofs.Common.{◌≡◌, ◌⊎◌, ◌==◌, ◌&&◌, ◌||◌, ◌-◌, not, ℕ, List, [], Option, Some, None, Bool, true, false, cond, refl, arith, inl, inr, sym, ap, subst, ◌∙◌}
+use Rattle.std.proofs.Common.{length, ◌≡◌, ◌⊎◌, ◌==◌, ◌&&◌, ◌||◌, ◌-◌, not, ℕ, List, [], Option, Some, None, Bool, true, false, cond, refl, arith, inl, inr, sym, ap, subst, ◌∙◌}
 use Rattle.std.specs.Prelude.{is_some, Ok, nat_lt, min, ◌^◌, if◌then◌else◌}
 use Rattle.std.specs.Ordering.{nat_cmp}
 use Rattle.std.specs.Map.{set_value}
@@ -26,6 +26,7 @@ use Rattle.vesgrauf.specs.declared.output.StreamKind.TheVariants as kind
 use Rattle.vesgrauf.specs.declared.refused.Refused.{Refused}
 use Rattle.vesgrauf.specs.Ids.{next_own, next_peer, unopened, taken, seen, opened as opened_ids, blocked}
 use Rattle.vesgrauf.specs.Joined.{Joined, EachJoined, AreSevered, EachSevered, holds_in, is_out, is_past, is_unread, is_left, is_severed, Joined-prop}
+use Rattle.vesgrauf.specs.Limits.{FewWait, FewWait-prop, Within, Within-prop}
 use Rattle.vesgrauf.specs.Members.{IsNextMember, is_member, is_noted, is_same_stream, session_in, Notes, Drops}
 use Rattle.vesgrauf.specs.Own.{Over, entry_at}
 use Rattle.vesgrauf.specs.Places.{Ordered, Ordered-prop}
@@ -427,10 +428,13 @@ read_not_severed e bytes ended at r n h =
 
 -- there is one way in which it is so
 pub as_given : (c : Connection) (o : Ordered c.streams.entries c.ready.ranks c.unplaced) (j : Joined c.streams.entries c.ids)
-    → record c { ordered = o; joined = j } ≡ c
-as_given c o j i = record c {
+    (w : Within c.config (length c.datagrams.queue.items) c.sessions c.held c.budget) (f : FewWait c.config c.ids)
+    → record c { ordered = o; joined = j; within = w; few = f } ≡ c
+as_given c o j w f i = record c {
   ordered = Ordered-prop c.streams.entries c.ready.ranks c.unplaced o c.ordered i;
   joined = Joined-prop c.streams.entries c.ids j c.joined i;
+  within = Within-prop c.config (length c.datagrams.queue.items) c.sessions c.held c.budget w c.within i;
+  few = FewWait-prop c.config c.ids f c.few i;
 }
 
 -- ---- sets for tactics

@@ -16,6 +16,7 @@ pub mod KeepsLemmas
 pub mod KeepsOwnLemmas
 pub mod KeptLemmas
 pub mod LastsLemmas
+pub mod LimitLemmas
 pub mod LookLemmas
 pub mod LostLemmas
 pub mod MemberLemmas
@@ -36,6 +37,7 @@ pub mod RunLemmas
 pub mod SendsLemmas
 pub mod SeveredLemmas
 pub mod StepLemmas
+pub mod StillLemmas
 pub mod TableLemmas
 pub mod TableSteps
 pub mod TellsLemmas

@@ -1,5 +1,5 @@
 -- What is bounded by the configuration.
-use Rattle.std.specs.Prelude.{◌≤◌, ◌+◌, ℕ, List, length, max}
+use Rattle.std.specs.Prelude.{◌≤◌, ◌+◌, ℕ, List, length}
 use Rattle.vesgrauf_queue.specs.State.{counted}
 use Rattle.vesgrauf.specs.declared.config.Config.{Config}
 use Rattle.vesgrauf.specs.declared.connection.Connection.{Connection}
@@ -35,10 +35,6 @@ pub data KeepsBoundAll : (a : Config) (es : List (ℕ × Entry)) (b : Config) (f
 
 abbrev pub KeepsBound : Connection → Connection → Type 0
 KeepsBound c d = KeepsBoundAll c.config c.streams.entries d.config d.streams.entries
-
--- no more datagrams wait than may
-abbrev pub DatagramsFit : Connection → Type 0
-DatagramsFit c = length c.datagrams.queue.items ≤ max c.config.datagram_queue 1
 
 -- no more bytes of the own decoder stream count than may wait for QUIC
 abbrev pub InstructionsFit : Connection → Type 0

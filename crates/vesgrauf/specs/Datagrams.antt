@@ -1,11 +1,12 @@
 -- Datagrams of a connection (RFC 9297, section 2.1).
-use Rattle.std.specs.Prelude.{◌++◌, nat_lt, max, ◌≡◌, ℕ, Bool, true, false, List, [], ◌∷◌, length, Ok}
+use Rattle.std.specs.Prelude.{◌++◌, nat_lt, ◌≡◌, ℕ, Bool, true, false, List, [], ◌∷◌, length, Ok}
 use Rattle.std.specs.declared.vec.Vec.{Vec}
 use Rattle.std.specs.declared.alloc.Global.{Global}
 use Rattle.vesgrauf.specs.declared.connection.Connection.{Connection}
 use Rattle.vesgrauf.specs.declared.connection.DatagramQueue.{DatagramQueue}
 use Rattle.vesgrauf.specs.declared.entry.Entry.{Entry}
 use Rattle.vesgrauf_stream.specs.Writing.{session_at, message_at, head_by}
+use Rattle.vesgrauf.specs.Limits.{most_datagrams}
 use Rattle.wtp_sending.specs.Session.{datagram_head}
 use Rattle.vesgrauf.specs.State.{view_of, stream_at, Of}
 
@@ -15,7 +16,7 @@ IsHead e bytes = (session_at e.writing ≡ Ok tt) × (bytes ≡ head_by datagram
 
 -- Fewer datagrams wait than may, of which there is at least one.
 abbrev pub has_place : Connection → Bool
-has_place c = nat_lt (length c.datagrams.queue.items) (max c.config.datagram_queue 1)
+has_place c = nat_lt (length c.datagrams.queue.items) (most_datagrams c.config)
 
 -- the first bytes of a datagram of this session are these
 abbrev pub HeadOf : Connection → ℕ → List ℕ → Type 0

@@ -15,6 +15,7 @@ pub mod Joined
 pub mod Keeps
 pub mod Kept
 pub mod Leaving
+pub mod Limits
 pub mod Members
 pub mod Messages
 pub mod Order

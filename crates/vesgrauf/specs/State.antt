@@ -1,5 +1,5 @@
 -- A connection as its contracts speak of it.
-use Rattle.std.specs.Prelude.{if◌then◌else◌, ◌%◌, ◌==◌, ◌&&◌, ◌++◌, nat_lt, max, ◌≡◌, ◌⊎◌, ◌||◌, ℕ, Bool, true, false, not, is_some, IfOk, IfSome, List, [], ◌∷◌, length, Option, None, Some, Result, Ok, Err}
+use Rattle.std.specs.Prelude.{if◌then◌else◌, ◌%◌, ◌==◌, ◌&&◌, ◌++◌, nat_lt, ◌≡◌, ◌⊎◌, ◌||◌, ℕ, Bool, true, false, not, is_some, IfOk, IfSome, List, [], ◌∷◌, length, Option, None, Some, Result, Ok, Err}
 use Rattle.std.specs.List.{filter, list_any}
 use Rattle.std.specs.declared.vec.Vec.{Vec}
 use Rattle.std.specs.declared.alloc.Global.{Global}
@@ -45,6 +45,7 @@ use Rattle.wtp_sending.specs.declared.error.SendError.{SendError}
 use Rattle.wtp_sending.specs.declared.error.SendError.TheVariants as sending
 use Rattle.vesgrauf.specs.declared.output.Output.TheVariants as output
 use Rattle.vesgrauf.specs.Ids.{kind_of, to_open, was, blocked, count_unopened}
+use Rattle.vesgrauf.specs.Limits.{most_unopened}
 use Rattle.vesgrauf.specs.declared.output.StreamKind.{StreamKind}
 use Rattle.wtp_connection.specs.declared.budget.RequestBudget.{RequestBudget}
 use Rattle.wtp_sending.specs.declared.control.ControlSending.{ControlSending}
@@ -210,7 +211,7 @@ open_session c id = if is_over c then Err refused.Closed else open_of (known_in 
 
 -- fewer of a kind wait than may, of which there is at least one
 abbrev pub may_wait : Connection → StreamKind → Bool
-may_wait c k = nat_lt (count_unopened c.ids k) (max c.config.max_unopened 1)
+may_wait c k = nat_lt (count_unopened c.ids k) (most_unopened c.config)
 
 abbrev pub room_for : Connection → StreamKind → Result (Unit {0}) Refused
 room_for c k = if may_wait c k then Ok tt else Err refused.Full

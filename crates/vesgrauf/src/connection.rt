@@ -1,5 +1,7 @@
 //! A whole connection.
+ghost use Rattle.std.specs.Prelude.{length};
 ghost use Rattle.vesgrauf.specs.Joined.{Joined, Joined-prop};
+ghost use Rattle.vesgrauf.specs.Limits.{FewWait, FewWait-prop, Within, Within-prop};
 ghost use Rattle.vesgrauf.specs.Places.{Ordered, Ordered-prop};
 
 mod beginning;
@@ -113,6 +115,8 @@ pub struct Connection {
     closes: Option<u64>,
     ghost ordered: { Ordered streams.entries ready.ranks unplaced } by { Ordered-prop streams.entries ready.ranks unplaced },
     ghost joined: { Joined streams.entries ids } by { Joined-prop streams.entries ids },
+    ghost within: { Within config (length datagrams.queue.items) sessions held budget } by { Within-prop config (length datagrams.queue.items) sessions held budget },
+    ghost few: { FewWait config ids } by { FewWait-prop config ids },
 }
 
 /// What is to be looked at in the next steps.
@@ -280,7 +284,7 @@ impl Connection {
     }
 
     // Returns a connection without streams, of which nothing is queued.
-    #[tactic(auto, using(crate::proofs::GoesSteps::sound_none, crate::proofs::PlaceLemmas::ordered_none, crate::proofs::JoinedLemmas::joined_none))]
+    #[tactic(auto, using(crate::proofs::GoesSteps::sound_none, crate::proofs::PlaceLemmas::ordered_none, crate::proofs::JoinedLemmas::joined_none, crate::proofs::LimitLemmas::within_none, crate::proofs::LimitLemmas::few_none))]
     fn idle(alloc: Global, config: Config) -> Self
         ensures of_config { result.config ≡ config }
         ensures streams { result.streams.entries ≡ [] }

@@ -146,11 +146,11 @@ impl<'a> Input<'a> {
         self.credit = self.credit.saturating_add(read);
     }
 
-    // Nothing is left to report if all bytes are taken in, if that may be said, and if the stream does not end after them.
-    pub(crate) fn end_if_read(&mut self, may_end: bool)
+    // Nothing is left to report if all bytes are taken in, and if the stream does not end after them.
+    pub(crate) fn end_if_read(&mut self)
         ensures { IsSameOrRead self.old self.new }
     {
-        if may_end && self.chunk.len() == 0 && !self.chunk.is_last() {
+        if self.chunk.len() == 0 && !self.chunk.is_last() {
             self.report = Report::Nothing;
         }
     }

@@ -1,6 +1,6 @@
 //! Laws of a connection, of its runs or of the steps that its calls take. Each function does nothing: its contract is the
 //! law.
-ghost use Rattle.std.specs.Prelude.{◌≡◌, ◌++◌, ◌<◌, ◌≤◌, length, min, ℕ, Bool, List, [], ◌∷◌, Some, None, Ok, true, false};
+ghost use Rattle.std.specs.Prelude.{◌≡◌, ◌++◌, ◌+◌, ◌<◌, ◌≤◌, length, max, min, ℕ, Bool, List, [], ◌∷◌, Some, None, Ok, true, false};
 ghost use Rattle.vesgrauf_queue.specs.declared.ending.Ending.TheVariants as ending;
 ghost use Rattle.vesgrauf_stream.specs.Writing.{is_none};
 ghost use Rattle.wtp_qpack.specs.Field.{Field};
@@ -31,10 +31,12 @@ ghost use Rattle.vesgrauf.specs.Cuts.{IsCut, is_read_out};
 ghost use Rattle.vesgrauf.specs.Joined.{AreSevered, holds_in, is_severed};
 ghost use Rattle.vesgrauf.specs.Members.{Linked};
 ghost use Rattle.vesgrauf.specs.Own.{End, Sends, entry_at, is_sent, own_in};
-ghost use Rattle.vesgrauf.specs.Ids.{next_own};
+ghost use Rattle.vesgrauf.specs.Ids.{count_unopened, next_own};
 ghost use Rattle.vesgrauf.specs.Keeps.{Keeps};
 ghost use Rattle.vesgrauf.specs.State.{is_over, open_session};
 ghost use Rattle.vesgrauf.specs.declared.output.StreamKind.{StreamKind};
+ghost use Rattle.vesgrauf.specs.declared.output.StreamKind.TheVariants as kind;
+ghost use Rattle.wtp_frames.specs.declared.endpoint.Side.TheVariants as side;
 ghost use Rattle.vesgrauf.specs.Bounds.{AllFit, Fits, IsBounded, most_kept};
 ghost use Rattle.vesgrauf.specs.Kept.{AllKeep};
 ghost use Rattle.vesgrauf.specs.Theirs.{theirs_in};
@@ -224,6 +226,19 @@ pub fn sections_are_acknowledged_once()
         → a.d.decoder ≡ Some k → a.d.read ≡ Some (just_read required) → 0 < min required (insert_count k.table)
         → (u.bytes ≡ t.bytes ++ acknowledgment_bytes (instruction.Section id)) × (u.read ≡ None) }
     ensures unread { (id : ℕ) (t u : Table) (a : Acknowledges id t u) → a.d.read ≡ None → u.bytes ≡ t.bytes }
+{}
+
+/// At any time no more datagrams wait, no more sessions count, no more bytes are kept of all streams that QUIC's windows were
+/// extended by, and no more own streams wait until QUIC opens them, than the configuration says, but for the critical ones. The
+/// sessions of a client are not bounded by it. No more requests were given up before their answer than were answered and than
+/// `max_resets` together, but for one, by which the connection ends.
+pub fn limits_are_kept()
+    ensures datagrams { (c : Connection) → length c.datagrams.queue.items ≤ max c.config.datagram_queue 1 }
+    ensures sessions { (c : Connection) → c.config.side ≡ side.Server → c.sessions ≤ c.config.max_sessions }
+    ensures held { (c : Connection) → c.held ≤ c.config.receive_buffer_all }
+    ensures resets { (c : Connection) → c.budget.resets ≤ c.budget.answers + c.config.max_resets + 1 }
+    ensures unopened { (c : Connection) → (count_unopened c.ids kind.Bidirectional ≤ max c.config.max_unopened 1)
+        × (count_unopened c.ids kind.Unidirectional ≤ max c.config.max_unopened 1 + 3) }
 {}
 
 /// Over calls, while the connection lasts, of which each does some deeds for the own decoder stream, one after the other, and

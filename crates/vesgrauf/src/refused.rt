@@ -73,7 +73,7 @@ impl Refused {
     ghost use Rattle.vesgrauf.specs.State.{is_gone};
 
     /// Returns whether what the call is about is over: the connection, the session, the stream or its own half. The same
-    /// call is refused ever after.
+    /// call is refused ever after, unless it names a stream that the peer is still to open.
     pub fn is_gone(self) -> bool
         ensures { result ≡ is_gone self }
     {

@@ -2,7 +2,7 @@
 ghost use Rattle.std.specs.Prelude.{◌≡◌, is_some, is_ok, true, false, Some, None, OnOk, OnErr, IfErr, []};
 ghost use Rattle.vesgrauf.specs.Halves.{LastsBut, LastsOn};
 ghost use Rattle.vesgrauf.specs.Keeps.{KeepsBut};
-ghost use Rattle.vesgrauf.specs.State.{code_on, named_at, Becomes, Pauses, Prioritizes, IsStill, IsRefusedBy, IsWhyNamed};
+ghost use Rattle.vesgrauf.specs.State.{code_on, named_at, Becomes, Pauses, Prioritizes, IsStill, IsRefusedBy, IsWhyNamed, is_over};
 ghost use Rattle.vesgrauf.specs.declared.refused.Refused.TheVariants as refused;
 ghost use Rattle.vesgrauf.specs.Own.{EndsOwn, Untouched};
 ghost use Rattle.vesgrauf.specs.Theirs.{Left, Gone, theirs_at};
@@ -217,6 +217,7 @@ impl Connection {
     #[tactic(auto, using(crate::proofs::ActLemmas::act, crate::proofs::ActLemmas::act_still, crate::proofs::ActLemmas::act_kept, crate::proofs::KeepsLemmas::kept, std::proofs::lemmas::Map::Steps::set_value_same, crate::proofs::GoesLemmas::goes_set, crate::proofs::PlaceLemmas::ordered, crate::proofs::JoinedLemmas::joined, crate::proofs::SendsLemmas::lasts_as_before, crate::proofs::SendsLemmas::lasting_same, crate::proofs::LastsLemmas::lasts_refl))]
     pub fn pause(&mut self, id: u64, paused: bool) -> Result<(), Refused>
         ensures ok { OnOk result (Pauses id paused self.old self.new) }
+        ensures lives { OnOk result (is_over self.old ≡ false) }
         ensures looks { OnOk result (paused ≡ false → LooksAt id self.new) }
         ensures why { IfErr result (λ e. IsWhyNamed self.old id e) }
         ensures kept { OnErr result (IsStill self.old self.new) }
@@ -261,6 +262,7 @@ impl Connection {
     #[tactic(auto, using(crate::proofs::ActLemmas::act, crate::proofs::ActLemmas::act_still, crate::proofs::ActLemmas::act_kept, crate::proofs::KeepsLemmas::kept, std::proofs::lemmas::Map::Steps::set_value_same, crate::proofs::GoesLemmas::goes_set, crate::proofs::MovedLemmas::ordered_moved, crate::proofs::SendsLemmas::lasts_as_before, crate::proofs::SendsLemmas::lasting_same, crate::proofs::LastsLemmas::lasts_refl))]
     pub fn prioritize(&mut self, id: u64, priority: Priority) -> Result<(), Refused>
         ensures ok { OnOk result (Prioritizes id priority self.old self.new) }
+        ensures lives { OnOk result (is_over self.old ≡ false) }
         ensures why { IfErr result (λ e. IsWhyNamed self.old id e) }
         ensures kept { OnErr result (IsStill self.old self.new) }
         ensures goes { GoesOn [] self.old self.new }

@@ -59,24 +59,25 @@ impl Connection {
         ensures instructions { self.new.told.items ≡ self.old.told.items }
         ensures goes { GoesOn [] self.old self.new }
     {
+        let bytes = self.first_control_bytes()?;
+        self.control.id = self.take_critical();
+        match self.control.push(&mut self.tools.spares, bytes.as_slice()) {
+            Ok(_) => Ok(()),
+            Err(_) => Err(AllocError),
+        }
+    }
+
+    // Returns the first bytes of the own control stream.
+    fn first_control_bytes(&mut self) -> Result<Vec<u8>, AllocError>
+        ensures bytes { IfOk result (λ v. v.items ≡ settings_bytes (announced self.old.config)) }
+        ensures others { self.new ≡ record self.old { goaways = self.new.goaways } }
+    {
         let settings = self.settings()?;
         let mut bytes = Vec::new(self.alloc);
-        if self
-            .goaways
-            .settings(self.alloc, &settings, &mut bytes)
-            .is_err()
-        {
-            return Err(AllocError);
+        match self.goaways.settings(self.alloc, &settings, &mut bytes) {
+            Ok(()) => Ok(bytes),
+            Err(_) => Err(AllocError),
         }
-        self.control.id = self.take_critical();
-        if self
-            .control
-            .push(&mut self.tools.spares, bytes.as_slice())
-            .is_err()
-        {
-            return Err(AllocError);
-        }
-        Ok(())
     }
 
     // Returns the own SETTINGS.
@@ -108,11 +109,13 @@ impl Connection {
     ///
     /// # Errors
     ///
-    /// Nothing changes. `Closed`; `Send` for [`Notice`](crate::output::Shutdown::Notice) after the last one; and `Memory`.
+    /// Nothing changes. `Closed`; `Send` at a server for [`Notice`](crate::output::Shutdown::Notice) after the last one; and
+    /// `Memory`.
     /// The last one may be repeated: GOAWAY is sent again.
     #[tactic(auto, using(crate::proofs::ActLemmas::act, crate::proofs::ActLemmas::act_still, crate::proofs::ActLemmas::act_kept, crate::proofs::KeepsLemmas::kept, crate::proofs::LastsLemmas::lasts_refl))]
     pub fn shutdown(&mut self, phase: Shutdown) -> Result<(), Refused>
         ensures ok { OnOk result (ShutsDown phase self.old self.new) }
+        ensures lives { OnOk result (is_over self.old ≡ false) }
         ensures why { IfErr result (λ e.
             RefusesGoaway (is_over self.old) self.old.goaways (goaway_is phase self.old) e) }
         ensures kept { OnErr result (IsStill self.old self.new) }

@@ -1,10 +1,9 @@
 //! Datagrams (RFC 9297).
-ghost use Rattle.std.specs.Prelude.{◌≡◌, ◌≤◌, ◌+◌, ◌-◌, ◌++◌, [], Ok, Some, MatchOption, OnOk, IfOk, IfSome, OnErr, IfErr, List, ℕ, length, option_map};
+ghost use Rattle.std.specs.Prelude.{◌≡◌, ◌≤◌, ◌+◌, ◌++◌, is_some, true, [], Ok, Some, MatchOption, OnOk, IfOk, IfSome, OnErr, IfErr, List, ℕ, length, option_map};
 ghost use Rattle.vesgrauf.specs.Halves.{LastsOn};
 ghost use Rattle.vesgrauf.specs.Keeps.{Keeps};
-ghost use Rattle.vesgrauf.specs.State.{head, open_session};
+ghost use Rattle.vesgrauf.specs.State.{head, open_session, view_of};
 ghost use Rattle.vesgrauf.specs.Datagrams.{Adds, HeadOf, KeepsDatagrams, KeepsOthers, SendsDatagram};
-ghost use Rattle.vesgrauf.specs.Bounds.{DatagramsFit};
 ghost use Rattle.vesgrauf.specs.Order.{TakesFirst};
 ghost use Rattle.vesgrauf.specs.Own.{Untouched};
 ghost use Rattle.vesgrauf.specs.Told.{GoesOn, said_by, said_if};
@@ -42,7 +41,9 @@ impl DatagramQueue {
     }
 
     // Keeps a datagram whose session is to come, unless as many are kept as may.
-    fn keep_early(&mut self, session: u64, payload: &[u8]) -> Result<(), AllocError> {
+    fn keep_early(&mut self, session: u64, payload: &[u8]) -> Result<(), AllocError>
+        ensures { self.new.queue ≡ self.old.queue }
+    {
         if self.early.len() + self.aged.len() < MAX_EARLY {
             self.early.keep(session, payload)?;
         }
@@ -50,7 +51,9 @@ impl DatagramQueue {
     }
 
     // Takes the first of those of a session.
-    fn take_early(&mut self, session: u64) -> Option<Vec<u8>> {
+    fn take_early(&mut self, session: u64) -> Option<Vec<u8>>
+        ensures { self.new.queue ≡ self.old.queue }
+    {
         match self.aged.take(session) {
             Some(payload) => Some(payload),
             None => self.early.take(session),
@@ -61,6 +64,7 @@ impl DatagramQueue {
     pub(super) fn age(&mut self, alloc: Global)
         ensures others { self.new ≡ record self.old { early = self.new.early; aged = self.new.aged } }
         ensures aged { self.old.opened.items ≡ [] → (self.new.aged ≡ self.old.early) × (self.new.early ≡ []) }
+        ensures kept { is_some (head self.old.opened.items) ≡ true → self.new ≡ self.old }
     {
         if self.opened.is_empty() {
             self.aged = mem::replace(&mut self.early, EarlyDatagrams::new(alloc));
@@ -132,7 +136,7 @@ impl Connection {
     /// # Errors
     ///
     /// Nothing changes. `Closed`; `SessionGone`; `NotOpen`; `TooLarge` if it has more bytes than
-    /// [`max_datagram`](Self::max_datagram) says; and `Memory`.
+    /// [`max_datagram`](Self::max_datagram) says, or where that is `None` since QUIC's datagrams are too small; and `Memory`.
     #[tactic(auto, using(crate::proofs::ActLemmas::act, crate::proofs::ActLemmas::act_still, crate::proofs::ActLemmas::act_kept, crate::proofs::KeepsLemmas::kept, crate::proofs::LastsLemmas::lasts_refl))]
     pub fn send_datagram(&mut self, session: u64, payload: &[u8]) -> Result<bool, Refused>
         ensures open { IfOk result (λ queued. open_session self.old session ≡ Ok tt) }
@@ -142,7 +146,6 @@ impl Connection {
         ensures others { KeepsOthers self.old self.new }
         ensures kept { OnErr result (KeepsDatagrams self.old self.new) }
         ensures goes { GoesOn [] self.old self.new }
-        ensures fits { DatagramsFit self.old → DatagramsFit self.new }
         ensures lasts { LastsOn [] self.old self.new }
         ensures works { WorksOn self.old self.new }
     {
@@ -159,19 +162,23 @@ impl Connection {
         Ok(true)
     }
 
-    /// Returns how many bytes the payload of a datagram of a session may have now, or `None` if it is not open.
+    /// Returns how many bytes the payload of a datagram of a session may have now, or `None` if it may have none: the session
+    /// is not open, or QUIC's datagrams have no room for its first bytes. It is `None` too if memory is refused.
     pub fn max_datagram(&self, session: u64) -> Option<usize>
         ensures open { IfSome result (λ n. open_session self.now session ≡ Ok tt) }
         ensures len { IfSome result (λ n. (first : List ℕ) × HeadOf self.now session first
-            × (n ≡ self.now.datagrams.limit - length first)) }
+            × (length first + n ≡ self.now.datagrams.limit)) }
     {
         if self.check_session(session).is_err() {
             return None;
         }
-        match self.datagram_head(session) {
-            Ok(head) => Some(self.datagrams.limit.saturating_sub(head.len())),
-            Err(_) => None,
+        let Ok(head) = self.datagram_head(session) else {
+            return None;
+        };
+        if head.len() > self.datagrams.limit {
+            return None;
         }
+        Some(self.datagrams.limit - head.len())
     }
 
     // Returns the first bytes of a datagram of a session.
@@ -208,6 +215,7 @@ impl Connection {
         ensures ok { OnOk result (TakesFirst self.old.datagrams.queue.items self.new.datagrams.queue.items) }
         ensures kept { OnErr result (self.new.datagrams.queue.items ≡ self.old.datagrams.queue.items) }
         ensures refused { IfErr result (λ e. e ≡ refused.Memory) }
+        ensures others { view_of self.new ≡ record (view_of self.old) { events = self.new.events.items; datagrams = self.new.datagrams.queue.items } }
         ensures own { Untouched self.old.streams.entries self.new.streams.entries }
         ensures left { Left self.old.streams.entries self.new.streams.entries }
         ensures config { self.new.config ≡ self.old.config }
@@ -226,7 +234,7 @@ impl Connection {
     // 9297, section 2.1).
     pub(super) fn drop_datagrams(&mut self, session: u64) -> Result<(), AllocError>
         ensures keeps { Keeps [] self.old self.new }
-        ensures others { self.new ≡ record self.old { events = self.new.events; datagrams = self.new.datagrams } }
+        ensures others { view_of self.new ≡ record (view_of self.old) { events = self.new.events.items; datagrams = self.new.datagrams.queue.items } }
     {
         self.datagrams
             .queue
@@ -240,7 +248,7 @@ impl Connection {
     fn tell_room(&mut self, left: usize) -> Result<(), AllocError>
         ensures queue { self.new.datagrams.queue ≡ self.old.datagrams.queue }
         ensures keeps { Keeps [] self.old self.new }
-        ensures others { self.new ≡ record self.old { events = self.new.events; datagrams = self.new.datagrams } }
+        ensures others { view_of self.new ≡ record (view_of self.old) { events = self.new.events.items; datagrams = self.new.datagrams.queue.items } }
     {
         if self.ended.is_some() || !self.datagrams.is_owed {
             return Ok(());

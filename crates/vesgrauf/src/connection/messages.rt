@@ -6,7 +6,9 @@ ghost use Rattle.vesgrauf_stream.specs.declared.tools.Tools.{Tools as ToolsOf};
 ghost use Rattle.vesgrauf.specs.Messages.{allowed, IsSameBut, ChangesBy, ChangesThen, ClosesSession};
 ghost use Rattle.vesgrauf.specs.Halves.{LastsBut, LastsOn};
 ghost use Rattle.vesgrauf.specs.Keeps.{Keeps, KeepsBut};
-ghost use Rattle.vesgrauf.specs.Own.{UntouchedBut};
+ghost use Rattle.vesgrauf.specs.Cuts.{AreCut};
+ghost use Rattle.vesgrauf.specs.Joined.{holds_in};
+ghost use Rattle.vesgrauf.specs.Own.{UntouchedBut, entry_at};
 ghost use Rattle.vesgrauf.specs.Theirs.{Left};
 ghost use Rattle.vesgrauf.specs.Told.{GoesOn};
 ghost use Rattle.vesgrauf.specs.State.{stream_at, Changes, IsFor, IsStill, IsStillBut, IsRefused, SaysOrWaits, StaysFor, IsWhy, IsWhyOf, RefusesBytes, RefusesEnd, FinishesUnless, was_finished, was_told_full, is_over, open_session};
@@ -54,6 +56,7 @@ impl Connection {
         ensures config { self.new.config ≡ self.old.config }
         ensures goes { GoesOn [] self.old self.new }
         ensures ends { is_over self.old ≡ true → is_over self.new ≡ true }
+        ensures lives { OnOk result (is_over self.old ≡ false) }
         ensures responds { OnOk result ((s : ToolsOf) × (t : ToolsOf) × IsSameBut self.old.tools s × ChangesThen id
             (λ v w. SendsHeaders (response_at v id (allowed self.old)) list.now fin s t v w) self.old self.new) }
         ensures lasts { LastsBut id self.old self.new }
@@ -204,6 +207,7 @@ impl Connection {
     #[tactic(auto, using(crate::proofs::ActLemmas::act, crate::proofs::ActLemmas::act_still, crate::proofs::ActLemmas::act_kept, crate::proofs::KeepsLemmas::kept, std::proofs::lemmas::Map::Steps::set_value_same, crate::proofs::GoesLemmas::goes_set, crate::proofs::SendsLemmas::lasts_between, crate::proofs::SendsLemmas::lasts_same))]
     pub fn send(&mut self, id: u64, bytes: &[u8], fin: bool) -> Result<bool, Refused>
         ensures ok { IfOk result (λ room. Changes id (Sends bytes.now fin room) self.old self.new) }
+        ensures lives { OnOk result (is_over self.old ≡ false) }
         ensures why { IfErr result (λ e. IsWhy (RefusesBytes (length bytes.now) fin) self.old id e) }
         ensures told { IfErr result (λ e. e ≡ refused.Full → was_told_full self.old id ≡ true) }
         ensures kept { IfErr result (λ e. StaysFor e id self.old self.new) }
@@ -211,14 +215,29 @@ impl Connection {
         ensures lasts { LastsOn [] self.old self.new }
         ensures works { WorksOn self.old self.new }
     {
+        let was_full = self.begin_content(id)?;
+        let result = self.send_half(id, bytes, fin, was_full);
+        self.note_full(id, was_full | fills(&result));
+        result
+    }
+
+    // Begins a call that sends content: reserves memory, and counts the stream to those of which a `Writable` is owed. Returns
+    // whether it is one of them already.
+    #[inline(always)]
+    fn begin_content(&mut self, id: u64) -> Result<bool, Refused>
+        ensures still { IsStill self.old self.new }
+        ensures was { IfOk result (λ was. was ≡ was_told_full self.old id) }
+        ensures ok { OnOk result ((is_over self.old ≡ false) × (is_some (stream_at self.old id) ≡ true)) }
+        ensures err { IfErr result (λ e. ((e ≡ refused.Closed) × (is_over self.old ≡ true))
+            ⊎ (((e ≡ refused.NoStream) × (is_over self.old ≡ false) × (stream_at self.old id ≡ None))
+            ⊎ ((e ≡ refused.Memory) × (is_over self.old ≡ false)))) }
+    {
         let was_full = self.full.contains(&id);
         self.begin_send(id)?;
         if self.full.insert(id).is_err() {
             return Err(Refused::Memory);
         }
-        let result = self.send_half(id, bytes, fin, was_full);
-        self.note_full(id, was_full || matches!(result, Ok(false)));
-        result
+        Ok(was_full)
     }
 
     // Queues content on the own half of a stream.
@@ -257,6 +276,7 @@ impl Connection {
     #[tactic(auto, using(crate::proofs::ActLemmas::act, crate::proofs::ActLemmas::act_still, crate::proofs::ActLemmas::act_kept, crate::proofs::KeepsLemmas::kept, std::proofs::lemmas::Map::Steps::set_value_same, crate::proofs::GoesLemmas::goes_set, crate::proofs::SendsLemmas::lasts_between, crate::proofs::SendsLemmas::lasts_same))]
     pub fn send_owned(&mut self, id: u64, bytes: Vec<u8>, fin: bool) -> Result<bool, NotSent>
         ensures ok { IfOk result (λ room. Changes id (Sends bytes.items fin room) self.old self.new) }
+        ensures lives { OnOk result (is_over self.old ≡ false) }
         ensures why { IfErr result (λ e. IsWhy (RefusesBytes (length bytes.items) fin) self.old id e.why) }
         ensures told { IfErr result (λ e. e.why ≡ refused.Full → was_told_full self.old id ≡ true) }
         ensures kept { IfErr result (λ e. StaysFor e.why id self.old self.new) }
@@ -265,18 +285,12 @@ impl Connection {
         ensures lasts { LastsOn [] self.old self.new }
         ensures works { WorksOn self.old self.new }
     {
-        let was_full = self.full.contains(&id);
-        if let Err(why) = self.begin_send(id) {
-            return Err(NotSent { why, bytes });
-        }
-        if self.full.insert(id).is_err() {
-            return Err(NotSent {
-                why: Refused::Memory,
-                bytes,
-            });
-        }
+        let was_full = match self.begin_content(id) {
+            Ok(was_full) => was_full,
+            Err(why) => return Err(NotSent { why, bytes }),
+        };
         let result = self.send_half_owned(id, bytes, fin, was_full);
-        self.note_full(id, was_full || matches!(result, Ok(false)));
+        self.note_full(id, was_full | fills(&result));
         result
     }
 
@@ -346,6 +360,7 @@ impl Connection {
         ensures goes { GoesOn [] self.old self.new }
         ensures lasts { LastsOn [] self.old self.new }
         ensures ok { OnOk result (ChangesBy id (SendsTrailers list.now) self.old self.new) }
+        ensures lives { OnOk result (is_over self.old ≡ false) }
         ensures works { WorksOn self.old self.new }
     {
         self.begin_send(id)?;
@@ -391,6 +406,11 @@ impl Connection {
             → OnOk result (FinishesUnless (was_finished self.old id) id self.old self.new) }
         ensures session { is_ok (open_session self.old id) ≡ true
             → OnOk result (ChangesThen id (ClosesSession 0 []) self.old self.new) }
+        ensures lives { OnOk result (is_over self.old ≡ false) }
+        ensures cut { is_ok (open_session self.old id) ≡ true
+            → OnOk result (AreCut id self.old.streams.entries self.new.streams.entries) }
+        ensures over { is_ok (open_session self.old id) ≡ true
+            → OnOk result (holds_in (entry_at self.new.streams.entries id) ≡ false) }
         ensures own { UntouchedBut id self.old.streams.entries self.new.streams.entries }
         ensures left { Left self.old.streams.entries self.new.streams.entries }
         ensures config { self.new.config ≡ self.old.config }
@@ -408,6 +428,7 @@ impl Connection {
     #[tactic(auto, using(crate::proofs::ActLemmas::act, crate::proofs::ActLemmas::act_still, crate::proofs::ActLemmas::act_kept, crate::proofs::KeepsLemmas::kept, crate::proofs::TheirsLemmas::left_set, std::proofs::lemmas::Map::Steps::set_value_same, crate::proofs::GoesLemmas::goes_set, crate::proofs::PlaceLemmas::ordered, crate::proofs::JoinedLemmas::joined, crate::proofs::PlaceLemmas::ordered_sent, crate::proofs::LastsLemmas::lasts_refl, crate::proofs::LastsLemmas::lasts_but_set))]
     fn finish_half(&mut self, id: u64) -> Result<(), Refused>
         ensures ok { OnOk result (FinishesUnless (was_finished self.old id) id self.old self.new) }
+        ensures lives { OnOk result (is_over self.old ≡ false) }
         ensures why { IfErr result (λ e. IsWhy RefusesEnd self.old id e) }
         ensures kept { OnErr result (IsStill self.old self.new) }
         ensures own { UntouchedBut id self.old.streams.entries self.new.streams.entries }
@@ -470,4 +491,9 @@ impl From<Stop> for Refused {
             Stop::Broken(_, _) => Refused::Closed,
         }
     }
+}
+
+// Returns whether a call says that the stream is full.
+fn fills<E>(sent: &Result<bool, E>) -> bool {
+    matches!(sent, Ok(false))
 }

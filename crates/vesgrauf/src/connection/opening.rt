@@ -1,5 +1,5 @@
 //! Streams that are opened.
-ghost use Rattle.std.specs.Prelude.{◌≡◌, ◌⊎◌, ◌<◌, ◌||◌, ℕ, List, [], true, false, None, Some, MatchBool, OnOk, OnErr, IfOk, IfErr, if◌then◌else◌};
+ghost use Rattle.std.specs.Prelude.{◌≡◌, ◌⊎◌, ◌<◌, ◌||◌, ℕ, List, [], true, false, None, Some, Ok, MatchBool, OnOk, OnErr, IfOk, IfErr, if◌then◌else◌};
 ghost use Rattle.wtp_frames.specs.declared.endpoint.Side.TheVariants as side;
 ghost use Rattle.vesgrauf.specs.Keeps.{Keeps, KeepsOwn};
 ghost use Rattle.vesgrauf.specs.declared.refused.Refused.TheVariants as refused;
@@ -250,6 +250,7 @@ impl Connection {
         ensures refused { IfErr result (λ e. IsRefused e self.old self.new) }
         ensures id { IfOk result (λ id. id ≡ next_own self.old.ids kind) }
         ensures room { IfOk result (λ id. may_wait self.old kind ≡ true) }
+        ensures open { OnOk result (open_session self.old session ≡ Ok tt) }
         ensures own { IfOk result (λ id. UntouchedBut id self.old.streams.entries self.new.streams.entries) }
         ensures alone { IfOk result (λ id. AreOthers id self.old.streams.entries self.new.streams.entries) }
         ensures goes { IfOk result (λ id. GoesOn [] self.old self.new × (knows self.new id ≡ true)) }

@@ -8,7 +8,7 @@ ghost use Rattle.vesgrauf.specs.State.{stream_at, knows_of};
 ghost use Rattle.vesgrauf.specs.Theirs.{Gone, Hands, IsOf, theirs_at, theirs_by, told_in};
 ghost use Rattle.vesgrauf.specs.Told.{said_by, said_in};
 
-use crate::connection::reading::counted;
+use crate::connection::reading::fewer;
 use crate::connection::{Connection, Step, Stop, internal};
 use crate::entry::Peer;
 use crate::event::{Event, EventKind};
@@ -239,7 +239,7 @@ impl Connection {
         entry.reading.drop_kept();
         let owed = entry.withheld;
         entry.withheld = 0;
-        self.held = counted(self.held, before, 0);
+        self.held = fewer(self.held, before, 0);
         owed
     }
 

@@ -141,7 +141,7 @@ impl Connection {
         }
         let piece = self.piece_in(id, &mut input.chunk)?;
         input.count_read(piece.read);
-        input.end_if_read(self.held <= self.config.receive_buffer_all);
+        input.end_if_read();
         Some(piece)
     }
 

@@ -145,14 +145,15 @@ impl Connection {
         let Some(entry) = self.streams.get_mut(&id) else {
             return Ok(None);
         };
-        Ok(entry.look_plain(
+        let found = entry.look_plain(
             id,
             self.alloc,
             &mut self.shared,
             &mut self.fields,
             &mut self.told,
             chunk,
-        )?)
+        )?;
+        Ok(found)
     }
 
     // Handles what was found in bytes of a stream.
@@ -212,7 +213,7 @@ impl Connection {
             self.old.streams.entries input.old self.new.streams.entries input.new) }
         ensures bounded { OnOk result (KeepsBound self.old self.new) }
     {
-        input.end_if_read(self.held <= self.config.receive_buffer_all);
+        input.end_if_read();
         self.tell_read(id, EventKind::Data(bytes))
     }
 }

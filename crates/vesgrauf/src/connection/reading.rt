@@ -1,9 +1,8 @@
 //! Bytes of streams that came, and those that wait.
-ghost use Rattle.std.specs.Prelude.{◌≡◌, ◌≤◌, false, true, [], length, IfOk, OnOk};
+ghost use Rattle.std.specs.Prelude.{◌≡◌, ◌≤◌, ◌+◌, false, true, [], length, IfOk, OnOk};
 ghost use Rattle.vesgrauf.specs.Bounds.{Fits, KeepsBound, most_kept};
 ghost use Rattle.vesgrauf.specs.Instructions.{table_of};
 ghost use Rattle.vesgrauf.specs.Keeps.{Keeps, KeepsOwn};
-ghost use Rattle.vesgrauf.specs.State.{IsStill};
 ghost use Rattle.vesgrauf.specs.Items.{items_in, items_by, items_found};
 ghost use Rattle.vesgrauf.specs.Theirs.{Left, OnlyAt, Same, ReadsOn, ReadsKept, Hands, Passes, TellsKept, Tells, Gone, theirs_at, told_in};
 ghost use Rattle.vesgrauf.specs.Told.{said_by};
@@ -276,27 +275,13 @@ impl Connection {
         )?;
         let owed = entry.count_looked(&found, kept, len, chunk.len());
         let after = entry.credited();
-        self.held = counted(self.held, before, after);
+        self.held = fewer(self.held, before, after);
         Ok((found, owed))
-    }
-
-    // Returns how many more bytes of a stream that waits QUIC's windows are extended by. Half of `receive_buffer_all` is
-    // left to frames that are cut.
-    fn room_to_wait(&self, id: u64) -> usize {
-        let Some(entry) = self.streams.get(&id) else {
-            return 0;
-        };
-        let all = (self.config.receive_buffer_all / 2).saturating_sub(self.held);
-        let own = self
-            .config
-            .receive_buffer
-            .saturating_sub(entry.reading.len());
-        all.min(own)
     }
 
     // Keeps the bytes of the input, whose stream needs more, waits or is paused. QUIC's windows are extended by at most
     // `most` of them.
-    #[tactic(auto, using(crate::proofs::ActLemmas::act, crate::proofs::TellsLemmas::same_left, crate::proofs::BoundLemmas::bound_only))]
+    #[tactic(auto, using(crate::proofs::ActLemmas::act, crate::proofs::KeepsOwnLemmas::holds_refl, crate::proofs::TellsLemmas::same_left, crate::proofs::BoundLemmas::bound_only))]
     fn keep<'a>(&mut self, id: u64, input: &mut Input<'a>, most: usize) -> Result<(), Stop>
         ensures keeps { KeepsOwn [] self.old self.new }
         ensures works { OnOk result (WorksOn self.old self.new) }
@@ -304,13 +289,18 @@ impl Connection {
             → OnOk result (Same self.old.streams.entries input.old self.new.streams.entries input.new) }
         ensures bounded { OnOk result (KeepsBound self.old self.new) }
     {
-        self.keep_input(id, input, most)?;
+        let credit = input.chunk.len().min(most);
+        if !self.has_room_to_hold(credit) {
+            return Err(Stop::from(EXCESSIVE_LOAD));
+        }
+        self.keep_input(id, input, credit)?;
         self.check_kept(id)
     }
 
-    // Keeps the bytes of the input, however many are kept already.
+    // Keeps the bytes of the input, however many are kept of the stream already. QUIC's windows are extended by so many.
     #[tactic(auto, using(crate::proofs::ActLemmas::act, crate::proofs::ActLemmas::act_kept, crate::proofs::KeepsOwnLemmas::holds_refl, crate::proofs::KeepsOwnLemmas::holds_looked, crate::proofs::LookLemmas::keep_set, crate::proofs::TellsLemmas::only_set, crate::proofs::TellsLemmas::only_none, crate::proofs::PlaceLemmas::ordered, crate::proofs::JoinedLemmas::joined))]
-    fn keep_input<'a>(&mut self, id: u64, input: &mut Input<'a>, most: usize) -> Result<(), Stop>
+    fn keep_input<'a>(&mut self, id: u64, input: &mut Input<'a>, credit: usize) -> Result<(), Stop>
+        requires { self.old.held + credit ≤ self.old.config.receive_buffer_all }
         ensures keeps { KeepsOwn [] self.old self.new }
         ensures works { OnOk result (WorksOn self.old self.new) }
         ensures same { input.old.report ≡ report.Stream id
@@ -322,14 +312,11 @@ impl Connection {
             return Ok(());
         };
         let len = input.chunk.len();
-        let before = entry.credited();
         entry.reading.keep(&mut input.chunk)?;
         input.report = Report::Nothing;
-        let credit = len.min(most);
-        entry.withheld = entry.withheld.saturating_add(len - credit);
-        let after = entry.credited();
+        entry.withheld = entry.withheld.saturating_add(len.saturating_sub(credit));
         input.credit = input.credit.saturating_add(credit);
-        self.held = counted(self.held, before, after);
+        self.held = self.held.saturating_add(credit);
         Ok(())
     }
 
@@ -361,15 +348,19 @@ impl Connection {
         owed
     }
 
-    // Extends QUIC's windows by bytes of a stream that were held back, and counts them as kept.
-    fn credit_held(&mut self, id: u64, owed: usize) -> Result<(), AllocError>
+    // Extends QUIC's windows by bytes of a stream that were held back, and counts them as kept, if as many may be.
+    #[tactic(auto, using(crate::proofs::KeepsLemmas::keep, crate::proofs::LimitLemmas::with_held))]
+    fn credit_held(&mut self, id: u64, owed: usize) -> Result<(), Stop>
         ensures keeps { Keeps [] self.old self.new }
     {
-        self.held = counted(self.held, 0, owed);
-        self.credit(id, owed)
+        if !self.has_room_to_hold(owed) {
+            return Err(Stop::from(EXCESSIVE_LOAD));
+        }
+        self.held = self.held.saturating_add(owed);
+        Ok(self.credit(id, owed)?)
     }
 
-    // Checks the bounds of what is kept of a stream, and of all.
+    // Checks the bounds of what is kept of a stream.
     #[tactic(auto, using(crate::proofs::ActLemmas::act, crate::proofs::KeepsOwnLemmas::hold, crate::proofs::BoundLemmas::gone_fits, crate::proofs::StepLemmas::left_trans))]
     fn check_kept(&mut self, id: u64) -> Result<(), Stop>
         ensures keeps { KeepsOwn [] self.old self.new }
@@ -377,9 +368,6 @@ impl Connection {
         ensures left { Left self.old.streams.entries self.new.streams.entries }
         ensures fits { OnOk result (Fits (most_kept self.old.config) (theirs_at self.new.streams.entries id)) }
     {
-        if self.held > self.config.receive_buffer_all {
-            return Err(Stop::from(EXCESSIVE_LOAD));
-        }
         if self.has_room_for_kept(id) {
             return Ok(());
         }
@@ -420,13 +408,6 @@ impl Connection {
             Joining::Broken(fault) => Err(Stop::from(fault)),
             _ => self.drop_untold(id),
         }
-    }
-
-    // Counts the bytes that are kept of a stream and that QUIC's windows were extended by, which were so many before.
-    pub(super) fn count_held(&mut self, before: usize, after: usize)
-        ensures { IsStill self.old self.new }
-    {
-        self.held = counted(self.held, before, after);
     }
 
     // Passes what came on the decoder stream of the peer to the own encoder.
@@ -485,9 +466,11 @@ impl Connection {
     }
 }
 
-// Returns how many bytes are kept of all streams, where those of one were so many before.
-pub(super) fn counted(held: usize, before: usize, after: usize) -> usize {
-    held.saturating_sub(before).saturating_add(after)
+// Returns how many bytes are kept of all streams, where fewer are of one than before.
+pub(super) fn fewer(held: usize, before: usize, after: usize) -> usize
+    ensures { result ≤ held }
+{
+    held.saturating_sub(before.saturating_sub(after))
 }
 
 // Returns whether no bytes are left, and no end.

@@ -1,19 +1,21 @@
 //! Requests that are sent.
-ghost use Rattle.std.specs.Prelude.{◌≡◌, false, true, is_some, Some, None, OnOk, OnErr, IfOk, IfErr, []};
+ghost use Rattle.std.specs.Prelude.{◌≡◌, nat_lt, not, false, true, is_some, Some, None, OnOk, OnErr, IfOk, IfErr, []};
 ghost use Rattle.vesgrauf_stream.specs.Headers.{request_at, SendsHeaders};
 ghost use Rattle.vesgrauf_stream.specs.Reading.{kept_of};
 ghost use Rattle.vesgrauf.specs.Halves.{LastsOn};
 ghost use Rattle.vesgrauf.specs.Instructions.{table_of};
 ghost use Rattle.vesgrauf.specs.Keeps.{Keeps};
 ghost use Rattle.vesgrauf.specs.Messages.{allowed, Encodes, IsRequest};
-ghost use Rattle.vesgrauf.specs.Ids.{taken};
+ghost use Rattle.vesgrauf.specs.Ids.{next_own, taken};
 ghost use Rattle.vesgrauf.specs.Streams.{new_entry};
 ghost use Rattle.vesgrauf.specs.declared.entry.Peer.TheVariants as peers;
 ghost use Rattle.vesgrauf.specs.Joined.{holds_in};
+ghost use Rattle.vesgrauf.specs.Limits.{most_sessions};
 ghost use Rattle.vesgrauf.specs.Members.{session_in};
 ghost use Rattle.vesgrauf.specs.Own.{entry_at, UntouchedBut};
 ghost use Rattle.vesgrauf.specs.Told.{GoesOn, AreOthers, IsUndone, knows};
-ghost use Rattle.vesgrauf.specs.State.{stream_at, knows_of, may_wait, view_of, with_own, Of};
+ghost use Rattle.wtp_frames.specs.declared.endpoint.Side.TheVariants as side;
+ghost use Rattle.vesgrauf.specs.State.{is_over, stream_at, knows_of, may_wait, view_of, with_own, Of};
 ghost use Rattle.vesgrauf.specs.declared.output.StreamKind.TheVariants as kinds;
 ghost use Rattle.vesgrauf.specs.declared.refused.Refused.TheVariants as refused;
 
@@ -25,6 +27,7 @@ use crate::refused::Refused;
 use vesgrauf_stream::reading::Reading;
 use vesgrauf_stream::writing::Writing;
 use wtp_fields::fields::FieldList;
+use wtp_frames::endpoint::Side;
 use wtp_messages::response::Asked;
 use wtp_sending::error::SendError;
 
@@ -44,9 +47,14 @@ impl Connection {
     pub fn request(&mut self, list: &FieldList, fin: bool) -> Result<u64, Refused>
         ensures id { IfOk result (λ id. id ≡ self.old.ids.bidirectional) }
         ensures room { IfOk result (λ id. may_wait self.old kinds.Bidirectional ≡ true) }
+        ensures lives { OnOk result (is_over self.old ≡ false) }
+        ensures client { OnOk result (self.old.config.side ≡ side.Client) }
         ensures own { IfOk result (λ id. UntouchedBut id self.old.streams.entries self.new.streams.entries) }
         ensures alone { IfOk result (λ id. AreOthers id self.old.streams.entries self.new.streams.entries) }
         ensures kept { OnErr result (Keeps [] self.old self.new) }
+        ensures same { OnErr result (view_of self.new ≡ record (view_of self.old) { streams = self.new.streams.entries }) }
+        ensures undone { OnErr result (IsUndone (next_own self.old.ids kinds.Bidirectional) self.old.streams.entries
+            self.new.streams.entries) }
         ensures goes { IfOk result (λ id. GoesOn [] self.old self.new × (knows self.new id ≡ true)) }
         ensures lasts { IfOk result (λ id. LastsOn [] self.old self.new) }
         ensures table { IfOk result (λ id. table_of self.new ≡ table_of self.old) }
@@ -78,20 +86,47 @@ impl Connection {
         self.open_request(id, asked, list, fin)?;
         self.ids.take(StreamKind::Bidirectional);
         self.queue_due();
-        self.count_session(asked);
+        self.count_asked(asked);
         Ok(id)
     }
 
     // Counts a session, if it is one that is asked for.
-    fn count_session(&mut self, asked: Asked)
+    fn count_asked(&mut self, asked: Asked)
         ensures streams { self.new.streams ≡ self.old.streams }
         ensures ids { self.new.ids ≡ self.old.ids }
         ensures events { self.new.events ≡ self.old.events }
-        ensures others { self.new ≡ record self.old { sessions = self.new.sessions } }
+        ensures tools { self.new.tools ≡ self.old.tools }
+        ensures others { view_of self.new ≡ record (view_of self.old) { sessions = self.new.sessions } }
     {
         if asked == Asked::Session {
+            self.count_session();
+        }
+    }
+
+    // Counts a session, if there may be one more.
+    #[tactic(auto, using(crate::proofs::KeepsLemmas::keep, crate::proofs::LimitLemmas::with_sessions))]
+    pub(super) fn count_session(&mut self)
+        ensures streams { self.new.streams ≡ self.old.streams }
+        ensures ids { self.new.ids ≡ self.old.ids }
+        ensures events { self.new.events ≡ self.old.events }
+        ensures tools { self.new.tools ≡ self.old.tools }
+        ensures others { view_of self.new ≡ record (view_of self.old) { sessions = self.new.sessions } }
+        ensures keeps { Keeps [] self.old self.new }
+    {
+        if !self.has_all_sessions() {
             self.sessions = self.sessions.saturating_add(1);
         }
+    }
+
+    // Returns whether there are as many sessions as may be.
+    pub(super) fn has_all_sessions(&self) -> bool
+        ensures { result ≡ not (nat_lt self.now.sessions (most_sessions self.now.config)) }
+    {
+        let most = match self.config.side {
+            Side::Client => u32::MAX,
+            Side::Server => self.config.max_sessions,
+        };
+        self.sessions >= most
     }
 
     // Checks that what a request asks for is supported.

@@ -88,7 +88,7 @@ impl Connection {
     }
 
     /// Returns the bytes that QUIC is to send next, or `None` if no stream may be sent from, or all are blocked. They are
-    /// the same until they are sent or the stream is blocked, and no call is made that sends or receives.
+    /// the same until another call is made that changes something.
     #[tactic(auto, using(crate::proofs::ProgressLemmas::all_sent))]
     pub fn next_send(&self) -> Option<Next<'_>>
         ensures next { IfSome result (λ n. ShowsNext self.now n.id n.bytes.now n.more.now n.fin) }

@@ -6,7 +6,7 @@ ghost use Rattle.vesgrauf.specs.Messages.{ClosesSession, ChangesThen};
 ghost use Rattle.vesgrauf_stream.specs.Writing.{Drains, Ends as EndsHalf, Closes as ClosesHalf};
 ghost use Rattle.vesgrauf.specs.Halves.{LastsBut, LastsOn};
 ghost use Rattle.vesgrauf.specs.Keeps.{Keeps, KeepsBut};
-ghost use Rattle.vesgrauf.specs.State.{stream_at, IsStill, IsRefused, Changes, IsWhy, RefusesDrain, is_over, known_in, open_session};
+ghost use Rattle.vesgrauf.specs.State.{stream_at, IsStill, IsRefused, Changes, IsWhy, RefusesDrain, head, is_over, known_in, open_session};
 ghost use Rattle.vesgrauf.specs.Own.{UntouchedBut, entry_at};
 ghost use Rattle.vesgrauf.specs.Items.{Item, Section, Asks};
 ghost use Rattle.wtp_webtransport.specs.declared.event.HeadersKind.TheVariants as headers;
@@ -35,7 +35,7 @@ impl Connection {
         ensures hands { IfOk result (λ s. Hands id (Asks list ∷ []) (told_in s)
             self.old.streams.entries self.new.streams.entries) }
     {
-        if self.sessions >= self.config.max_sessions {
+        if self.has_all_sessions() {
             return self.turn_away(id);
         }
         let step = self.tell_session(id, list)?;
@@ -80,7 +80,7 @@ impl Connection {
         ensures keeps { Keeps [] self.old self.new }
     {
         self.note_request(id, Asked::Session);
-        self.sessions = self.sessions.saturating_add(1);
+        self.count_session();
         self.note_session(id);
         self.share(id);
     }
@@ -268,6 +268,7 @@ impl Connection {
         ensures wakes { is_over self.old ≡ false → LooksAtAll self.new }
         ensures ages { is_over self.old ≡ false → self.old.datagrams.opened.items ≡ []
             → (self.new.datagrams.aged ≡ self.old.datagrams.early) × (self.new.datagrams.early ≡ []) }
+        ensures gives { is_some (head self.old.datagrams.opened.items) ≡ true → self.new.datagrams ≡ self.old.datagrams }
         ensures others { is_over self.old ≡ false → self.new ≡ record self.old {
           ticks = self.new.ticks;
           datagrams = record self.old.datagrams { early = self.new.datagrams.early; aged = self.new.datagrams.aged };

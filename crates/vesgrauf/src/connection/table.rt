@@ -1,5 +1,5 @@
 //! The own streams of QPACK (RFC 9204, sections 4.2 to 4.4).
-ghost use Rattle.std.specs.Prelude.{◌≡◌, ◌++◌, OnOk, OnErr, IfErr, []};
+ghost use Rattle.std.specs.Prelude.{◌≡◌, ◌++◌, ◌+◌, nat_lt, true, OnOk, OnErr, IfErr, IfSome, []};
 ghost use Rattle.vesgrauf.specs.Cuts.{Alone};
 ghost use Rattle.vesgrauf.specs.Keeps.{Keeps};
 ghost use Rattle.vesgrauf.specs.Own.{is_sent};
@@ -8,6 +8,9 @@ ghost use Rattle.vesgrauf.specs.declared.connection.Stop.TheVariants as stop;
 ghost use Rattle.vesgrauf.specs.Bounds.{InstructionsFit};
 ghost use Rattle.vesgrauf.specs.Instructions.{TellsInserts, Cancels, first_bytes, table_of};
 ghost use Rattle.vesgrauf.specs.Told.{GoesOn};
+ghost use Rattle.vesgrauf.specs.Ids.{count_unopened};
+ghost use Rattle.vesgrauf.specs.Limits.{critical, most_unopened};
+ghost use Rattle.vesgrauf.specs.declared.output.StreamKind.TheVariants as kinds;
 
 use crate::connection::failing::EXCESSIVE_LOAD;
 use crate::connection::{Connection, Stop};
@@ -23,6 +26,9 @@ const LARGEST_TABLE: u64 = 1 << 60;
 const ENCODER_TYPE: u8 = 0x02;
 
 const DECODER_TYPE: u8 = 0x03;
+
+/// How many own critical streams there are: the control stream, and those two.
+const CRITICAL: u64 = 3;
 
 #[tactic(auto, using(crate::proofs::KeepsLemmas::keep))]
 impl Connection {
@@ -47,11 +53,29 @@ impl Connection {
     #[tactic(auto, using(crate::proofs::KeepsLemmas::kept, crate::proofs::JoinedLemmas::joined_taken))]
     pub(super) fn take_critical(&mut self) -> Option<u64>
         ensures others { view_of self.new ≡ record (view_of self.old) { ids = self.new.ids } }
+        ensures control { self.new.control ≡ self.old.control }
+        ensures decoder { self.new.decoder ≡ self.old.decoder }
+        ensures told { self.new.told ≡ self.old.told }
+        ensures shared { self.new.shared ≡ self.old.shared }
+        ensures config { self.new.config ≡ self.old.config }
         ensures goes { GoesOn [] self.old self.new }
     {
-        let id = self.ids.next(StreamKind::Unidirectional);
+        let id = self.next_critical()?;
         self.ids.take(StreamKind::Unidirectional);
-        id
+        Some(id)
+    }
+
+    // Returns the ID of an own critical stream, if there is one left, and one more may wait until QUIC opens it.
+    fn next_critical(&self) -> Option<u64>
+        ensures { IfSome result (λ id. nat_lt (count_unopened self.now.ids kinds.Unidirectional)
+            (most_unopened self.now.config + critical) ≡ true) }
+    {
+        let most = self.config.max_unopened.max(1).saturating_add(CRITICAL);
+        if self.ids.count_unopened(StreamKind::Unidirectional) < most {
+            self.ids.next(StreamKind::Unidirectional)
+        } else {
+            None
+        }
     }
 
     // Begins the own dynamic table, if the peer's SETTINGS came and allow one.
@@ -76,7 +100,7 @@ impl Connection {
             .min(u64::from(self.config.encoder_table_capacity));
         let limit = peer.qpack_max_table_capacity;
         let is_possible = capacity > 0 && limit < LARGEST_TABLE;
-        if !is_possible || self.ids.next(StreamKind::Unidirectional).is_none() {
+        if !is_possible || self.next_critical().is_none() {
             return Ok(());
         }
         self.tools.instructions.reserve(16)?;

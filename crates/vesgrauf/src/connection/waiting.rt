@@ -1,5 +1,5 @@
 //! Streams that wait.
-ghost use Rattle.std.specs.Prelude.{◌≡◌, true, []};
+ghost use Rattle.std.specs.Prelude.{◌≡◌, ◌≤◌, ◌+◌, true, []};
 ghost use Rattle.vesgrauf.specs.Keeps.{Keeps};
 ghost use Rattle.vesgrauf.specs.State.{known_in, unless_over as unless_over_is};
 ghost use Rattle.vesgrauf.specs.Theirs.{IsSilent};
@@ -148,6 +148,27 @@ impl Connection {
         if !self.waiting.is_empty() {
             self.wake();
         }
+    }
+
+    // Returns how many more bytes of a stream that waits QUIC's windows are extended by. Half of `receive_buffer_all` is
+    // left to frames that are cut.
+    pub(super) fn room_to_wait(&self, id: u64) -> usize {
+        let Some(entry) = self.streams.get(&id) else {
+            return 0;
+        };
+        let all = (self.config.receive_buffer_all / 2).saturating_sub(self.held);
+        let own = self
+            .config
+            .receive_buffer
+            .saturating_sub(entry.reading.len());
+        all.min(own)
+    }
+
+    // Returns whether QUIC's windows may be extended by so many more bytes that are kept.
+    pub(super) fn has_room_to_hold(&self, len: usize) -> bool
+        ensures { result ≡ true → self.now.held + len ≤ self.now.config.receive_buffer_all }
+    {
+        len <= self.config.receive_buffer_all.saturating_sub(self.held)
     }
 
     // Returns what is known of a session. One that ended here is over. At a client any of its requests is over that has no

@@ -1,5 +1,6 @@
+use Rattle.vesgrauf.proofs.PlaceLemmas.{ordered_new_closed}
 use Rattle.vesgrauf.proofs.JoinedLemmas.{joined_dropped, joined_member, joined_noted}
-use Rattle.std.proofs.Common.{rules, None, [], ap}
+use Rattle.std.proofs.Common.{rules, None, [], ap, sym}
 use Rattle.vesgrauf.specs.Instructions.{table_of}
 use Rattle.vesgrauf.specs.Keeps.{KeepsAll}
 use Rattle.vesgrauf.proofs.KeepsLemmas.{keeps_refl}
@@ -39,3 +40,8 @@ invariant_of-self-in-Err-clause-joined c = rw (ap (λ m. m.entries) c.in-Err.ens
     c.requires.absent c.forget.ensures
     (joined_noted c.args.self.now.streams.entries c.args.self.now.ids c.note.new.self c.args.session c.args.id
     c.in_ok-note.ensures c.args.self.now.joined))
+
+pub invariant_of-self-in-Ok-clause-ordered : goal.invariant_of-self-in-Ok-clause-ordered
+invariant_of-self-in-Ok-clause-ordered c = ordered_new_closed c.args.self.now.streams c.insert.new.self
+    c.args.self.now.ready.ranks c.args.self.now.unplaced c.args.id c.args.entry (sym c.requires.absent) c.requires.closed
+    (search (rules)) c.args.self.now.ordered

@@ -8,7 +8,7 @@ use Rattle.vesgrauf.specs.declared.entry.Entry.{Entry}
 use Rattle.vesgrauf.specs.Own.{entry_at}
 use Rattle.vesgrauf.proofs.JoinedLemmas.{joined_stays}
 use Rattle.vesgrauf.proofs.SeveredLemmas.{stays_same}
-use Rattle.vesgrauf.proofs.PlaceLemmas.{ordered_given, ordered_blocked, ordered_quiet}
+use Rattle.vesgrauf.proofs.PlaceLemmas.{ordered_given, ordered_blocked, ordered_quiet, ordered_half, ordered_closed}
 use Rattle.vesgrauf.specs.Instructions.{table_of}
 use Rattle.vesgrauf.specs.State.{is_over}
 use Rattle.vesgrauf.specs.Works.{WorksUnless, book_at, book_of}
@@ -143,3 +143,41 @@ returns-clause-lasts c =
     λ over sound. subst (λ (x : List (ℕ × Entry)). Lasts None [] c.args.self.now.streams.entries c.args.self.now.events.items x c.args.self.now.events.items)
     (sym written)
     (lasts_as_before None c.args.self.now.streams.entries c.args.self.now.events.items c.args.id e f there (lasting_same e f refl refl refl refl))
+
+pub returns-then-blocked-clause-lasts : goal.returns-then-blocked-clause-lasts
+returns-then-blocked-clause-lasts c =
+    let e : Entry = c.in-Some.entry.now in
+    let f : Entry = record e { is_blocked = true } in
+    let there : entry_at c.args.self.now.streams.entries c.args.id ≡ Some e = search (rules) in
+    let written : (c.get_mut.follows.lender f).entries
+    ≡ set_value (is_at (nat_cmp c.args.id)) c.args.self.now.streams.entries f = search (rules) in
+    λ over sound. subst (λ (x : List (ℕ × Entry)). Lasts None [] c.args.self.now.streams.entries c.args.self.now.events.items x c.args.self.now.events.items)
+    (sym written)
+    (lasts_as_before None c.args.self.now.streams.entries c.args.self.now.events.items c.args.id e f there (lasting_same e f refl refl refl refl))
+
+pub returns-then-not-entry-clause-lasts : goal.returns-then-not-entry-clause-lasts
+returns-then-not-entry-clause-lasts c =
+    let e : Entry = c.in-Some.entry.now in
+    let f : Entry = record e { is_blocked = false } in
+    let there : entry_at c.args.self.now.streams.entries c.args.id ≡ Some e = search (rules) in
+    let written : (c.get_mut.follows.lender f).entries
+    ≡ set_value (is_at (nat_cmp c.args.id)) c.args.self.now.streams.entries f = search (rules) in
+    λ over sound. subst (λ (x : List (ℕ × Entry)). Lasts None [] c.args.self.now.streams.entries c.args.self.now.events.items x c.args.self.now.events.items)
+    (sym written)
+    (lasts_as_before None c.args.self.now.streams.entries c.args.self.now.events.items c.args.id e f there (lasting_same e f refl refl refl refl))
+
+pub invariant_of-self-then-not-entry : goal.invariant_of-self-then-not-entry
+invariant_of-self-then-not-entry c =
+    let e : Entry = c.in-Some.entry.now in
+    let there : entry_at c.args.self.now.streams.entries c.args.id ≡ Some e = search (rules) in
+    let written : (f : Entry) → (c.get_mut.follows.lender f).entries
+    ≡ set_value (is_at (nat_cmp c.args.id)) c.args.self.now.streams.entries f = λ f. search (rules) in
+    record {
+      ordered = subst (λ (x : List (ℕ × Entry)). Ordered x c.args.self.now.ready.ranks c.args.self.now.unplaced) (sym (written (record e { is_blocked = false })))
+          (ordered_closed c.args.self.now.streams.entries c.args.self.now.ready.ranks c.args.self.now.unplaced c.args.id e (record e { is_blocked = false }) there (search (rules)) (search (rules)) c.args.self.now.ordered);
+      joined = subst (λ (x : List (ℕ × Entry)). Joined x c.args.self.now.ids) (sym (written (record e { is_blocked = false })))
+          (joined_stays c.args.self.now.streams.entries c.args.self.now.ids c.args.id e (record e { is_blocked = false }) there
+          (stays_same e (record e { is_blocked = false }) refl refl refl refl refl refl refl) c.args.self.now.joined);
+      within = c.args.self.now.within;
+      few = c.args.self.now.few;
+    }

@@ -77,3 +77,19 @@ invariant_of-self-2-clause-ordered c =
     (ordered_later c.args.self.now.streams.entries c.args.self.now.ready c.keep_place.new.ready c.args.self.now.unplaced c.args.id e _ there
     (sym c.has_more.ensures.more ∙ c.if-has_more.false)
     (not_there c.args.self.now.unplaced c.is_some.result c.is_some.ensures c.if-is_some.false) c.keep_place.ensures c.args.self.now.ordered)
+
+pub invariant_of-self-then-not-is_connect : goal.invariant_of-self-then-not-is_connect
+invariant_of-self-then-not-is_connect c =
+    let e : Entry = c.in-Some.entry.now in
+    let there : entry_at c.args.self.now.streams.entries c.args.id ≡ Some e = search (rules) in
+    let written : (f : Entry) → (c.get_mut.follows.lender f).entries
+    ≡ set_value (is_at (nat_cmp c.args.id)) c.args.self.now.streams.entries f = λ f. search (rules) in
+    record {
+      ordered = subst (λ (x : List (ℕ × Entry)). Ordered x c.args.self.now.ready.ranks c.args.self.now.unplaced) (sym (written _))
+          (ordered_half c.args.self.now.streams.entries c.args.self.now.ready.ranks c.args.self.now.unplaced c.args.id e _ there refl refl refl refl c.args.self.now.ordered);
+      joined = subst (λ (x : List (ℕ × Entry)). Joined x c.args.self.now.ids) (sym (written _))
+          (joined_stays c.args.self.now.streams.entries c.args.self.now.ids c.args.id e _ there
+          (stays_same e _ refl refl refl refl refl refl refl) c.args.self.now.joined);
+      within = c.args.self.now.within;
+      few = c.args.self.now.few;
+    }

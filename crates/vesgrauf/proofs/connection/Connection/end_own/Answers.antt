@@ -104,3 +104,35 @@ invariant_of-self-in-Err-clause-ordered c =
     ≡ set_value (is_at (nat_cmp c.args.id)) c.args.self.now.streams.entries f = λ f. search (rules) in
     subst (λ (x : List (ℕ × Entry)). Ordered x c.take_place.new.ready.ranks c.args.self.now.unplaced) (sym (written _))
     (rw c.in-Err.ensures.err (ordered_half c.args.self.now.streams.entries c.args.self.now.ready.ranks c.args.self.now.unplaced c.args.id e _ there refl refl refl refl c.args.self.now.ordered))
+
+pub invariant_of-self-then-not-is_connect : goal.invariant_of-self-then-not-is_connect
+invariant_of-self-then-not-is_connect c =
+    let e : Entry = c.in-Some.entry.now in
+    let there : entry_at c.args.self.now.streams.entries c.args.id ≡ Some e = search (rules) in
+    let written : (f : Entry) → (c.get_mut.follows.lender f).entries
+    ≡ set_value (is_at (nat_cmp c.args.id)) c.args.self.now.streams.entries f = λ f. search (rules) in
+    record {
+      ordered = subst (λ (x : List (ℕ × Entry)). Ordered x c.args.self.now.ready.ranks c.args.self.now.unplaced) (sym (written e))
+          (ordered_half c.args.self.now.streams.entries c.args.self.now.ready.ranks c.args.self.now.unplaced c.args.id e e there refl refl refl refl c.args.self.now.ordered);
+      joined = subst (λ (x : List (ℕ × Entry)). Joined x c.args.self.now.ids) (sym (written e))
+          (joined_stays c.args.self.now.streams.entries c.args.self.now.ids c.args.id e e there
+          (stays_same e e refl refl refl refl refl refl refl) c.args.self.now.joined);
+      within = c.args.self.now.within;
+      few = c.args.self.now.few;
+    }
+
+pub invariant_of-self-then-is_ended : goal.invariant_of-self-then-is_ended
+invariant_of-self-then-is_ended c =
+    let e : Entry = c.in-Some.entry.now in
+    let there : entry_at c.args.self.now.streams.entries c.args.id ≡ Some e = search (rules) in
+    let written : (f : Entry) → (c.get_mut.follows.lender f).entries
+    ≡ set_value (is_at (nat_cmp c.args.id)) c.args.self.now.streams.entries f = λ f. search (rules) in
+    record {
+      ordered = subst (λ (x : List (ℕ × Entry)). Ordered x c.args.self.now.ready.ranks c.args.self.now.unplaced) (sym (written e))
+          (ordered_half c.args.self.now.streams.entries c.args.self.now.ready.ranks c.args.self.now.unplaced c.args.id e e there refl refl refl refl c.args.self.now.ordered);
+      joined = subst (λ (x : List (ℕ × Entry)). Joined x c.args.self.now.ids) (sym (written e))
+          (joined_stays c.args.self.now.streams.entries c.args.self.now.ids c.args.id e e there
+          (stays_same e e refl refl refl refl refl refl refl) c.args.self.now.joined);
+      within = c.args.self.now.within;
+      few = c.args.self.now.few;
+    }

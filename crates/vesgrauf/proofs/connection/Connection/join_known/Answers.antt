@@ -1,3 +1,8 @@
+use Rattle.vesgrauf.proofs.PlaceLemmas.{ordered_half}
+use Rattle.vesgrauf.proofs.SeveredLemmas.{stays_same}
+use Rattle.vesgrauf.proofs.JoinedLemmas.{joined_stays}
+use Rattle.vesgrauf.specs.Joined.{Joined}
+use Rattle.vesgrauf.specs.Places.{Ordered}
 use Rattle.std.proofs.Common.{rules, ◌≡◌, ◌∙◌, ◌++◌, ap, refl, sym, subst, None, Some, ℕ, List, []}
 use Rattle.vesgrauf.specs.Items.{items_of}
 use Rattle.vesgrauf.proofs.IdLemmas.{keeps_still}
@@ -33,3 +38,19 @@ returns-clause-keeps c =
     (keeps_joining c.forget_named.new.self.streams.entries c.forget_named.new.self.ids c.forget_named.new.self.shared c.join_session.new.shared _ c.forget_named.new.self.events.items c.forget_named.new.self.config c.forget_named.new.self.ended
     c.args.id e f _ c.args.known there c.join_session.ensures.told c.join_session.ensures.moves c.join_session.ensures.rest
     refl refl refl refl))
+
+pub invariant_of-self-2 : goal.invariant_of-self-2
+invariant_of-self-2 c =
+    let e : Entry = c.in-Some.entry.now in
+    let there : entry_at c.forget_named.new.self.streams.entries c.args.id ≡ Some e = search (rules) in
+    let written : (f : Entry) → (c.get_mut.follows.lender f).entries
+    ≡ set_value (is_at (nat_cmp c.args.id)) c.forget_named.new.self.streams.entries f = λ f. search (rules) in
+    record {
+      ordered = subst (λ (x : List (ℕ × Entry)). Ordered x c.forget_named.new.self.ready.ranks c.forget_named.new.self.unplaced) (sym (written _))
+          (ordered_half c.forget_named.new.self.streams.entries c.forget_named.new.self.ready.ranks c.forget_named.new.self.unplaced c.args.id e _ there refl refl refl refl c.forget_named.new.self.ordered);
+      joined = subst (λ (x : List (ℕ × Entry)). Joined x c.forget_named.new.self.ids) (sym (written _))
+          (joined_stays c.forget_named.new.self.streams.entries c.forget_named.new.self.ids c.args.id e _ there
+          (stays_same e _ refl refl refl refl refl refl refl) c.forget_named.new.self.joined);
+      within = c.forget_named.new.self.within;
+      few = c.forget_named.new.self.few;
+    }

@@ -1,3 +1,5 @@
+use Rattle.vesgrauf.proofs.PlaceLemmas.{ordered_half}
+use Rattle.vesgrauf.specs.Places.{Ordered}
 use Rattle.vesgrauf.proofs.KeepsOwnLemmas.{holds_looked}
 use Rattle.vesgrauf.specs.Keeps.{KeepsOwnAll}
 use Rattle.vesgrauf.proofs.JoinedLemmas.{joined_stays}
@@ -59,3 +61,19 @@ returns-clause-works c =
     (book_of c.args.self.now) (book_at x c.args.self.now.ids (table_of c.args.self.now))) (sym (written _))
     (act_kept c.args.self.now.streams.entries c.args.self.now.ids (table_of c.args.self.now) (is_over c.args.self.now)
     c.args.id e _ there c.in_ok-keep.ensures.ok.stream refl refl refl refl refl)
+
+pub invariant_of-self-in-Break-1 : goal.invariant_of-self-in-Break-1
+invariant_of-self-in-Break-1 c =
+    let e : Entry = c.in-Some.entry.now in
+    let there : entry_at c.args.self.now.streams.entries c.args.id ≡ Some e = search (rules) in
+    let written : (f : Entry) → (c.get_mut.follows.lender f).entries
+    ≡ set_value (is_at (nat_cmp c.args.id)) c.args.self.now.streams.entries f = λ f. search (rules) in
+    record {
+      ordered = subst (λ (x : List (ℕ × Entry)). Ordered x c.args.self.now.ready.ranks c.args.self.now.unplaced) (sym (written _))
+          (ordered_half c.args.self.now.streams.entries c.args.self.now.ready.ranks c.args.self.now.unplaced c.args.id e _ there refl refl refl refl c.args.self.now.ordered);
+      joined = subst (λ (x : List (ℕ × Entry)). Joined x c.args.self.now.ids) (sym (written _))
+          (joined_stays c.args.self.now.streams.entries c.args.self.now.ids c.args.id e _ there
+          (stays_same e _ refl refl refl refl refl refl refl) c.args.self.now.joined);
+      within = c.args.self.now.within;
+      few = c.args.self.now.few;
+    }

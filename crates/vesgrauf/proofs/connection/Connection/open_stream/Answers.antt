@@ -1,10 +1,15 @@
-use Rattle.std.proofs.Common.{◌≡◌, ℕ, List, None, true, [], ap, subst, arith, sym, ◌∙◌, refl}
+use Rattle.std.proofs.Common.{rules, ◌≡◌, ℕ, List, Bool, None, true, false, [], ap, subst, arith, sym, ◌∙◌, refl}
+use Rattle.std.specs.Prelude.{◌^◌, if◌then◌else◌, nat_lt, Result, Ok, Err}
 use Rattle.vesgrauf.specs.declared.connection.ids.Ids.{Ids}
 use Rattle.vesgrauf.specs.declared.entry.Entry.{Entry}
-use Rattle.vesgrauf.specs.Ids.{next_own, taken}
+use Rattle.vesgrauf.specs.Ids.{count_unopened, next_own, taken}
+use Rattle.vesgrauf.specs.Limits.{most_unopened}
 use Rattle.vesgrauf.specs.Instructions.{table_of}
 use Rattle.vesgrauf.specs.Own.{entry_at}
-use Rattle.vesgrauf.specs.State.{IsStill, View, view_of, knows_of}
+use Rattle.vesgrauf.specs.State.{IsStill, View, view_of, knows_of, may_wait}
+use Rattle.vesgrauf.specs.declared.refused.Refused.{Refused}
+use Rattle.vesgrauf.specs.declared.refused.Refused.TheVariants as refused
+use Rattle.vesgrauf.proofs.LimitLemmas.{few_taken, waits_as}
 use Rattle.vesgrauf.proofs.CutLemmas.{on_err_is}
 use Rattle.vesgrauf.proofs.GoesLemmas.{goes_still, goes_then}
 use Rattle.vesgrauf.proofs.GoesSteps.{goes_on}
@@ -17,6 +22,11 @@ use Rattle.vesgrauf.specs.Halves.{Lasts}
 use Rattle.vesgrauf.specs.Told.{AreOthers}
 use Rattle.vesgrauf.proofs.connection.Connection.open_stream.Goals as goal
 
+room_by : (b : Bool) (r : Result (Unit {0}) Refused) → r ≡ (if b then Ok tt else Err refused.Full) → r ≡ Ok tt
+    → b ≡ true
+room_by true r h g = refl
+room_by false r h g = let bad : Err refused.Full ≡ Ok tt = sym h ∙ g in cc
+
 pub returns-clause-goes : goal.returns-clause-goes
 returns-clause-goes c =
     let still : IsStill c.args.self.now c.new_member.new.self
@@ -28,6 +38,16 @@ returns-clause-goes c =
         ids = c.take.new.self;
         joined = joined_taken c.add_member.new.self.streams.entries c.add_member.new.self.ids c.take.new.self
             c.args.kind c.take.ensures c.add_member.new.self.joined;
+        few = few_taken c.add_member.new.self.config (nat_lt (next_own c.add_member.new.self.ids c.args.kind) (2 ^ 62))
+            c.add_member.new.self.ids c.take.new.self c.args.kind
+            (ap (λ n. nat_lt n (most_unopened c.add_member.new.self.config))
+            (waits_as c.new_member.new.self.ids c.add_member.new.self.ids c.in_ok-add_member.ensures.noted.others c.args.kind)
+            ∙ (ap (λ v. nat_lt (count_unopened c.new_member.new.self.ids c.args.kind) (most_unopened v.config))
+            c.add_member.ensures.view
+            ∙ (ap (λ v. nat_lt (count_unopened v.ids c.args.kind) (most_unopened v.config))
+            (ap (λ x. view_of x) c.new_member.ensures.others ∙ c.check_room.ensures.still)
+            ∙ room_by (may_wait c.args.self.now c.args.kind) c.check_room.result c.check_room.ensures.room (search (rules)))))
+            c.take.ensures c.add_member.new.self.few;
       })
           (goes_still c.args.self.now c.new_member.new.self still)
           (rw (ap (λ d. d.items) c.in_ok-add_member.ensures.events)
@@ -82,6 +102,18 @@ returns-clause-member c = λ s k.
 pub invariant_of-self-clause-joined : goal.invariant_of-self-clause-joined
 invariant_of-self-clause-joined c = joined_taken c.add_member.new.self.streams.entries c.add_member.new.self.ids
     c.take.new.self c.args.kind c.take.ensures c.add_member.new.self.joined
+
+pub invariant_of-self-clause-few : goal.invariant_of-self-clause-few
+invariant_of-self-clause-few c = few_taken c.add_member.new.self.config (nat_lt (next_own c.add_member.new.self.ids c.args.kind) (2 ^ 62))
+    c.add_member.new.self.ids c.take.new.self c.args.kind
+    (ap (λ n. nat_lt n (most_unopened c.add_member.new.self.config))
+    (waits_as c.new_member.new.self.ids c.add_member.new.self.ids c.in_ok-add_member.ensures.noted.others c.args.kind)
+    ∙ (ap (λ v. nat_lt (count_unopened c.new_member.new.self.ids c.args.kind) (most_unopened v.config))
+    c.add_member.ensures.view
+    ∙ (ap (λ v. nat_lt (count_unopened v.ids c.args.kind) (most_unopened v.config))
+    (ap (λ x. view_of x) c.new_member.ensures.others ∙ c.check_room.ensures.still)
+    ∙ room_by (may_wait c.args.self.now c.args.kind) c.check_room.result c.check_room.ensures.room (search (rules)))))
+    c.take.ensures c.add_member.new.self.few
 
 pub returns-in_err-check_session-clause-kept : goal.returns-in_err-check_session-clause-kept
 returns-in_err-check_session-clause-kept c = on_err_is _ _ (keeps_still c.args.self.now c.args.self.now refl)

@@ -9,5 +9,5 @@ returns-in_err-tell_stop-clause-keeps c =
     let h : Keeps [] c.args.self.now c.tell_stop.new.self = keeps_then c.tell_session.ensures.quiet c.tell_stop.ensures.keeps in
     grind (arith, h)
 
-pub returns-then-self-clause-hands : goal.returns-then-self-clause-hands
-returns-then-self-clause-hands c = c.turn_away.ensures.hands (Asks c.args.list ∷ [])
+pub returns-then-has_all_sessions-clause-hands : goal.returns-then-has_all_sessions-clause-hands
+returns-then-has_all_sessions-clause-hands c = c.turn_away.ensures.hands (Asks c.args.list ∷ [])

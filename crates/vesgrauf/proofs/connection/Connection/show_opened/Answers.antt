@@ -43,6 +43,8 @@ invariant_of-self-in-Break-1 c =
       joined = subst (λ (x : List (ℕ × Entry)). Joined x c.args.self.now.ids) (sym (written _))
           (joined_stays c.args.self.now.streams.entries c.args.self.now.ids c.args.id e _ there
           (stays_same e _ refl refl refl refl refl refl refl) c.args.self.now.joined);
+      within = c.args.self.now.within;
+      few = c.args.self.now.few;
     }
 
 pub invariant_of-self-in-Break-branch-2 : goal.invariant_of-self-in-Break-branch-2
@@ -57,6 +59,8 @@ invariant_of-self-in-Break-branch-2 c =
       joined = subst (λ (x : List (ℕ × Entry)). Joined x c.args.self.now.ids) (sym (written _))
           (joined_stays c.args.self.now.streams.entries c.args.self.now.ids c.args.id e _ there
           (stays_same e _ refl refl refl refl refl refl refl) c.args.self.now.joined);
+      within = c.args.self.now.within;
+      few = c.args.self.now.few;
     }
 
 pub invariant_of-self-in-Break-branch-3 : goal.invariant_of-self-in-Break-branch-3
@@ -71,6 +75,8 @@ invariant_of-self-in-Break-branch-3 c =
       joined = subst (λ (x : List (ℕ × Entry)). Joined x c.args.self.now.ids) (sym (written _))
           (joined_stays c.args.self.now.streams.entries c.args.self.now.ids c.args.id e _ there
           (stays_same e _ refl refl refl refl refl refl refl) c.args.self.now.joined);
+      within = c.args.self.now.within;
+      few = c.args.self.now.few;
     }
 
 pub invariant_of-self-in-Some-take-clause-ordered : goal.invariant_of-self-in-Some-take-clause-ordered

@@ -33,6 +33,8 @@ invariant_of-self-in-Break-1 c =
       joined = subst (λ (x : List (ℕ × Entry)). Joined x c.args.self.now.ids) (sym (written _))
           (joined_stays c.args.self.now.streams.entries c.args.self.now.ids c.args.id e _ there
           (stays_same e _ refl refl refl refl refl refl refl) c.args.self.now.joined);
+      within = c.args.self.now.within;
+      few = c.args.self.now.few;
     }
 
 pub invariant_of-self-2-clause-ordered : goal.invariant_of-self-2-clause-ordered
