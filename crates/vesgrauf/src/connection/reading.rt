@@ -71,12 +71,24 @@ impl Connection {
             self.drop_input(id, input)?;
             return Ok(Step::More);
         }
+        // (bytes after the end are an error of QUIC)
+        if self.has_kept_end(id) && input.chunk.len() > 0 {
+            return Err(internal());
+        }
         if self.is_paused(id) {
             self.wait(id)?;
             self.keep(id, input, 0)?;
             return Ok(Step::More);
         }
         self.read_input(id, input)
+    }
+
+    // Returns whether the end of the peer's half of a stream is kept, up to which it is still to be read.
+    fn has_kept_end(&self, id: u64) -> bool {
+        match self.streams.get(&id) {
+            Some(entry) => entry.reading.has_end(),
+            None => false,
+        }
     }
 
     // Notes whether the end of the peer's half of a stream came.
