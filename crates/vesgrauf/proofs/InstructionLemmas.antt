@@ -1,5 +1,5 @@
 -- What the peer's encoder is told on the own decoder stream.
-use Rattle.std.proofs.Common.{◌≡◌, ◌++◌, ◌⊎◌, ◌==◌, ◌<◌, ◌-◌, ℕ, List, [], ◌∷◌, Option, None, Some, Bool, true, false, cond, refl, sym, ap, subst, ◌∙◌, inl, inr, arith, append_assoc, append-nil}
+use Rattle.std.proofs.Common.{length, ◌≡◌, ◌++◌, ◌⊎◌, ◌==◌, ◌<◌, ◌≤◌, ◌-◌, ℕ, List, [], ◌∷◌, Option, None, Some, Bool, true, false, cond, refl, sym, ap, subst, ◌∙◌, inl, inr, arith, append_assoc, append-nil}
 use Rattle.std.specs.Prelude.{is_some, min}
 use Rattle.wtp_dynamic.specs.declared.acknowledgment.Acknowledgment.{Acknowledgment}
 use Rattle.wtp_dynamic.specs.declared.acknowledgment.Acknowledgment.TheVariants as instruction
@@ -195,19 +195,20 @@ rests_after c e queue before after h = ap (λ (o : Table). table_at o.decoder o.
 pub looked_and_said : (e f : Entry) {limit : ℕ} {c d : Shared} {i j : Chunk} {found : Found} (told : Found) {id : ℕ}
     {before after : List ℕ}
     → e.peer ≡ peer.Reads → (e.is_decoder ≡ false → told ≡ found) → (e.is_decoder ≡ true → items_found told ≡ [])
-    → f.peer ≡ e.peer → f.is_decoder ≡ e.is_decoder
+    → f.peer ≡ e.peer → f.is_decoder ≡ e.is_decoder → (e.reading.ended ≡ true → length i.bytes.now ≤ 0)
+    → f.reading.ended ≡ e.reading.ended → length j.bytes.now ≤ length i.bytes.now
     → HearsAndSays id limit c e.reading i before found d f.reading j after
     → IsRead (with_chunk (theirs_of e) i) (items_found told) (with_chunk (theirs_of f) j)
-looked_and_said e f {limit} {c} {d} {i} {j} {found} told g same none p q h =
-    looked e f limit c h.d i j found told g same none p q h.lives h.hears
+looked_and_said e f {limit} {c} {d} {i} {j} {found} told g same none p q fresh ended short h =
+    looked e f limit c h.d i j found told g same none p q h.lives fresh ended short h.hears
 
 pub looked_and_said_plain : (e f : Entry) {limit : ℕ} {c d : Shared} {i j : Chunk} {found : Found} {id : ℕ}
     {before after : List ℕ}
-    → e.peer ≡ peer.Reads → e.is_decoder ≡ false → f.peer ≡ e.peer → f.is_decoder ≡ e.is_decoder
-    → HearsAndSays id limit c e.reading i before found d f.reading j after
+    → e.peer ≡ peer.Reads → e.is_decoder ≡ false → e.reading.ended ≡ false → f.peer ≡ e.peer → f.is_decoder ≡ e.is_decoder
+    → f.reading.ended ≡ e.reading.ended → HearsAndSays id limit c e.reading i before found d f.reading j after
     → IsRead (with_chunk (theirs_of e) i) (items_found found) (with_chunk (theirs_of f) j)
-looked_and_said_plain e f {limit} {c} {d} {i} {j} {found} g n p q h =
-    looked_plain e f limit c h.d i j found g n p q h.lives h.hears
+looked_and_said_plain e f {limit} {c} {d} {i} {j} {found} g n still p q ended h =
+    looked_plain e f limit c h.d i j found g n still p q ended h.lives h.hears
 
 -- ---- what is queued
 

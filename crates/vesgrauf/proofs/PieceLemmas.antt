@@ -51,13 +51,14 @@ content_joins (b ∷ first) rest = ap (λ items. Byte b ∷ items) (content_join
 
 -- what an entry finds
 pub looked_piece : (e f : Entry) (c d : Shared) (i j : Chunk) (b : Bytes)
-    → e.peer ≡ peer.Reads → e.is_decoder ≡ false
-    → f.peer ≡ e.peer → f.is_decoder ≡ e.is_decoder → HearsPiece b c e.reading i d f.reading j
+    → e.peer ≡ peer.Reads → e.is_decoder ≡ false → e.reading.ended ≡ false
+    → f.peer ≡ e.peer → f.is_decoder ≡ e.is_decoder → f.reading.ended ≡ e.reading.ended
+    → HearsPiece b c e.reading i d f.reading j
     → IsRead (with_chunk (theirs_of e) i) (content (bytes_of b)) (with_chunk (theirs_of f) j)
-looked_piece e f c d i j b g n p q h =
+looked_piece e f c d i j b g n still p q ended h =
     subst (λ l. IsRead (with_chunk (theirs_of e) i) l (with_chunk (theirs_of f) j))
     (piece_content e.reading.stream.part b)
-    (looked_plain e f 0 c d i j (found.Heard (heard_piece e.reading.stream.part b)) g n p q
+    (looked_plain e f 0 c d i j (found.Heard (heard_piece e.reading.stream.part b)) g n still p q ended
     (piece_lives (h 0) (heard_piece_is e.reading.stream.part b)) (h 0))
 
 -- it is told, and nothing else is left of the input if all of its bytes were read

@@ -15,7 +15,7 @@ use Rattle.vesgrauf.specs.declared.input.Input.{Input}
 use Rattle.vesgrauf.specs.declared.input.Report.{Report}
 use Rattle.vesgrauf.specs.declared.input.Report.TheVariants as report
 use Rattle.vesgrauf.specs.Items.{Item, has_end, items_of}
-use Rattle.vesgrauf.specs.Theirs.{Theirs, Gone, Unread, theirs_at, IsLeft, Left, Piece, IsCall, AreCalls, all_items, AreRead, IsReadTo, IsRead, IsTold, Turns, Still, Then, IsTurned, Same, ReadsOn, ReadsKept, Hands, Passes, IsHanded, TellsKept, Tells, unread_at, with_input, with_chunk, items_on, is_of}
+use Rattle.vesgrauf.specs.Theirs.{Theirs, Gone, Unread, theirs_at, IsLeft, Left, Piece, IsCall, AreCalls, all_items, AreRead, IsReadTo, IsRead, IsTold, Turns, Still, Then, IsTurned, Same, ReadsOn, ReadsKept, Hands, Passes, IsHanded, TellsKept, Tells, unread_at, with_input, with_chunk, more_bytes, items_on, is_of}
 
 -- ---- calls one after the other
 
@@ -279,7 +279,7 @@ reads_pass id items said c d e i j l h g p q = record {
 -- without an input
 pub chunk_none : (x : Theirs) (i : Chunk) → i.bytes.now ≡ [] → i.fin ≡ false → with_chunk x i ≡ x
 chunk_none Gone i h g = refl
-chunk_none (Unread bytes true s) i h g = ap (λ l. Unread l true s) (ap (λ l. bytes ++ l) h ∙ append-nil bytes)
+chunk_none (Unread bytes true s) i h g = refl
 chunk_none (Unread bytes false s) i h g =
     ap (λ l. Unread l i.fin s) (ap (λ l. bytes ++ l) h ∙ append-nil bytes) ∙ ap (λ b. Unread bytes b s) g
 
@@ -326,13 +326,9 @@ kept_left id said c d e h p q = record {
 }
 
 -- more bytes follow
-or_true : (a b : Bool) → a ≡ true → (a || b) ≡ true
-or_true true b h = refl
-or_true false b h = absurd (cc h)
-
-call_more : (bytes more : List ℕ) (ended fin : Bool) (p : Piece) (s t : Stream) → IsCall bytes ended p s t
-    → IsCall (bytes ++ more) (ended || fin) p s t
-call_more bytes more ended fin p s t h = record {
+call_more : (bytes more : List ℕ) (fin : Bool) (p : Piece) (s t : Stream) → IsCall bytes false p s t
+    → IsCall (bytes ++ more) fin p s t
+call_more bytes more fin p s t h = record {
   limit = h.limit;
   c = h.c;
   d = h.d;
@@ -340,29 +336,31 @@ call_more bytes more ended fin p s t h = record {
   lives = h.lives;
   within = omega (arith, h.within, length-append bytes more);
   reads = h.reads;
-  ends = λ e. or_true ended fin (h.ends e);
+  ends = λ e. absurd (let bad : false ≡ true = (h.ends e).0 in cc);
   gives = subst (λ l. Call h.limit h.c s l h.fin (p.consumed, p.say, h.d, t))
       (sym (take-append-le p.reach bytes more h.within)) h.gives;
 }
 
 pub calls_more : (ps : List Piece) (bytes more rest : List ℕ) (ended fin : Bool) (s t : Stream)
-    → AreCalls ps bytes ended s rest t → AreCalls ps (bytes ++ more) (ended || fin) s (rest ++ more) t
-calls_more [] bytes more rest ended fin s t h = (ap (λ l. l ++ more) h.0, h.1)
-calls_more (p ∷ ps) bytes more rest ended fin s t h = (
+    → AreCalls ps bytes ended s rest t
+    → AreCalls ps (more_bytes ended bytes more) (ended || fin) s (more_bytes ended rest more) t
+calls_more ps bytes more rest true fin s t h = h
+calls_more [] bytes more rest false fin s t h = (ap (λ l. l ++ more) h.0, h.1)
+calls_more (p ∷ ps) bytes more rest false fin s t h = (
   h.0,
   h.1,
   h.2,
-  call_more bytes more ended fin p h.0 h.1 h.3,
-  subst (λ l. AreCalls ps l (ended || fin) h.1 (rest ++ more) t)
+  call_more bytes more fin p h.0 h.1 h.3,
+  subst (λ l. AreCalls ps l fin h.1 (rest ++ more) t)
       (sym (drop-append-le p.consumed bytes more (le_trans h.3.reads h.3.within)))
-      (calls_more ps (drop p.consumed bytes) more rest ended fin h.1 t h.4),
+      (calls_more ps (drop p.consumed bytes) more rest false fin h.1 t h.4),
 )
 
 read_more : (x y : Theirs) (items : List Item) (i : Chunk) → AreRead x items y
     → AreRead (with_chunk x i) items (with_chunk y i)
 read_more x y items i p = record {
-  bytes = p.bytes ++ i.bytes.now;
-  rest = p.rest ++ i.bytes.now;
+  bytes = more_bytes p.ended p.bytes i.bytes.now;
+  rest = more_bytes p.ended p.rest i.bytes.now;
   ended = p.ended || i.fin;
   before = p.before;
   after = p.after;

@@ -1,7 +1,7 @@
 -- What comes on one stream of the peer, call after call, and what is told of it.
 use Rattle.std.specs.Prelude.{◌≡◌, ◌⊎◌, ◌++◌, ◌||◌, ℕ, Bool, false, List, [], ◌∷◌}
 use Rattle.wtp_webtransport.specs.declared.stream.Stream.{Stream}
-use Rattle.vesgrauf.specs.Theirs.{Theirs, Gone, Unread, Piece, AreCalls, all_items, IsLeft, IsTold}
+use Rattle.vesgrauf.specs.Theirs.{more_bytes, Theirs, Gone, Unread, Piece, AreCalls, all_items, IsLeft, IsTold}
 use Rattle.vesgrauf.specs.Items.{Item}
 
 -- Comes: these bytes of the stream are reported, and whether it ends after them. Tells: a call of `next_event` tells these
@@ -14,7 +14,7 @@ pub data Step : Type 0 where
 -- more bytes are unread
 abbrev pub with_more : Theirs → List ℕ → Bool → Theirs
 with_more Gone bytes fin = Gone
-with_more (Unread before ended s) bytes fin = Unread (before ++ bytes) (ended || fin) s
+with_more (Unread before ended s) bytes fin = Unread (more_bytes ended before bytes) (ended || fin) s
 
 -- what a step does to the bytes that are unread: as the contracts of the calls say
 abbrev pub Does : Step → Theirs → Theirs → Type 0
@@ -26,10 +26,10 @@ abbrev pub Leads : List Step → Theirs → Theirs → Type 0
 Leads [] x y = y ≡ x
 Leads (s ∷ steps) x y = (z : Theirs) × Does s x z × Leads steps z y
 
--- all bytes that came
+-- all bytes that came, up to the end
 abbrev pub came : List Step → List ℕ
 came [] = []
-came (Comes bytes fin ∷ steps) = bytes ++ came steps
+came (Comes bytes fin ∷ steps) = more_bytes fin bytes (came steps)
 came (s ∷ steps) = came steps
 
 -- the end came

@@ -73,10 +73,20 @@ pub record OnlyAt (id : ℕ) (c d : List (ℕ × Entry)) : Type 0 where
 
 -- ---- the input
 
+-- these bytes come after those: after the end none does
+abbrev pub more_bytes : (ended : Bool) → (bytes more : List ℕ) → List ℕ
+more_bytes true bytes more = bytes
+more_bytes false bytes more = bytes ++ more
+
 -- the bytes of an input come after those that are kept
 abbrev pub with_chunk : Theirs → Chunk → Theirs
 with_chunk Gone i = Gone
-with_chunk (Unread bytes ended s) i = Unread (bytes ++ i.bytes.now) (ended || i.fin) s
+with_chunk (Unread bytes ended s) i = Unread (more_bytes ended bytes i.bytes.now) (ended || i.fin) s
+
+-- the end of the stream is kept
+abbrev pub ends_in : Option Entry → Bool
+ends_in None = false
+ends_in (Some e) = e.reading.ended
 
 -- these are bytes of this stream
 abbrev pub is_of : Report → ℕ → Bool
@@ -99,7 +109,8 @@ pub record Piece : Type 0 where
   pub say : Say
 
 -- The layer below says so of the first of these bytes, from this state of the stream to that one, in a connection that no error
--- has ended: after an error it reads all bytes without a word. It is told of the end only if the stream ends after them.
+-- has ended: after an error it reads all bytes without a word. It is told of the end only if the stream ends after them, and with
+-- the last of them.
 pub record IsCall (bytes : List ℕ) (ended : Bool) (p : Piece) (s t : Stream) : Type 0 where
   pub limit : ℕ
   pub c : Shared
@@ -108,7 +119,7 @@ pub record IsCall (bytes : List ℕ) (ended : Bool) (p : Piece) (s t : Stream) :
   pub lives : c.over ≡ false
   pub within : p.reach ≤ length bytes
   pub reads : p.consumed ≤ p.reach
-  pub ends : fin ≡ true → ended ≡ true
+  pub ends : fin ≡ true → (ended ≡ true) × (p.reach ≡ length bytes)
   pub gives : Call limit c s (take p.reach bytes) fin (p.consumed, p.say, d, t)
 
 -- It does so one time after the other, each time in the state in which the time before left the stream, and the rest is still

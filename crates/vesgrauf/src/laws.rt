@@ -47,7 +47,8 @@ ghost use Rattle.vesgrauf.specs.declared.entry.Entry.{Entry as EntryOf};
 /// none is read twice, however the bytes were cut, kept, paused and resumed. Each call goes on in the state in which the one
 /// before left the stream, but for an answer to its request, a session that it joins, and the like (`Moves`); with what its
 /// streams have in common a call may be made in any state, but not in one that an error of the connection left, in which it
-/// says nothing. What the layer says of the bytes that are left is still to be told, unless the stream is read no further.
+/// says nothing. The layer is told of the end with the last byte before it, and bytes after it do not count: they are an error of
+/// QUIC. What the layer says of the bytes that are left is still to be told, unless the stream is read no further.
 pub fn told_is_what_came()
     ensures { (steps : List Step) (s : Stream) (y : Theirs) → Leads steps (Unread [] false s) y
         → IsToldOf (came steps) (ends steps) s (told steps) y }
@@ -61,8 +62,8 @@ pub fn the_end_is_last()
 
 /// The definitions of what is told refuse an interim response as the final one, trailers as a head, a request for a session
 /// as another one or as one for another tunnel, an end or content for what says nothing, a piece of content that is said and
-/// left out, and a call after an error of the connection, which would read all bytes without a word. Content in pieces is
-/// what they are together.
+/// left out, the end before the bytes that come before it, and a call after an error of the connection, which would read all
+/// bytes without a word. Content in pieces is what they are together.
 pub fn wrong_tellings_are_refused()
     ensures interim_as_final { (status : ℕ) (fields : List Field)
         → items_told (event.Response status fields) ≡ items_of (say.Headers (headers.Interim status) fields) → ⊥ }
@@ -75,6 +76,8 @@ pub fn wrong_tellings_are_refused()
     ensures end_made_up { items_told event.End ≡ items_of say.More → ⊥ }
     ensures content_made_up { (b : ℕ) (bytes : List ℕ) → content (b ∷ bytes) ≡ items_of say.More → ⊥ }
     ensures content_left_out { (b : ℕ) (bytes : List ℕ) → [] ≡ items_of (say.Data (b ∷ bytes)) → ⊥ }
+    ensures end_before_content { (b : ℕ) (bytes : List ℕ) (p : Piece) (s t : Stream) (k : IsCall (b ∷ bytes) true p s t)
+        → k.fin ≡ true → p.reach ≡ 0 → ⊥ }
     ensures after_an_error { (bytes : List ℕ) (ended : Bool) (p : Piece) (s t : Stream) (k : IsCall bytes ended p s t)
         → k.c.over ≡ true → ⊥ }
     ensures accepted { (status : ℕ) (fields : List Field)

@@ -97,6 +97,8 @@ impl Reading {
         ensures err { OnErr result (IsUntouched shared.old self.old input.old shared.new self.new input.new) }
         ensures fields { fields.new ≡ fields.old }
         ensures shrinks { length (kept_of self.new) ≤ length (kept_of self.old) }
+        ensures ended { self.new.ended ≡ self.old.ended }
+        ensures rest { length input.new.bytes.now ≤ length input.old.bytes.now }
     {
         if self.len() == 0 {
             return Ok(self.next_of_input(shared, fields, input));
@@ -116,6 +118,8 @@ impl Reading {
             shared.new self.new input.new }
         ensures fields { fields.new ≡ fields.old }
         ensures shrinks { length (kept_of self.new) ≤ length (kept_of self.old) }
+        ensures ended { self.new.ended ≡ self.old.ended }
+        ensures rest { length input.new.bytes.now ≤ length input.old.bytes.now }
     {
         let fin = self.ends_with(input);
         let received = shared.receive(&mut self.stream, input.bytes, fin, fields);
@@ -136,6 +140,8 @@ impl Reading {
         ensures err { OnErr result (IsUntouched shared.old self.old input.old shared.new self.new input.new) }
         ensures fields { fields.new ≡ fields.old }
         ensures shrinks { length (kept_of self.new) ≤ length (kept_of self.old) }
+        ensures ended { self.new.ended ≡ self.old.ended }
+        ensures rest { length input.new.bytes.now ≤ length input.old.bytes.now }
     {
         let all = self.len() + input.len();
         let len = self.reach.min(all);
@@ -205,6 +211,7 @@ impl Reading {
         ensures left { unread self.new input.new ≡ drop consumed
             (take (length (kept_of self.old) - joined) (kept_of self.old) ++ input.old.bytes.now) }
         ensures fin { input.new.fin ≡ input.old.fin }
+        ensures rest { length input.new.bytes.now ≤ length input.old.bytes.now }
         ensures stream { self.new.stream ≡ self.old.stream }
         ensures ended { self.new.ended ≡ self.old.ended }
         ensures reach { self.new.reach ≡ self.old.reach }

@@ -42,8 +42,15 @@ impl Entry {
             shared.new self.new.reading chunk.new × (told.new.items ≡ told.old.items)) }
         ensures others { self.new ≡ record self.old { reading = self.new.reading } }
         ensures shrinks { length (kept_of self.new.reading) ≤ length (kept_of self.old.reading) }
+        ensures fresh { IfOk result (λ found. self.old.reading.ended ≡ true → length chunk.old.bytes.now ≤ 0) }
+        ensures ended { self.new.reading.ended ≡ self.old.reading.ended }
+        ensures rest { length chunk.new.bytes.now ≤ length chunk.old.bytes.now }
     {
         if shared.is_over() {
+            return Err(internal());
+        }
+        // (bytes after the end are an error of QUIC)
+        if self.reading.has_end() && chunk.len() > 0 {
             return Err(internal());
         }
         let found = match self.reading.next(alloc, shared, fields, chunk) {
@@ -146,6 +153,7 @@ impl Entry {
     fn is_plain(&self) -> bool
         ensures reads { result ≡ true → self.now.peer ≡ peer.Reads }
         ensures content { result ≡ true → self.now.is_decoder ≡ false }
+        ensures open { result ≡ true → self.now.reading.ended ≡ false }
     {
         self.is_read()
             && !self.is_decoder

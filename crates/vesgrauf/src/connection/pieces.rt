@@ -220,6 +220,7 @@ impl Entry {
         ensures reads { result ≡ true → self.now.peer ≡ peer.Reads }
         ensures content { result ≡ true → self.now.is_decoder ≡ false }
         ensures known { result ≡ true → is_known self.now.told ≡ true }
+        ensures open { result ≡ true → self.now.reading.ended ≡ false }
     {
         self.is_read()
             && self.is_known()

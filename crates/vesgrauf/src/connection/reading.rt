@@ -4,7 +4,8 @@ ghost use Rattle.vesgrauf.specs.Bounds.{Fits, KeepsBound, most_kept};
 ghost use Rattle.vesgrauf.specs.Instructions.{table_of};
 ghost use Rattle.vesgrauf.specs.Keeps.{Keeps, KeepsOwn};
 ghost use Rattle.vesgrauf.specs.Items.{items_in, items_by, items_found};
-ghost use Rattle.vesgrauf.specs.Theirs.{Left, OnlyAt, Same, ReadsOn, ReadsKept, Hands, Passes, TellsKept, Tells, Gone, theirs_at, told_in};
+ghost use Rattle.vesgrauf.specs.State.{stream_at};
+ghost use Rattle.vesgrauf.specs.Theirs.{ends_in, Left, OnlyAt, Same, ReadsOn, ReadsKept, Hands, Passes, TellsKept, Tells, Gone, theirs_at, told_in};
 ghost use Rattle.vesgrauf.specs.Told.{said_by};
 ghost use Rattle.vesgrauf.specs.Works.{MayRead, WorksOn};
 ghost use Rattle.vesgrauf.specs.declared.entry.Peer.TheVariants as peers;
@@ -72,7 +73,7 @@ impl Connection {
             return Ok(Step::More);
         }
         // (bytes after the end are an error of QUIC)
-        if self.has_kept_end(id) && input.chunk.len() > 0 {
+        if self.comes_after_end(id, &input.chunk) {
             return Err(internal());
         }
         if self.is_paused(id) {
@@ -83,10 +84,12 @@ impl Connection {
         self.read_input(id, input)
     }
 
-    // Returns whether the end of the peer's half of a stream is kept, up to which it is still to be read.
-    fn has_kept_end(&self, id: u64) -> bool {
+    // Returns whether bytes of a stream come after its end, up to which it is still to be read.
+    fn comes_after_end(&self, id: u64, chunk: &Chunk<'_>) -> bool
+        ensures { result ≡ false → ends_in (stream_at self.now id) ≡ true → length chunk.now.bytes.now ≤ 0 }
+    {
         match self.streams.get(&id) {
-            Some(entry) => entry.reading.has_end(),
+            Some(entry) => entry.reading.has_end() && chunk.len() > 0,
             None => false,
         }
     }
@@ -319,6 +322,9 @@ impl Connection {
             → OnOk result (Same self.old.streams.entries input.old self.new.streams.entries input.new) }
         ensures only { OnlyAt id self.old.streams.entries self.new.streams.entries }
     {
+        if self.comes_after_end(id, &input.chunk) {
+            return Err(internal());
+        }
         let Some(entry) = self.streams.get_mut(&id) else {
             input.report = Report::Nothing;
             return Ok(());

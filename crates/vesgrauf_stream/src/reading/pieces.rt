@@ -21,6 +21,7 @@ impl Reading {
             ((shared.new ≡ shared.old) × (self.new ≡ self.old) × (input.new ≡ input.old))
             (λ p. HearsPiece (Input p) shared.old self.old input.old shared.new self.new input.new) }
         ensures kept { kept_of self.new ≡ kept_of self.old }
+        ensures ended { self.new.ended ≡ self.old.ended }
     {
         if self.len() > 0 {
             return None;

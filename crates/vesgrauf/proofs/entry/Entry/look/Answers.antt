@@ -9,4 +9,5 @@ returns-in-Ok-clause-reads c =
     = ap (λ (e : Entry). e.is_decoder) c.hear.ensures.others in
     looked_and_said c.args.self.now c.hear.new.self c.said_of.result
     (c.is_read.ensures.reads c.if-not-is_read.false) (λ h. c.said_of.ensures.same (same ∙ h))
-    (λ h. c.said_of.ensures.none (same ∙ h)) (ap (λ (e : Entry). e.peer) c.hear.ensures.others) same c.in-Ok.ensures.ok
+    (λ h. c.said_of.ensures.none (same ∙ h)) (ap (λ (e : Entry). e.peer) c.hear.ensures.others) same
+    c.in-Ok.ensures.fresh c.hear.ensures.ended c.hear.ensures.rest c.in-Ok.ensures.ok
